@@ -1,0 +1,81 @@
+-- `polynomial::plus_times` meets its contract. The loop zips in place.
+use borrow.Author.Needs.{needs}
+use native.Mathlib.Omega.{arith}
+use Rattle.field.specs.Modulus.{modulus}
+use Rattle.lists.proofs.InPlace.{Zipping, zip-start, zip-next, zip-end}
+use Prim.Native.Nat.{_-_}
+use lib.ListN.{length}
+use Rattle.field.specs.Arithmetic.{add, mul}
+use Rattle.polynomial.proofs.plus_times.Statement.{statement}
+use Rattle.polynomial.proofs.plus_times.Tie as tie
+
+abbrev Inv-loop : tie.InvT-loop
+Inv-loop part x out₀ i₀ out i = Zipping (λ c d. add modulus c (mul modulus x d)) part out₀ out i
+
+abbrev μ-loop : tie.MeasureT-loop
+μ-loop part x out₀ i₀ out i = length part - i
+
+loop-holds : tie.Need-loop-holds Inv-loop μ-loop
+loop-holds c = zip-start _ _ _ (omega arith)
+
+mul-mul : tie.Need-mul-mul Inv-loop μ-loop
+mul-mul c = search needs
+
+slice-read-mul : tie.Need-slice-read-mul Inv-loop μ-loop
+slice-read-mul c = search needs
+
+mul-requires : tie.Need-mul-requires Inv-loop μ-loop
+mul-requires c κs = search needs
+
+mul-add : tie.Need-mul-add Inv-loop μ-loop
+mul-add c = search needs
+
+shared-slice-read-add : tie.Need-shared-slice-read-add Inv-loop μ-loop
+shared-slice-read-add c = search needs
+
+add-requires : tie.Need-add-requires Inv-loop μ-loop
+add-requires c κs = search needs
+
+mul-out : tie.Need-mul-out Inv-loop μ-loop
+mul-out c = search needs
+
+slice-write-out : tie.Need-slice-write-out Inv-loop μ-loop
+slice-write-out c = search needs
+
+add-i : tie.Need-add-i Inv-loop μ-loop
+add-i c = search needs
+
+loop-less : tie.Need-loop-less Inv-loop μ-loop
+loop-less c = search needs
+
+loop-again : tie.Need-loop-again Inv-loop μ-loop
+loop-again c =
+    let k = c .before .before .before .before .before .loop in
+    zip-next _ _ _ (k .out) (k .i) _ 0 0 (k .inv) (omega arith) (rw (c .add .ensures, c .before .before .mul .ensures))
+
+same-length : tie.Need-same-length Inv-loop μ-loop
+same-length c = search needs
+
+returns : tie.Need-returns Inv-loop μ-loop
+returns c = let k = c .before .loop in zip-end _ _ _ (k .out) (k .i) (k .inv) (omega arith)
+
+pub plus-times-spec : {M : Type 1} → statement M
+plus-times-spec =
+    tie.close
+    (tie.spec
+    Inv-loop
+    μ-loop
+    loop-holds
+    mul-mul
+    slice-read-mul
+    mul-requires
+    mul-add
+    shared-slice-read-add
+    add-requires
+    mul-out
+    slice-write-out
+    add-i
+    loop-less
+    loop-again
+    same-length
+    returns)

@@ -1,0 +1,63 @@
+-- `polynomial::value` meets its contract. The loop goes from the end: v is the value of the coefficients from i on.
+use borrow.Author.Needs.{needs}
+use native.Mathlib.Omega.{arith}
+use Rattle.field.specs.Modulus.{modulus}
+use mathlib.Core.Path.{_≡_, sym, ap}
+use Prim.Native.Nat.{_≤_}
+use lib.ListN.{length, drop}
+use lib.Seq.{drop-length}
+use Rattle.polynomial.specs.Polynomial.{value}
+use Rattle.polynomial.proofs.Loops.{horner}
+use Rattle.polynomial.proofs.value.Statement.{statement}
+use Rattle.polynomial.proofs.value.Tie as tie
+
+abbrev Inv-loop : tie.InvT-loop
+Inv-loop f x i₀ v₀ i v = (i ≤ length f) × (v ≡ value modulus (drop i f) x)
+
+abbrev μ-loop : tie.MeasureT-loop
+μ-loop f x i₀ v₀ i v = i
+
+loop-holds : tie.Need-loop-holds Inv-loop μ-loop
+loop-holds c = (omega arith, ap (λ z. value modulus z (c .before .args .x)) (sym (drop-length (c .before .args .f .now))))
+
+sub-i : tie.Need-sub-i Inv-loop μ-loop
+sub-i c = search needs
+
+mul-add : tie.Need-mul-add Inv-loop μ-loop
+mul-add c = search needs
+
+shared-slice-read-add : tie.Need-shared-slice-read-add Inv-loop μ-loop
+shared-slice-read-add c = search needs
+
+mul-requires : tie.Need-mul-requires Inv-loop μ-loop
+mul-requires c κs = search needs
+
+add-requires : tie.Need-add-requires Inv-loop μ-loop
+add-requires c κs = search needs
+
+loop-less : tie.Need-loop-less Inv-loop μ-loop
+loop-less c = search needs
+
+loop-again : tie.Need-loop-again Inv-loop μ-loop
+loop-again c =
+    let k = c .before .before .before .before .loop in
+    (omega arith, rw (c .add .ensures, c .before .mul .ensures) (horner modulus _ _ (k .v) (k .i) (omega arith) (omega arith) (k .inv .1)))
+
+returns : tie.Need-returns Inv-loop μ-loop
+returns c = let z : c .before .loop .i ≡ 0 = omega arith in rw z at (c .before .loop .inv .1)
+
+pub value-spec : {M : Type 1} → statement M
+value-spec =
+    tie.close
+    (tie.spec
+    Inv-loop
+    μ-loop
+    loop-holds
+    sub-i
+    mul-add
+    shared-slice-read-add
+    mul-requires
+    add-requires
+    loop-less
+    loop-again
+    returns)
