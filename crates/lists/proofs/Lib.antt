@@ -1,2 +1,5 @@
 pub mod All
+pub mod Cases
 pub mod InPlace
+pub mod Masks
+pub mod Tabulate
