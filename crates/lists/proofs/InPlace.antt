@@ -6,7 +6,7 @@ use Prim.Native.Nat.{ℕ, zero, suc, _+_, _-_, _<_, _≤_}
 use native.Mathlib.Numerals.{add-one}
 use native.Mathlib.Omega.{arith}
 use lib.ListN.{length, getD, take, drop, set, length-set, length-drop}
-use lib.Seq.{drop-cons, take-suc-set, drop-set-lt, take-all}
+use lib.Seq.{drop-cons, take-suc-set, drop-set-lt, take-all, take-append-le, drop-append-le}
 use borrow.Rule.Slice.PartMut.{putMid}
 
 pub drop-end : {A : Type 0} (xs : List A) (i : ℕ) → length xs ≤ i → drop i xs ≡ []
@@ -30,6 +30,11 @@ module _ {A : Type 0} where
   -- All is written.
   pub write-end : (ys rest : List A) (i : ℕ) → length ys ≤ i → rest ≡ [] → take i ys ++ rest ≡ ys
   write-end ys rest i h e = ap (λ z. take i ys ++ z) e ∙ append-nil (take i ys) ∙ take-all i ys h
+
+  -- A part of k numbers from a on lies in the front list if that reaches so far.
+  pub part-in-front : (a k : ℕ) (xs ys : List A) → a + k ≤ length xs → take k (drop a (xs ++ ys)) ≡ take k (drop a xs)
+  part-in-front a k xs ys h =
+      ap (take k) (drop-append-le a xs ys (omega arith)) ∙ take-append-le k (drop a xs) ys (omega (arith, length-drop a xs))
 
   -- ---- the part of a list from a on, lent and given back
   pub lent-rest : (a : ℕ) (ys : List A) → take (length ys - a) (drop a ys) ≡ drop a ys

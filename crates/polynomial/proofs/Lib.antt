@@ -1,3 +1,4 @@
+pub mod Below
 pub mod Division
 pub mod Uniqueness
 pub mod Interpolation

@@ -1,13 +1,15 @@
 -- Polynomials modulo p: lists of coefficients, the constant first.
 --   value p f x      the value of f at x, by Horner's rule
 --   quotient p f a   f divided by X − a; the remainder is the value of f at a
---   Residues p xs    every number of the list is below p
+--   Residues p xs    every number of the list is below p; residues p xs is the test for it
 --   Points p xs      distinct residues
 --   Poly p n f       f has n coefficients, residues: its degree is below n
 -- Laws: proofs/Division, proofs/Uniqueness.
 use mathlib.Core.Path.{_≡_}
+use mathlib.Core.Bool.{Bool, true, _&&_}
 use mathlib.Core.List.{List, [], _∷_}
 use Prim.Native.Nat.{ℕ, _<_}
+use lib.Dec.{ltb}
 use lib.ListN.{length}
 use Rattle.field.specs.Arithmetic.{add, mul}
 use Rattle.lists.specs.All.{All, Distinct}
@@ -15,6 +17,11 @@ use Rattle.lists.specs.All.{All, Distinct}
 -- Every number is below p.
 abbrev pub Residues : ℕ → List ℕ → Type 0
 Residues p = All (λ c. c < p)
+
+-- The test whether every number is below p.
+abbrev pub residues : ℕ → List ℕ → Bool
+residues p [] = true
+residues p (c ∷ f) = ltb c p && residues p f
 
 -- Distinct residues.
 abbrev pub Points : ℕ → List ℕ → Type 0

@@ -4,9 +4,23 @@ ghost use lib.ListN.{length, replicate};
 ghost use lib.Dec.{eqb};
 ghost use Prim.Native.Nat.{_*_};
 ghost use Rattle.field.specs.Modulus.{modulus};
-ghost use Rattle.polynomial.specs.Polynomial.{value};
+ghost use Rattle.polynomial.specs.Polynomial.{residues, value};
 ghost use Rattle.polynomial.specs.Interpolation.{slopes, newton, raise, expand, interpolateIn};
 ghost use Rattle.polynomial.specs.Bivariate.{plusTimes, rowIn, columnIn};
+
+// Whether every number of the list is below the modulus.
+pub fn residues(list: &[u16]) -> bool
+    ensures { λ r. ⌜ r ≡ residues modulus (now (list .entry)) ⌝ }
+{
+    let mut i = list.len();
+    while 0 < i {
+        i -= 1;
+        if field::MODULUS <= list[i] {
+            return false;
+        }
+    }
+    true
+}
 
 // The value of f at x, by Horner's rule.
 pub fn value(f: &[u16], x: u16) -> u16
