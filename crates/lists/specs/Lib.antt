@@ -1,3 +1,4 @@
 pub mod All
+pub mod Choices
 pub mod Masks
 pub mod Tabulate

@@ -1,6 +1,7 @@
 -- The test for residues is right, and one number that is none fails it.
 use mathlib.Core.Path.{_≡_, refl, sym, ap, ap₂, _∙_}
 use mathlib.Core.Bool.{true, false, _&&_, and-false}
+use mathlib.Core.Logic.{⊎-elim}
 use mathlib.Core.List.{List, [], _∷_}
 use Prim.Native.Nat.{ℕ, zero, suc, _-_, _≤_, _<_}
 use native.Mathlib.Decide.{decLt}
@@ -9,7 +10,7 @@ use lib.Dec.{ltb}
 use lib.ListN.{length, getD, drop}
 use lib.Seq.{drop-cons}
 use borrow.Author.Tests.{lt-ltb, le-ltb}
-use Rattle.lists.proofs.Cases.{not-both}
+use Rattle.lists.proofs.Cases.{true-or-false, not-both}
 use Rattle.polynomial.specs.Polynomial.{Residues, residues}
 
 module _ (p : ℕ) where
@@ -29,6 +30,9 @@ module _ (p : ℕ) where
   residues-false [] i l h = absurd (omega arith)
   residues-false (c ∷ xs) zero l h = ap (λ b. b && residues p xs) (le-ltb c p h)
   residues-false (c ∷ xs) (suc i) l h = ap (λ b. ltb c p && b) (residues-false xs i (omega arith) h) ∙ and-false (ltb c p)
+
+  pub residues-not : (xs : List ℕ) → (Residues p xs → ⊥) → residues p xs ≡ false
+  residues-not xs wrong = ⊎-elim (λ e. absurd (wrong (residues-facts xs e))) (λ e. e) (true-or-false (residues p xs))
 
   -- From the end, one number more.
   pub residues-more : (xs : List ℕ) (i : ℕ) → 0 < i → i ≤ length xs → getD xs (i - 1) 0 < p → residues p (drop i xs) ≡ true

@@ -1,0 +1,167 @@
+-- `fit::search` meets its contract. Its measure is the number of points from place i on; each answer is one law of proofs/Arrays.
+use mathlib.Core.Path.{_≡_, ap, _∙_}
+use Prim.Native.Nat.{ℕ, _-_, _<_}
+use native.Mathlib.Nat.{pos-of-ne-zero}
+use native.Mathlib.Omega.{arith}
+use borrow.Author.Needs.{needs}
+use lib.ListN.{length}
+use Rattle.field.specs.Modulus.{modulus}
+use Rattle.fit.specs.Answer.{answer}
+use Rattle.fit.proofs.Arrays.{found-one, found-none, found-unsent, Branches, branches, zeros-next}
+use borrow.Fn.Kinds.{In}
+use borrow.Fn.PlainCycle.{Measures, is, falls, and}
+use Rattle.fit.proofs.search.Reads as search′
+use Rattle.fit.proofs.search.Kinds as search-kinds
+use Rattle.fit.proofs.+search.Lts-search as search-lts
+use Rattle.fit.proofs.nothing.Reads as nothing-reads
+use Rattle.fit.proofs.test.Reads as test-reads
+use Rattle.fit.proofs.+search.{statement}
+use Rattle.fit.proofs.+search.Tie.{close}
+
+abbrev μ-search : Measures 2 search-kinds.ps ℕ
+μ-search κs a = length (a .0 .now) - a .1 .1 .1 .0
+
+abbrev search-at : ℕ → In 2 search-kinds.ps
+search-at t = and 2 search-kinds.ps (is 2 search-kinds.ps μ-search t) search′.Pre
+
+abbrev search-below : ℕ → In 2 search-kinds.ps
+search-below t = and 2 search-kinds.ps (falls 2 search-kinds.ps _<_ μ-search t) search′.Pre
+
+-- What the callees are known by.
+abbrev claims : ℕ → search-lts.Claims
+claims t = (test-reads.Asked, test-reads.Learnt, nothing-reads.Asked, nothing-reads.Learnt, search-below t, search′.Post)
+
+-- The arrays hold four numbers each.
+sizes : (t : ℕ) (s : search-lts.Start (claims t) (search-at t) search′.Post) → (length (s .args .cx) ≡ 4) × (length (s .args .cy) ≡ 4)
+sizes t s = (omega arith, omega arith)
+
+-- The call that takes the point has answered.
+taken : (t : ℕ) (a : search-lts.After-search2 (claims t) (search-at t) search′.Post)
+    → let s = a .before .before .before .before .before .before .before .before .args in
+    Branches modulus (s .need) (s .xs .now) (s .ys .now) (s .i) (s .c) (s .cx) (s .cy) (s .more) (s .spare) (a .search2 .result)
+taken t a =
+    let s = a .before .before .before .before .before .before .before .before in
+    let l = sizes t s in
+    let more = a .before .before .before .before .before .if1 .left in
+    branches modulus (s .args .need) (s .args .xs .now) (s .args .ys .now) (s .args .i) (s .args .c) (s .args .cx) (s .args .cy)
+    (s .args .more) (s .args .spare) _ (s .pre .1 .sizes) (a .before .before .before .before .if2 .left)
+    (omega (arith, s .pre .1 .room, pos-of-ne-zero more)) (l .0) (l .1) more (a .before .before .if3 .left) (a .search2 .ensures)
+
+module _ (t : ℕ) where
+  test-requires : search-lts.Need-test-requires (claims t) (search-at t) search′.Post
+  test-requires c κs = search needs
+
+  returns : search-lts.Need-returns (claims t) (search-at t) search′.Post
+  returns c =
+      let s = c .before .before .before .before in
+      c .test .ensures ∙ ap answer (found-one modulus _ _ _ _ _ _ _ (s .args .i) (c .before .if1 .taken))
+
+  nothing-requires : search-lts.Need-nothing-requires (claims t) (search-at t) search′.Post
+  nothing-requires c κs = search needs
+
+  returns-2 : search-lts.Need-returns-2 (claims t) (search-at t) search′.Post
+  returns-2 c =
+      let s = c .before .before .before .before .before in
+      c .nothing .ensures ∙ ap answer (found-none modulus _ _ _ _ _ _ _ (s .args .i) (c .before .before .if1 .left) (c .before .if2 .taken))
+
+  mul-y : search-lts.Need-mul-y (claims t) (search-at t) search′.Post
+  mul-y c = search needs
+
+  shared-slice-read-y : search-lts.Need-shared-slice-read-y (claims t) (search-at t) search′.Post
+  shared-slice-read-y c = search needs
+
+  add-search : search-lts.Need-add-search (claims t) (search-at t) search′.Post
+  add-search c = search needs
+
+  search-requires : search-lts.Need-search-requires (claims t) (search-at t) search′.Post
+  search-requires c κs =
+      let s = c .before .before .before .before .before .before in
+      (omega arith, record { sizes = s .pre .1 .sizes; inside = omega arith; room = omega arith; zeros = s .pre .1 .zeros })
+
+  returns-3 : search-lts.Need-returns-3 (claims t) (search-at t) search′.Post
+  returns-3 c =
+      let s = c .before .before .before .before .before .before .before in
+      c .search .ensures ∙ ap answer (found-unsent modulus _ _ _ (omega arith) (s .args .i) (omega arith) _ _ _ _ (c .before .if3 .taken))
+
+  mul-dx : search-lts.Need-mul-dx (claims t) (search-at t) search′.Post
+  mul-dx c = search needs
+
+  shared-slice-read-dx : search-lts.Need-shared-slice-read-dx (claims t) (search-at t) search′.Post
+  shared-slice-read-dx c = search needs
+
+  mul-dx-2 : search-lts.Need-mul-dx-2 (claims t) (search-at t) search′.Post
+  mul-dx-2 c = search needs
+
+  array-write-dx : search-lts.Need-array-write-dx (claims t) (search-at t) search′.Post
+  array-write-dx c = search needs
+
+  mul-dy : search-lts.Need-mul-dy (claims t) (search-at t) search′.Post
+  mul-dy c = search needs
+
+  array-write-dy : search-lts.Need-array-write-dy (claims t) (search-at t) search′.Post
+  array-write-dy c = search needs
+
+  add-search-2 : search-lts.Need-add-search-2 (claims t) (search-at t) search′.Post
+  add-search-2 c = search needs
+
+  sub-search : search-lts.Need-sub-search (claims t) (search-at t) search′.Post
+  sub-search c = search needs
+
+  add-search-3 : search-lts.Need-add-search-3 (claims t) (search-at t) search′.Post
+  add-search-3 c = search needs
+
+  search-requires-2 : search-lts.Need-search-requires-2 (claims t) (search-at t) search′.Post
+  search-requires-2 c κs =
+      let s = c .before .before .before .before .before .before .before in
+      let zeros = zeros-next (s .args .c) _ (s .args .cy) (omega arith) (sizes t s .1) (s .pre .1 .zeros) in
+      (omega arith, record { sizes = s .pre .1 .sizes; inside = omega arith; room = omega arith; zeros = zeros })
+
+  returns-4 : search-lts.Need-returns-4 (claims t) (search-at t) search′.Post
+  returns-4 c = taken t (c .before) .last (c .if4 .taken)
+
+  returns-5 : search-lts.Need-returns-5 (claims t) (search-at t) search′.Post
+  returns-5 c = taken t (c .before .before) .with-it (c .before .if4 .left) (c .if5 .taken)
+
+  add-search-4 : search-lts.Need-add-search-4 (claims t) (search-at t) search′.Post
+  add-search-4 c = search needs
+
+  sub-search-2 : search-lts.Need-sub-search-2 (claims t) (search-at t) search′.Post
+  sub-search-2 c = search needs
+
+  search-requires-3 : search-lts.Need-search-requires-3 (claims t) (search-at t) search′.Post
+  search-requires-3 c κs =
+      let s = c .before .before .before .before .before .before .before .before .before .before in
+      (omega arith, record { sizes = s .pre .1 .sizes; inside = omega arith; room = omega arith; zeros = s .pre .1 .zeros })
+
+  returns-6 : search-lts.Need-returns-6 (claims t) (search-at t) search′.Post
+  returns-6 c = c .search3 .ensures ∙ taken t (c .before .before .before) .without-it (c .before .before .if4 .left) (c .before .if5 .left)
+
+pub +search-spec : {M : Type 1} → statement M
++search-spec = close μ-search λ t. search-lts.spec (claims t)
+    (search-at t)
+    search′.Post
+    (test-requires t)
+    (returns t)
+    (nothing-requires t)
+    (returns-2 t)
+    (mul-y t)
+    (shared-slice-read-y t)
+    (add-search t)
+    (search-requires t)
+    (returns-3 t)
+    (mul-dx t)
+    (shared-slice-read-dx t)
+    (mul-dx-2 t)
+    (array-write-dx t)
+    (mul-dy t)
+    (array-write-dy t)
+    (add-search-2 t)
+    (sub-search t)
+    (add-search-3 t)
+    (search-requires-2 t)
+    (returns-4 t)
+    (returns-5 t)
+    (add-search-4 t)
+    (sub-search-2 t)
+    (search-requires-3 t)
+    (returns-6 t)

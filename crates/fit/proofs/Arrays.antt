@@ -1,0 +1,172 @@
+-- The search as the code does it: the points from place i on, and two arrays of four whose first c places hold the points taken.
+use mathlib.Core.Path.{_≡_, refl, sym, ap, ap₂, _∙_}
+use mathlib.Core.Bool.{true, false, true≢false, false≢true}
+use mathlib.Core.Option.{Option, none, some, orElse}
+use mathlib.Core.List.{List, [], _∷_, _++_, tail-eq-of-cons-eq}
+use Prim.Native.Nat.{ℕ, zero, suc, _+_, _-_, _≤_, _<_}
+use native.Mathlib.Nat.{pos-of-ne-zero}
+use native.Mathlib.Numerals.{add-one}
+use native.Mathlib.Omega.{arith}
+use borrow.Author.Tests.{le-leb, lt-leb}
+use lib.Dec.{leb}
+use lib.ListN.{length, take, drop, getD, set, replicate, length-append}
+use lib.Seq.{length-take-le, take-at, take-suc-set}
+use Rattle.lists.proofs.InPlace.{drop-end, drop-next, rest-kept}
+use Rattle.field.specs.Modulus.{modulus}
+use Rattle.polynomial.specs.Interpolation.{newton, interpolate, interpolateIn}
+use Rattle.polynomial.proofs.Interpolation.{length-newton, length-expand}
+use Rattle.polynomial.proofs.Lent.{interpolate-in}
+use Rattle.fit.specs.declared.Fitted.{Fitted}
+use Rattle.fit.specs.Fit.{hits, sent, received, through, firstFitting, fit}
+use Rattle.fit.specs.Answer.{answer, candidates, found, fitIn}
+use Rattle.lists.proofs.Choices.{first-append}
+use Rattle.fit.proofs.Answers.{fit-within}
+use Rattle.fit.proofs.Steps.{received-yes, received-no, candidates-one, candidates-none, candidates-spare, candidates-last}
+
+-- ---- one point after the other
+module _ (p need : ℕ) (xs ys : List ℕ) where
+  pub found-one : (k s : ℕ) (cx cy : List ℕ) (i : ℕ) → k ≡ 0 → firstFitting p need xs ys (interpolate p cx cy ∷ []) ≡ found p need xs ys k s cx cy i
+  found-one k s cx cy i e = rw e (ap (firstFitting p need xs ys) (sym (candidates-one p s cx cy (received p (drop i xs) (drop i ys)))))
+
+  pub found-none : (k s : ℕ) (cx cy : List ℕ) (i : ℕ) → (k ≡ 0 → ⊥) → length xs ≤ i → none ≡ found p need xs ys k s cx cy i
+  unfolding received
+  found-none zero s cx cy i n h = absurd (n refl)
+  found-none (suc k) s cx cy i n h = rw (drop-end xs i h) (ap (firstFitting p need xs ys) (sym (candidates-none p s cx cy k)))
+
+  module _ (sizes : length xs ≡ length ys) (i : ℕ) (inside : i < length xs) (s : ℕ) (cx cy : List ℕ) where
+    abbrev x : ℕ
+    x = getD xs i 0
+
+    abbrev y : ℕ
+    y = getD ys i 0
+
+    abbrev later : List (ℕ × ℕ)
+    later = received p (drop (i + 1) xs) (drop (i + 1) ys)
+
+    -- A value that was not sent is left out.
+    pub found-unsent : (k : ℕ) → p ≤ y → found p need xs ys k s cx cy (i + 1) ≡ found p need xs ys k s cx cy i
+    found-unsent k q =
+        ap (λ qs. firstFitting p need xs ys (candidates p k s cx cy qs))
+        (sym (rw (drop-next xs i 0 inside, drop-next ys i 0 (omega arith)) (received-no p x y (drop (i + 1) xs) (drop (i + 1) ys) q)))
+
+    -- Another point is taken.
+    abbrev found-with-it : ℕ → Option (List ℕ)
+    found-with-it k = found p need xs ys (k - 1) s (cx ++ x ∷ []) (cy ++ y ∷ []) (i + 1)
+
+    here : y < p → received p (drop i xs) (drop i ys) ≡ (x, y) ∷ later
+    here q = rw (drop-next xs i 0 inside, drop-next ys i 0 (omega arith)) (received-yes p x y (drop (i + 1) xs) (drop (i + 1) ys) q)
+
+    pub found-last : (k : ℕ) → (k ≡ 0 → ⊥) → y < p → s ≡ 0 → found-with-it k ≡ found p need xs ys k s cx cy i
+    found-last zero n q e = absurd (n refl)
+    found-last (suc k) n q e =
+        let less : suc k - 1 ≡ k = omega arith in
+        rw (here q, candidates-last p s cx cy k x y later e, less) refl
+
+    -- Where that finds nothing the point is passed over.
+    pub found-spare : (k : ℕ) → (k ≡ 0 → ⊥) → y < p → (s ≡ 0 → ⊥)
+        → orElse (found-with-it k) (found p need xs ys k (s - 1) cx cy (i + 1)) ≡ found p need xs ys k s cx cy i
+    found-spare zero n q m = absurd (n refl)
+    found-spare (suc k) n q m =
+        let less : suc k - 1 ≡ k = omega arith in
+        rw (here q, candidates-spare p s cx cy k x y later (pos-of-ne-zero m), less)
+        (sym (first-append (λ f. leb need (hits p f xs ys)) (candidates p k s (cx ++ x ∷ []) (cy ++ y ∷ []) later) (candidates p (suc k) (s - 1) cx cy later)))
+
+-- ---- the arrays of the points taken
+-- A point more is taken.
+take-next : (c v : ℕ) (cs : List ℕ) → c < length cs → take (c + 1) (set cs c v) ≡ take c cs ++ v ∷ []
+take-next c v cs h = rw (add-one c) (take-suc-set cs c v h)
+
+-- Behind the points taken stays 0.
+pub zeros-next : (c v : ℕ) (cs : List ℕ) → c < 4 → length cs ≡ 4 → drop c cs ≡ replicate (4 - c) 0
+    → drop (c + 1) (set cs c v) ≡ replicate (4 - (c + 1)) 0
+zeros-next c v cs h l e =
+    let n : 4 - c ≡ suc (4 - (c + 1)) = omega arith in
+    rest-kept cs c v ∙ tail-eq-of-cons-eq (sym (drop-next cs c 0 (omega arith)) ∙ e ∙ ap (λ k. replicate k 0) n)
+
+-- The first of two answers, where it has found something, is the answer of both; and otherwise the second is.
+or-found : (a b : Option (List ℕ)) → answer a .found ≡ true → answer a ≡ answer (orElse a b)
+unfolding orElse
+or-found none b h = absurd (false≢true h)
+or-found (some f) b h = refl
+
+or-not-found : (a b : Option (List ℕ)) → answer a .found ≡ false → answer b ≡ answer (orElse a b)
+unfolding orElse
+or-not-found none b h = refl
+or-not-found (some f) b h = absurd (true≢false h)
+
+-- Where r is the answer of the call that takes the point at i: what is answered if no point may be passed over, if r has found
+-- something, and if it has not.
+pub record Branches (p need : ℕ) (xs ys : List ℕ) (i c : ℕ) (cx cy : List ℕ) (k s : ℕ) (r : Fitted) : Type 0 where
+  pub last : s ≡ 0 → r ≡ answer (found p need xs ys k s (take c cx) (take c cy) i)
+  pub with-it : (s ≡ 0 → ⊥) → r .found ≡ true → r ≡ answer (found p need xs ys k s (take c cx) (take c cy) i)
+  pub without-it : (s ≡ 0 → ⊥) → r .found ≡ false
+      → answer (found p need xs ys k (s - 1) (take c cx) (take c cy) (i + 1)) ≡ answer (found p need xs ys k s (take c cx) (take c cy) i)
+
+pub branches : (p need : ℕ) (xs ys : List ℕ) (i c : ℕ) (cx cy : List ℕ) (k s : ℕ) (r : Fitted)
+    → length xs ≡ length ys → i < length xs → c < 4 → length cx ≡ 4 → length cy ≡ 4 → (k ≡ 0 → ⊥) → getD ys i 0 < p
+    → r ≡ answer (found p need xs ys (k - 1) s (take (c + 1) (set cx c (getD xs i 0))) (take (c + 1) (set cy c (getD ys i 0))) (i + 1))
+    → Branches p need xs ys i c cx cy k s r
+branches p need xs ys i c cx cy k s r sizes inside room lx ly n q e =
+    let a : Option (List ℕ) = found-with-it p need xs ys sizes i inside s (take c cx) (take c cy) k in
+    let taken : r ≡ answer a =
+    e ∙ ap₂ (λ u v. answer (found p need xs ys (k - 1) s u v (i + 1)))
+    (take-next c (getD xs i 0) cx (omega arith)) (take-next c (getD ys i 0) cy (omega arith)) in
+    let same : r .found ≡ answer a .found = ap (λ w. w .found) taken in
+    record {
+      last = λ z. taken ∙ ap answer (found-last p need xs ys sizes i inside s (take c cx) (take c cy) k n q z);
+      with-it = λ m h. taken ∙ or-found a _ (sym same ∙ h) ∙ ap answer (found-spare p need xs ys sizes i inside s (take c cx) (take c cy) k n q m);
+      without-it = λ m h. or-not-found a _ (sym same ∙ h) ∙ ap answer (found-spare p need xs ys sizes i inside s (take c cx) (take c cy) k n q m);
+    }
+
+-- ---- the array of coefficients: the polynomial in its first c places, 0 behind
+length-interpolate : (p : ℕ) (xs ys : List ℕ) → length xs ≡ length ys → length (interpolate p xs ys) ≡ length xs
+unfolding interpolate
+length-interpolate p xs ys l =
+    length-expand p xs (newton p xs ys) (l ∙ sym (length-newton p xs ys l)) ∙ length-newton p xs ys l ∙ sym l
+
+module _ (p c : ℕ) (cx cy f : List ℕ) (room : c ≤ 4) (lx : length cx ≡ 4) (ly : length cy ≡ 4)
+    (e : f ≡ interpolateIn p (take c cx) (take c cy)) where
+  length-x : length (take c cx) ≡ c
+  length-x = length-take-le c cx (omega arith)
+
+  same-size : length (take c cx) ≡ length (take c cy)
+  same-size = length-x ∙ sym (length-take-le c cy (omega arith))
+
+  coefficients : f ≡ interpolate p (take c cx) (take c cy)
+  coefficients = e ∙ interpolate-in p (take c cx) (take c cy) same-size
+
+  size : length f ≡ c
+  size = ap length coefficients ∙ length-interpolate p (take c cx) (take c cy) same-size ∙ length-x
+
+  front : take c (f ++ drop c cy) ≡ f
+  front = take-at f (drop c cy) c size
+
+  pub front-fits : c ≤ length (f ++ drop c cy)
+  front-fits = omega (arith, length-append f (drop c cy), size)
+
+  pub front-size : c ≡ length (take c (f ++ drop c cy))
+  front-size = sym (ap length front ∙ size)
+
+  module _ (need : ℕ) (xs ys : List ℕ) where
+    abbrev tested : List ℕ → Fitted
+    tested g = answer (firstFitting p need xs ys (g ∷ []))
+
+    pub test-passed : drop c cy ≡ replicate (4 - c) 0 → need ≤ hits p (take c (f ++ drop c cy)) xs ys
+        → _≡_ {A = Fitted} (record { found = true; coefficients = f ++ drop c cy }) (tested (interpolate p (take c cx) (take c cy)))
+    test-passed zeros h =
+        let enough : need ≤ hits p f xs ys = rw front at h in
+        let found : answer (some f) ≡ tested f = rw (le-leb need (hits p f xs ys) enough) in
+        ap (λ z. record { found = true; coefficients = f ++ z }) (zeros ∙ ap (λ k. replicate (4 - k) 0) (sym size))
+        ∙ found ∙ ap tested coefficients
+
+    pub test-failed : hits p (take c (f ++ drop c cy)) xs ys < need → answer none ≡ tested (interpolate p (take c cx) (take c cy))
+    test-failed h =
+        let few : hits p f xs ys < need = rw front at h in
+        let lost : answer none ≡ tested f = rw (lt-leb need (hits p f xs ys) few) in
+        lost ∙ ap tested coefficients
+
+-- ---- the whole: the search starts with all points, and none is taken
+pub fit-search : (t need : ℕ) (xs ys : List ℕ) (n e : ℕ) → t ≤ 3 → length xs ≡ length ys → n ≡ sent modulus ys → e ≡ n - need
+    → answer (found modulus need xs ys (t + 1) e [] [] 0) ≡ fitIn t need xs ys
+unfolding fit candidates through
+fit-search t need xs ys n e h l counted spare = rw (add-one t, spare, counted) (fit-within t need xs ys h l)

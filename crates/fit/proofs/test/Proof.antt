@@ -1,0 +1,84 @@
+-- `fit::test` meets its contract: the polynomial stands in the first c places of the array, with 0 behind it.
+use mathlib.Core.Path.{_≡_, sym, _∙_}
+use native.Mathlib.Omega.{arith}
+use lib.ListN.{length}
+use lib.Seq.{length-take-le}
+use Rattle.field.specs.Modulus.{modulus}
+use Rattle.fit.proofs.Arrays.{front-fits, front-size, test-passed, test-failed}
+use borrow.Author.Needs.{needs}
+use Rattle.fit.proofs.test.Statement.{statement}
+use Rattle.fit.proofs.test.Tie as tie
+
+array-share-prefix-cx : tie.Need-array-share-prefix-cx
+array-share-prefix-cx c = search needs
+
+slice-aggregate-interpolate : tie.Need-slice-aggregate-interpolate
+slice-aggregate-interpolate c =
+    let s = c .before .before .before in
+    sym (length-take-le (s .args .c) (s .args .t5) (omega arith))
+
+array-borrow-prefix-f : tie.Need-array-borrow-prefix-f
+array-borrow-prefix-f c = search needs
+
+slice-aggregate-interpolate-2 : tie.Need-slice-aggregate-interpolate-2
+slice-aggregate-interpolate-2 c =
+    let s = c .before .before .before .before in
+    sym (length-take-le (s .args .c) (s .args .cy) (omega arith))
+
+interpolate-requires : tie.Need-interpolate-requires
+interpolate-requires c κs = search needs
+
+array-share-prefix-f : tie.Need-array-share-prefix-f
+array-share-prefix-f c =
+    let s = c .before .before .before .before .before .before in
+    front-fits modulus (s .args .c) (s .args .t5) (s .args .cy) _ (omega arith) (omega arith) (omega arith) (c .before .interpolate .ensures)
+
+slice-aggregate-hits : tie.Need-slice-aggregate-hits
+slice-aggregate-hits c =
+    let s = c .before .before .before .before .before .before .before in
+    front-size modulus (s .args .c) (s .args .t5) (s .args .cy) _ (omega arith) (omega arith) (omega arith) (c .before .before .interpolate .ensures)
+
+hits-requires : tie.Need-hits-requires
+hits-requires c κs = search needs
+
+nothing-requires : tie.Need-nothing-requires
+nothing-requires c κs = search needs
+
+-- The arrays hold four numbers each.
+sizes : (s : tie.Start) → (length (s .args .t5) ≡ 4) × (length (s .args .cy) ≡ 4)
+sizes s = (omega arith, omega arith)
+
+returns : tie.Need-returns
+returns c =
+    let h = c .before in
+    let i = h .before .before .before in
+    let s = i .before .before .before .before .before in
+    let l = sizes s in
+    test-passed modulus (s .args .c) (s .args .t5) (s .args .cy) _ (omega arith) (l .0) (l .1) (i .interpolate .ensures)
+    (s .args .need) _ _ (s .pre .1 .1) (rw (h .hits .ensures) at (c .if1 .taken))
+
+returns-2 : tie.Need-returns-2
+returns-2 c =
+    let h = c .before .before in
+    let i = h .before .before .before in
+    let s = i .before .before .before .before .before in
+    let l = sizes s in
+    c .nothing .ensures
+    ∙ test-failed modulus (s .args .c) (s .args .t5) (s .args .cy) _ (omega arith) (l .0) (l .1) (i .interpolate .ensures)
+    (s .args .need) _ _ (rw (h .hits .ensures) at (c .before .if1 .left))
+
+pub test-spec : {M : Type 1} → statement M
+test-spec =
+    tie.close
+    (tie.spec
+    array-share-prefix-cx
+    slice-aggregate-interpolate
+    array-borrow-prefix-f
+    slice-aggregate-interpolate-2
+    interpolate-requires
+    array-share-prefix-f
+    slice-aggregate-hits
+    hits-requires
+    nothing-requires
+    returns
+    returns-2)

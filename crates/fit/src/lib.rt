@@ -1,0 +1,139 @@
+// Decoding by trial: the polynomial of degree at most t that agrees with at least `need` of the points.
+ghost use mathlib.Core.Path.{_≡_};
+ghost use mathlib.Core.List.{[], _∷_};
+ghost use mathlib.Core.Option.{none};
+ghost use Prim.Native.Nat.{_-_, _≤_};
+ghost use lib.ListN.{length, take, drop, replicate};
+ghost use Rattle.field.specs.Modulus.{modulus};
+ghost use Rattle.polynomial.specs.Interpolation.{interpolate};
+ghost use Rattle.fit.specs.Fit.{hits, sent, firstFitting};
+ghost use Rattle.fit.specs.Answer.{answer, found, Searching, fitIn};
+
+// Whether a polynomial was found, and its coefficients, the constant first, with 0 behind them.
+pub struct Fitted {
+    pub found: bool,
+    pub coefficients: [u16; 4],
+}
+
+fn nothing() -> Fitted
+    ensures { λ r. ⌜ r ≡ answer none ⌝ }
+{
+    Fitted {
+        found: false,
+        coefficients: [0; 4],
+    }
+}
+
+// How many of the points agree with f. The loop goes from the end: n is always the count of the points from i on.
+fn hits(f: &[u16], xs: &[u16], ys: &[u16]) -> usize
+    requires { ⌜ length (now xs) ≡ length (now ys) ⌝ }
+    ensures { λ r. ⌜ r ≡ hits modulus (now (f .entry)) (now (xs .entry)) (now (ys .entry)) ⌝ }
+{
+    let mut n = 0;
+    let mut i = xs.len();
+    while 0 < i {
+        i -= 1;
+        if polynomial::value(f, xs[i]) == ys[i] {
+            n += 1;
+        }
+    }
+    n
+}
+
+// How many values were sent, counted likewise from the end.
+fn sent(ys: &[u16]) -> usize
+    ensures { λ r. ⌜ r ≡ sent modulus (now (ys .entry)) ⌝ }
+{
+    let mut n = 0;
+    let mut i = ys.len();
+    while 0 < i {
+        i -= 1;
+        if ys[i] < field::MODULUS {
+            n += 1;
+        }
+    }
+    n
+}
+
+// The polynomial through the c points taken, if it agrees with enough of all points.
+fn test(xs: &[u16], ys: &[u16], need: usize, c: usize, cx: [u16; 4], cy: [u16; 4]) -> Fitted
+    requires { ⌜ length (now xs) ≡ length (now ys) ⌝ }
+    requires { ⌜ c ≤ 4 ⌝ }
+    requires { ⌜ drop c cy ≡ replicate (4 - c) 0 ⌝ }
+    ensures { λ r. ⌜ r ≡ answer (firstFitting modulus need (now (xs .entry)) (now (ys .entry)) (interpolate modulus (take c cx) (take c cy) ∷ [])) ⌝ }
+{
+    let mut f = cy;
+    polynomial::interpolate(&cx[..c], &mut f[..c]);
+    let n = hits(&f[..c], xs, ys);
+    if need <= n {
+        Fitted {
+            found: true,
+            coefficients: f,
+        }
+    } else {
+        nothing()
+    }
+}
+
+// The search from place i on: `more` points are still to be taken, and `spare` of those sent may be passed over.
+// The first c places of cx and cy hold the points taken; a call has its own copy, so that nothing is to be undone.
+// A value that was not sent is passed over at no cost: it is no point, and never counts as wrong.
+fn search(
+    xs: &[u16],
+    ys: &[u16],
+    need: usize,
+    i: usize,
+    more: usize,
+    spare: usize,
+    c: usize,
+    cx: [u16; 4],
+    cy: [u16; 4],
+) -> Fitted
+    requires { ⌜ Searching (now xs) (now ys) i more c cy ⌝ }
+    ensures { λ r. ⌜ r ≡ answer (found modulus need (now (xs .entry)) (now (ys .entry)) more spare (take c cx) (take c cy) i) ⌝ }
+{
+    if more == 0 {
+        return test(xs, ys, need, c, cx, cy);
+    }
+    if xs.len() <= i {
+        return nothing();
+    }
+    let y = ys[i];
+    if field::MODULUS <= y {
+        return search(xs, ys, need, i + 1, more, spare, c, cx, cy);
+    }
+    let mut dx = cx;
+    let mut dy = cy;
+    dx[c] = xs[i];
+    dy[c] = y;
+    let with_it = search(xs, ys, need, i + 1, more - 1, spare, c + 1, dx, dy);
+    if spare == 0 {
+        return with_it;
+    }
+    if with_it.found {
+        return with_it;
+    }
+    search(xs, ys, need, i + 1, more, spare - 1, c, cx, cy)
+}
+
+// How many of the n values sent may be wrong.
+fn surplus(n: usize, need: usize) -> usize
+    ensures { λ r. ⌜ r ≡ n - need ⌝ }
+{
+    if need < n { n - need } else { 0 }
+}
+
+// The polynomial of degree at most t that agrees with at least `need` of the points (xs[i], ys[i]), if one is found.
+// For t above 3, or lists of two lengths, none is.
+pub fn fit(t: usize, need: usize, xs: &[u16], ys: &[u16]) -> Fitted
+    ensures { λ r. ⌜ r ≡ fitIn t need (now (xs .entry)) (now (ys .entry)) ⌝ }
+{
+    if 3 < t {
+        return nothing();
+    }
+    if xs.len() != ys.len() {
+        return nothing();
+    }
+    let spare = surplus(sent(ys), need);
+    search(xs, ys, need, 0, t + 1, spare, 0, [0; 4], [0; 4])
+}
