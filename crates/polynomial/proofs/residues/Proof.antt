@@ -37,7 +37,7 @@ loop-less : tie.Need-loop-less Inv-loop μ-loop
 loop-less c = search needs
 
 loop-again : tie.Need-loop-again Inv-loop μ-loop
-loop-again c = 
+loop-again c =
     let k = c .before .before .before .loop in
     (omega arith, residues-more modulus _ (k .i) (omega arith) (omega arith) (omega arith) (k .inv .1))
 

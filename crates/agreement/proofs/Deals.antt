@@ -1,0 +1,88 @@
+-- What a sound deal, a pair and a one in a report say, as facts.
+--   Sound, Confirmed   the same as records
+use mathlib.Core.Path.{_≡_, refl, sym, ap, _∙_}
+use mathlib.Core.Logic.{_≢_}
+use mathlib.Core.Bool.{Bool, true, false, cond, not, _&&_, and-eq-true-iff}
+use mathlib.Core.List.{List}
+use Prim.Native.Nat.{ℕ, suc, _-_, _<_, _≤_}
+use native.Mathlib.Omega.{arith}
+use lib.Dec.{eqb}
+use borrow.Author.Tests.{eqb-true, eqb-false, eq-eqb, ne-eqb, not-true}
+use Rattle.lists.specs.Masks.{bit}
+use Rattle.lists.proofs.Masks.{bit-mask}
+use Rattle.lists.proofs.Cases.{true-or-false}
+use Rattle.polynomial.specs.Polynomial.{Residues, residues, value}
+use Rattle.polynomial.proofs.Below.{residues-true, residues-facts}
+use Rattle.parties.specs.Parties.{isParty, pointOf, member, notSent}
+use Rattle.parties.proofs.Parties.{party-facts}
+use Rattle.lamp.specs.Deal.{firstFrom, secondFrom, sound, pairFor, confirms, reportOf}
+
+module _ (p i : ℕ) (row column : List ℕ) where
+  pub record Sound : Type 0 where
+    pub row-residues : Residues p row
+    pub column-residues : Residues p column
+    pub own : value p row (pointOf i) ≡ value p column (pointOf i)
+
+  pub sound-facts : sound p i row column ≡ true → Sound
+  unfolding sound
+  sound-facts e =
+      let a = and-eq-true-iff (residues p row && residues p column) (eqb (value p row (pointOf i)) (value p column (pointOf i))) .0 e in
+      let b = and-eq-true-iff (residues p row) (residues p column) .0 (a .0) in
+      record { row-residues = residues-facts p row (b .0); column-residues = residues-facts p column (b .1); own = eqb-true _ _ (a .1) }
+
+  pub sound-true : Sound → sound p i row column ≡ true
+  unfolding sound
+  sound-true h =
+      and-eq-true-iff (residues p row && residues p column) (eqb (value p row (pointOf i)) (value p column (pointOf i))) .1 (
+        and-eq-true-iff (residues p row) (residues p column) .1 (residues-true p row (h .row-residues), residues-true p column (h .column-residues)),
+        eq-eqb _ _ (h .own),
+      )
+
+  -- The pair for another party, from a sound deal.
+  module _ (j : ℕ) (other : i ≢ j) (h : sound p i row column ≡ true) where
+    both : (not (eqb i j) && sound p i row column) ≡ true
+    both = and-eq-true-iff (not (eqb i j)) (sound p i row column) .1 (ap not (ne-eqb i j other), h)
+
+    pub pair-first : pairFor p i row column j .0 ≡ value p row (pointOf j)
+    unfolding pairFor
+    pair-first = ap (λ b. (cond {A = ℕ × ℕ} b (value p row (pointOf j), value p column (pointOf j)) (notSent p, notSent p)) .0) both
+
+    pub pair-second : pairFor p i row column j .1 ≡ value p column (pointOf j)
+    unfolding pairFor
+    pair-second = ap (λ b. (cond {A = ℕ × ℕ} b (value p row (pointOf j), value p column (pointOf j)) (notSent p, notSent p)) .1) both
+
+  module _ (hs : List ℕ) (j : ℕ) where
+    pub record Confirmed : Type 0 where
+      pub other : i ≢ j
+      pub soundly : sound p i row column ≡ true
+      pub first : firstFrom hs j ≡ value p column (pointOf j)
+      pub second : secondFrom hs j ≡ value p row (pointOf j)
+
+    pub confirmed : confirms p i row column hs j ≡ true → Confirmed
+    unfolding confirms
+    confirmed e =
+        let one : Bool = eqb (firstFrom hs j) (value p column (pointOf j)) in
+        let two : Bool = eqb (secondFrom hs j) (value p row (pointOf j)) in
+        let a = and-eq-true-iff (not (eqb i j) && sound p i row column && one) two .0 e in
+        let b = and-eq-true-iff (not (eqb i j) && sound p i row column) one .0 (a .0) in
+        let d = and-eq-true-iff (not (eqb i j)) (sound p i row column) .0 (b .0) in
+        record { other = eqb-false i j (not-true (eqb i j) (d .0)); soundly = d .1; first = eqb-true _ _ (b .1); second = eqb-true _ _ (a .1) }
+
+    pub confirms-true : Confirmed → confirms p i row column hs j ≡ true
+    unfolding confirms
+    confirms-true h =
+        let one : Bool = eqb (firstFrom hs j) (value p column (pointOf j)) in
+        let two : Bool = eqb (secondFrom hs j) (value p row (pointOf j)) in
+        and-eq-true-iff (not (eqb i j) && sound p i row column && one) two .1 (
+          and-eq-true-iff (not (eqb i j) && sound p i row column) one .1
+              (and-eq-true-iff (not (eqb i j)) (sound p i row column) .1 (ap not (ne-eqb i j (h .other)), h .soundly), eq-eqb _ _ (h .first)),
+          eq-eqb _ _ (h .second),
+        )
+
+    -- The report's bit for party j.
+    pub report-bit : (n : ℕ) → isParty n j ≡ true → member (reportOf p n i row column hs) j ≡ confirms p i row column hs j
+    unfolding reportOf
+    report-bit n party =
+        let h = party-facts n j party in
+        let place : suc (j - 1) ≡ j = omega arith in
+        bit-mask (λ k. confirms p i row column hs (suc k)) n (j - 1) (omega arith) ∙ ap (confirms p i row column hs) place

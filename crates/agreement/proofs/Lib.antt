@@ -1,0 +1,14 @@
+pub mod Counting
+pub mod Geometry
+pub mod Deals
+pub mod Reports
+pub mod Steps
+pub mod Runs
+pub mod Collapse
+pub mod Strays
+pub mod Outcomes
+pub mod Agreement
+pub mod Rightness
+pub mod Sentences
+pub mod Marked
+pub mod Stories

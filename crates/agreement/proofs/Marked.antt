@@ -1,0 +1,22 @@
+-- M1 to M12 and the traps hold of the definitions, all together, by computation.
+use mathlib.Core.Path.{_≡_, refl}
+use mathlib.Core.Bool.{true}
+use mathlib.Core.List.{_++_, zipWith}
+use lib.Count.{ones}
+use Rattle.lists.specs.Masks.{mask}
+use Rattle.lists.specs.Tabulate.{tabulate}
+use Rattle.field.specs.Arithmetic.{add, sub, mul, inv, invWithin}
+use Rattle.field.specs.Modulus.{modulus}
+use Rattle.polynomial.specs.Interpolation.{interpolate}
+use Rattle.happy.specs.Agreement.{agree, agreements}
+use Rattle.happy.specs.Happy.{joins, better, best, largest, largestIn, happySet}
+use Rattle.fit.specs.Fit.{hits, sent, received, through, fit}
+use Rattle.parties.specs.Parties.{sizes, isParty, pointOf, notSent}
+use Rattle.dealer.specs.Desk.{deal, deals, verdict, desk}
+use Rattle.lamp.specs.Deal.{sound}
+use Rattle.lamp.specs.Lamp.{lowest, check, atEnd, repair, settled, opening, step}
+use Rattle.agreement.specs.Marked.{holds, allHold, marked, traps}
+
+pub markedHold : allHold modulus (marked ++ traps) ≡ true
+unfolding holds step check lowest settled repair opening atEnd sound sizes isParty pointOf notSent desk verdict deals deal fit received hits sent through interpolate zipWith happySet largestIn largest best better joins agreements agree tabulate add sub mul inv invWithin ones
+markedHold = refl

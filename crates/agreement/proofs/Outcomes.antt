@@ -1,0 +1,56 @@
+-- What settling and opening give, for one lamp whose set and values are known.
+use mathlib.Core.Path.{_≡_, refl, sym, ap, ap₂, subst, _∙_}
+use mathlib.Core.Bool.{Bool, true, false, cond, _&&_}
+use mathlib.Core.Option.{Option, none, some}
+use mathlib.Core.List.{List, [], _∷_, _++_}
+use Prim.Native.Nat.{ℕ, suc, _*_, _-_, _≤_, _<_}
+use native.Mathlib.Omega.{arith}
+use lib.Count.{ones}
+use lib.Dec.{leb}
+use lib.ListN.{length, getD, replicate, length-append, List·getD-append}
+use borrow.Author.Tests.{le-leb, lt-leb}
+use Rattle.lists.specs.Tabulate.{tabulate, pad}
+use Rattle.lists.proofs.Tabulate.{length-tabulate, getD-tabulate}
+use Rattle.parties.specs.Parties.{isParty, member, entry}
+use Rattle.parties.proofs.Parties.{party-facts}
+use Rattle.lamp.specs.declared.Stage.the-variants.{Holding, Closed}
+use Rattle.lamp.specs.declared.Refusal.the-variants.{DealerRejected}
+use Rattle.lamp.specs.declared.Answer.the-variants.{Accepted, Opened, Refused}
+use Rattle.lamp.specs.declared.Lamp.{Lamp}
+use Rattle.lamp.specs.declared.Reply.{Reply}
+use Rattle.lamp.specs.Deal.{firstFrom}
+use Rattle.lamp.specs.Lamp.{reply, columnOfLamp, firsts, withPairs, atEnd, constant, repair, repaired, settled, opened, opening}
+
+module _ (p : ℕ) (l : Lamp) (S : ℕ) where
+  pub settled-rejects : ones S < l .n - l .t → settled p l S ≡ reply (atEnd l Closed 0 0) (Refused DealerRejected)
+  unfolding settled
+  settled-rejects h = rw (lt-leb (l .n - l .t) (ones S) h)
+
+  module _ (many : l .n - l .t ≤ ones S) where
+    pub settled-happy : member S (l .number) ≡ true → settled p l S ≡ reply (atEnd l Holding S (constant (columnOfLamp l))) Accepted
+    unfolding settled
+    settled-happy e = rw (le-leb (l .n - l .t) (ones S) many, e)
+
+    pub settled-mended : member S (l .number) ≡ false → settled p l S ≡ repaired l S (repair p (l .n) (l .t) S (l .heard))
+    unfolding settled
+    settled-mended e = rw (le-leb (l .n - l .t) (ones S) many, e)
+
+    pub settled-repaired : (f : List ℕ) → member S (l .number) ≡ false → repair p (l .n) (l .t) S (l .heard) ≡ some f
+        → settled p l S ≡ reply (atEnd l Holding S (constant f)) Accepted
+    settled-repaired f e found = settled-mended e ∙ ap (repaired l S) found
+
+-- The first number heard from each party is kept.
+pub heard-entry : (n : ℕ) (hs : List ℕ) (j : ℕ) → isParty n j ≡ true → entry (pad 16 (firsts n hs)) j ≡ firstFrom hs j
+heard-entry n hs j party =
+    let f = party-facts n j party in
+    let place : suc (j - 1) ≡ j = omega arith in
+    List·getD-append (firsts n hs) (replicate (16 - length (firsts n hs)) 0) 0 (j - 1) (omega (arith, length-tabulate (λ k. firstFrom hs (suc k)) n))
+    ∙ getD-tabulate (λ k. firstFrom hs (suc k)) n (j - 1) 0 (omega arith)
+    ∙ ap (firstFrom hs) place
+
+pub heard-long : (n : ℕ) (hs : List ℕ) → n ≤ length (pad 16 (firsts n hs))
+heard-long n hs =
+    omega (arith, length-append (firsts n hs) (replicate (16 - length (firsts n hs)) 0), length-tabulate (λ k. firstFrom hs (suc k)) n)
+
+pub opened-some : (l : Lamp) (o : Option (List ℕ)) (f : List ℕ) → o ≡ some f → opened l o ≡ reply l (Opened (constant f))
+opened-some l o f e = rw e

@@ -1,0 +1,91 @@
+-- Lists of calls of one lamp.
+--   Run                        a list taken apart at the three calls that bring the lamp its deal, its pairs and its reports
+--   toDeal, toPairs, toReports   the calls before each of the three; whole: all of them
+--   sinceDeal r xs             the calls up to the deal, the deal, and the calls xs after it; sinceSettling likewise
+--   At cs xs c                 in the list cs the call c comes right after the calls xs
+--   Begins cs xs               the list cs begins with the calls xs
+--   Never test cs              no call of cs passes the test
+use mathlib.Core.Path.{_≡_}
+use mathlib.Core.Bool.{Bool, true, false, _&&_}
+use mathlib.Core.List.{List, _∷_, _++_}
+use Prim.Native.Nat.{ℕ, suc, _*_}
+use lib.Dec.{eqb}
+use lib.ListN.{length}
+use Rattle.lists.specs.All.{All}
+use Rattle.parties.specs.Parties.{entry}
+use Rattle.lamp.specs.Lamp.{Call, takeDeal, sayPair, hearPairs, settle, openShares}
+
+-- A list of calls, taken apart.
+pub record Run : Type 0 where
+  pub beforeDeal : List Call
+  pub itsDeal : List ℕ
+  pub beforePairs : List Call
+  pub itsPairs : List ℕ
+  pub beforeReports : List Call
+  pub itsReports : List ℕ
+  pub rest : List Call
+
+-- The calls before each of the three.
+abbrev pub toDeal : Run → List Call
+toDeal r = r .beforeDeal
+
+abbrev pub toPairs : Run → List Call
+toPairs r = toDeal r ++ takeDeal (r .itsDeal) ∷ r .beforePairs
+
+abbrev pub toReports : Run → List Call
+toReports r = toPairs r ++ hearPairs (r .itsPairs) ∷ r .beforeReports
+
+-- All calls.
+abbrev pub whole : Run → List Call
+whole r = toReports r ++ settle (r .itsReports) ∷ r .rest
+
+-- The calls up to some after the deal, and up to some after the settling.
+abbrev pub sinceDeal : Run → List Call → List Call
+sinceDeal r xs = toDeal r ++ takeDeal (r .itsDeal) ∷ xs
+
+abbrev pub sinceSettling : Run → List Call → List Call
+sinceSettling r xs = toReports r ++ settle (r .itsReports) ∷ xs
+
+-- In cs the call c comes right after the calls xs.
+abbrev pub At : List Call → List Call → Call → Type 0
+At cs xs c = (ys : List Call) × (cs ≡ xs ++ c ∷ ys)
+
+-- cs begins with the calls xs.
+abbrev pub Begins : List Call → List Call → Type 0
+Begins cs xs = (ys : List Call) × (cs ≡ xs ++ ys)
+
+-- No call passes the test.
+abbrev pub Never : (Call → Bool) → List Call → Type 0
+Never test = All (λ c. test c ≡ false)
+
+-- A deal of the right length is given.
+abbrev pub isDeal : ℕ → Call → Bool
+isDeal t (takeDeal d) = eqb (length d) (2 * suc t)
+isDeal t (sayPair j) = false
+isDeal t (hearPairs hs) = false
+isDeal t (settle rs) = false
+isDeal t (openShares xs) = false
+
+-- Pairs of the right length are heard.
+abbrev pub isHearing : ℕ → Call → Bool
+isHearing n (takeDeal d) = false
+isHearing n (sayPair j) = false
+isHearing n (hearPairs hs) = eqb (length hs) (2 * n)
+isHearing n (settle rs) = false
+isHearing n (openShares xs) = false
+
+-- A settling with n reports and the report r in party i's place.
+abbrev pub isSettling : ℕ → ℕ → ℕ → Call → Bool
+isSettling n i r (takeDeal d) = false
+isSettling n i r (sayPair j) = false
+isSettling n i r (hearPairs hs) = false
+isSettling n i r (settle rs) = eqb (length rs) n && eqb (entry rs i) r
+isSettling n i r (openShares xs) = false
+
+-- A call to deal, hear or settle.
+abbrev pub moves : Call → Bool
+moves (takeDeal d) = true
+moves (sayPair j) = false
+moves (hearPairs hs) = true
+moves (settle rs) = true
+moves (openShares xs) = false

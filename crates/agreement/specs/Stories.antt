@@ -1,0 +1,95 @@
+-- Executions made to order, for any choice of faulty lamps and of what they send: demand 3 is not about nothing.
+--   Plot              who is honest, each lamp's deal, what a faulty lamp says to each listener and reports
+--   execution p n t   the execution: each honest lamp is given its deal, hears and settles, then opens some lists
+--   honestDealer, liar, twoDealers   three plots for n = 5 and t = 1
+-- The premises are met by every plot: proofs/Stories.
+use mathlib.Core.Bool.{Bool, true, false, cond, not}
+use mathlib.Core.List.{List, [], _∷_, map}
+use Prim.Native.Nat.{ℕ, suc, _*_, _/_, _%_}
+use lib.Dec.{eqb, leb}
+use Rattle.lists.specs.Tabulate.{tabulate}
+use Rattle.polynomial.specs.Polynomial.{value}
+use Rattle.polynomial.specs.Bivariate.{at}
+use Rattle.parties.specs.Parties.{pointOf}
+use Rattle.dealer.specs.Desk as desks
+use Rattle.lamp.specs.Deal.{rowOf, columnOf, pairFor, reportOf}
+use Rattle.lamp.specs.Lamp.{openShares}
+use Rattle.agreement.specs.Calls.{Run, whole}
+use Rattle.agreement.specs.Demand3.{Execution}
+
+-- Who is honest; each honest lamp's deal; what the faulty lamp j says to i; what it reports; the lists that are opened in the end.
+pub record Plot : Type 0 where
+  pub good : ℕ → Bool
+  pub dealTo : ℕ → List ℕ
+  pub liesTo : ℕ → ℕ → ℕ × ℕ
+  pub claims : ℕ → ℕ
+  pub published : List (List ℕ)
+
+module _ (p n t : ℕ) (s : Plot) where
+  -- The pair that i hears from j.
+  unfoldable pub pairHeard : ℕ → ℕ → ℕ × ℕ
+  pairHeard i j = cond (s .good j) (pairFor p j (rowOf t (s .dealTo j)) (columnOf t (s .dealTo j)) i) (s .liesTo i j)
+
+  -- All n pairs that i hears, in one list.
+  unfoldable pub pairsHeard : ℕ → List ℕ
+  pairsHeard i = tabulate (λ m. cond (eqb (m % 2) 0) (pairHeard i (suc (m / 2)) .0) (pairHeard i (suc (m / 2)) .1)) (2 * n)
+
+  -- The reports that all see.
+  unfoldable pub reportsSeen : List ℕ
+  reportsSeen =
+      tabulate (λ k. cond (s .good (suc k))
+      (reportOf p n (suc k) (rowOf t (s .dealTo (suc k))) (columnOf t (s .dealTo (suc k))) (pairsHeard (suc k)))
+      (s .claims (suc k))) n
+
+  abbrev pub runOf : ℕ → Run
+  runOf i = record {
+    beforeDeal = [];
+    itsDeal = s .dealTo i;
+    beforePairs = [];
+    itsPairs = pairsHeard i;
+    beforeReports = [];
+    itsReports = reportsSeen;
+    rest = map openShares (s .published);
+  }
+
+  abbrev pub execution : Execution
+  execution = record { honest = s .good; calls = λ i. whole (runOf i); run = runOf; seen = reportsSeen }
+
+-- F = 7 + 3X + 2Y + 4XY.
+abbrev pub anF : List ℕ
+anF = 7 ∷ 2 ∷ 3 ∷ 4 ∷ []
+
+-- All lamps but 3 are honest.
+abbrev pub butThree : ℕ → Bool
+butThree i = not (eqb i 3)
+
+module _ (p : ℕ) where
+  -- The dealer is honest; lamp 3 sends and reports nonsense and publishes 999.
+  abbrev pub honestDealer : Plot
+  honestDealer = record {
+    good = butThree;
+    dealTo = λ i. desks.deal p 2 anF i;
+    liesTo = λ i j. (i, 65535);
+    claims = λ j. 65535;
+    published = (10 ∷ 13 ∷ 999 ∷ 19 ∷ 22 ∷ []) ∷ [];
+  }
+
+  -- The dealer gives lamp 5 an unsound deal, row 17 + 24 X; lamp 3 tells lamps 1, 2 and 4 what is right and lamp 5 a lie.
+  abbrev pub liar : Plot
+  liar = record {
+    good = butThree;
+    dealTo = λ i. cond (eqb i 5) (17 ∷ 24 ∷ 22 ∷ 22 ∷ []) (desks.deal p 2 anF i);
+    liesTo = λ i j. cond (eqb i 5) (999, 1) (at p 2 2 anF i 3, at p 2 2 anF 3 i);
+    claims = λ j. 11;
+    published = (0 ∷ 13 ∷ 999 ∷ 19 ∷ 22 ∷ []) ∷ [];
+  }
+
+  -- The dealer deals one polynomial to lamps 1 and 2 and another to the rest.
+  abbrev pub twoDealers : Plot
+  twoDealers = record {
+    good = λ i. true;
+    dealTo = λ i. cond (leb i 2) (desks.deal p 2 anF i) (desks.deal p 2 (8 ∷ 9 ∷ 3 ∷ 1 ∷ []) i);
+    liesTo = λ i j. (0, 0);
+    claims = λ j. 0;
+    published = [];
+  }

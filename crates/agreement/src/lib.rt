@@ -1,0 +1,1 @@
+// The demands on the whole protocol, and their proofs: no code.

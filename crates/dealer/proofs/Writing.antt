@@ -1,0 +1,89 @@
+-- One turn of each loop of the desk's code, as a law over plain lists, and a deal written through its two lent parts.
+--   DealsLoop   the deals of the first i parties are written, and the next part begins at start
+use mathlib.Core.Path.{_≡_, refl, sym, ap, ap₂, _∙_}
+use mathlib.Core.List.{List, _++_, append-assoc}
+use Prim.Native.Nat.{ℕ, suc, _+_, _*_, _-_, _<_, _≤_}
+use native.Mathlib.Nat.{mul-le-mul-right}
+use native.Mathlib.Numerals.{add-one}
+use native.Mathlib.Omega.{arith}
+use lib.ListN.{length, take, drop, length-append, length-drop}
+use lib.Seq.{take-at, drop-at, take-all, length-take-le}
+use borrow.Rule.Slice.PartMut.{putMid, same-len-mid, mid-len}
+use Rattle.lists.proofs.InPlace.{lent-rest, put-rest}
+use Rattle.polynomial.specs.Bivariate.{row, column, rowIn, columnIn}
+use Rattle.polynomial.proofs.Lent.{row-in, column-in}
+use Rattle.polynomial.proofs.Crossing.{length-row}
+use Rattle.parties.specs.Parties.{pointOf}
+use Rattle.dealer.specs.Desk.{deal, deals}
+use Rattle.dealer.proofs.Desk.{length-deal}
+
+module _ (p : ℕ) where
+  module _ (w : ℕ) (F : List ℕ) where
+    -- ---- `write_deal`: f into the first w numbers, then g into those behind them
+    pub both-written : (i x : ℕ) (out f g : List ℕ) → x ≡ pointOf i → length F ≡ w * w → length out ≡ 2 * w
+        → f ≡ rowIn p F x (take w out)
+        → g ≡ columnIn p F x (take (length (f ++ drop w out) - w) (drop w (f ++ drop w out)))
+        → putMid w (length (f ++ drop w out) - w) (f ++ drop w out) g ≡ deal p w F i
+    unfolding deal
+    both-written i x out f g at square size ef eg =
+        let front : length (take w out) ≡ w = length-take-le w out (omega arith) in
+        let behind : length (drop w out) ≡ w = length-drop w out ∙ omega arith in
+        let first : f ≡ row p w w F x =
+        ef ∙ row-in p F x (take w out) (square ∙ ap₂ _*_ (sym front) (sym front)) ∙ ap₂ (λ a b. row p a b F x) front front in
+        let wide : length f ≡ w = ap length first ∙ length-row p w w F x in
+        let part : take (length (f ++ drop w out) - w) (drop w (f ++ drop w out)) ≡ drop w out =
+        lent-rest w (f ++ drop w out) ∙ drop-at f (drop w out) w wide in
+        let second : g ≡ column p w w F x =
+        eg ∙ ap (columnIn p F x) part
+        ∙ column-in p F x (drop w out) (square ∙ ap₂ _*_ (sym behind) (sym behind))
+        ∙ ap₂ (λ a b. column p a b F x) behind behind in
+        put-rest w (f ++ drop w out) g
+        ∙ ap₂ _++_ (take-at f (drop w out) w wide ∙ first) second
+        ∙ ap (λ z. row p w w F z ++ column p w w F z) at
+
+    -- ---- `write_deals`
+    pub record DealsLoop (n : ℕ) (out : List ℕ) (i start : ℕ) : Type 0 where
+      pub square : length F ≡ w * w
+      pub within : i ≤ n
+      pub size : length out ≡ n * (2 * w)
+      pub place : start ≡ i * (2 * w)
+      pub goal : take start out ≡ deals p w F i
+
+    module _ (n : ℕ) (out : List ℕ) where
+      pub deals-start : length F ≡ w * w → length out ≡ n * (2 * w) → DealsLoop n out 0 0
+      unfolding deals
+      deals-start q e = record { square = q; within = omega arith; size = e; place = omega arith; goal = refl }
+
+      module _ (i start : ℕ) (k : DealsLoop n out i start) where
+        pub deals-room : i < n → start + 2 * w ≤ length out
+        deals-room h = omega (arith, k .size, k .place, mul-le-mul-right {m = suc i} {n = n} (2 * w) h)
+
+        -- The part that is lent has the length of a deal.
+        pub deals-part : i < n → length (take (start + 2 * w - start) (drop start out)) ≡ 2 * w
+        deals-part h = mid-len start (start + 2 * w) out (deals-room h) ∙ omega arith
+
+        pub deals-next : (new : List ℕ) → i < n → new ≡ deal p w F (i + 1)
+            → DealsLoop n (putMid start (start + 2 * w - start) out new) (i + 1) (start + 2 * w)
+        unfolding deals
+        deals-next new h e =
+            let rest : List ℕ = drop (start + 2 * w - start) (drop start out) in
+            let wide : length new ≡ 2 * w = ap length e ∙ length-deal p w F (k .square) (i + 1) in
+            let front : length (take start out) ≡ start = length-take-le start out (omega (arith, deals-room h)) in
+            let both : length (take start out ++ new) ≡ start + 2 * w = length-append (take start out) new ∙ ap₂ _+_ front wide in
+            record {
+              square = k .square;
+              within = omega arith;
+              size = same-len-mid start (start + 2 * w - start) out new (wide ∙ sym (deals-part h)) ∙ k .size;
+              place = omega (arith, k .place);
+              goal =
+                  ap (take (start + 2 * w)) (sym (append-assoc (take start out) new rest))
+                  ∙ take-at (take start out ++ new) rest (start + 2 * w) both
+                  ∙ ap₂ _++_ (k .goal) (e ∙ ap (deal p w F) (add-one i))
+                  ∙ ap (deals p w F) (sym (add-one i));
+            }
+
+        pub deals-end : n ≤ i → out ≡ deals p w F n
+        deals-end h =
+            let all : i ≡ n = omega (arith, k .within) in
+            let last : length out ≡ start = k .size ∙ ap (λ z. z * (2 * w)) (sym all) ∙ sym (k .place) in
+            sym (take-all start out (omega arith)) ∙ k .goal ∙ ap (deals p w F) all

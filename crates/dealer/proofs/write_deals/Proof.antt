@@ -1,0 +1,84 @@
+-- `dealer::write_deals` meets its contract. The deals of the first i parties are written.
+use Prim.Native.Nat.{_+_, _*_, _-_, _≤_}
+use native.Mathlib.Omega.{arith}
+use lib.ListN.{length}
+use borrow.Author.Needs.{needs}
+use Rattle.field.specs.Modulus.{modulus}
+use Rattle.dealer.proofs.Writing.{DealsLoop, deals-start, deals-room, deals-part, deals-next, deals-end}
+use Rattle.dealer.proofs.write_deals.Statement.{statement}
+use Rattle.dealer.proofs.write_deals.Tie as tie
+
+abbrev Inv-loop : tie.InvT-loop
+Inv-loop n list width out₀ i₀ start₀ out i start = DealsLoop modulus width list n out i start
+
+abbrev μ-loop : tie.MeasureT-loop
+μ-loop n list width out₀ i₀ start₀ out i start = n - i
+
+loop-holds : tie.Need-loop-holds Inv-loop μ-loop
+loop-holds c = deals-start modulus _ _ _ _ (search needs) (search needs)
+
+-- There is room for one more deal.
+room : (c : tie.In-loop Inv-loop μ-loop) → c .before .loop .start + 2 * c .before .before .before .before .args .width ≤ length (c .before .loop .out)
+room c = deals-room modulus _ _ _ _ _ _ (c .before .loop .inv) (omega arith)
+
+mul-end : tie.Need-mul-end Inv-loop μ-loop
+mul-end c = omega (arith, room c)
+
+add-end : tie.Need-add-end Inv-loop μ-loop
+add-end c = omega (arith, room c)
+
+add-i : tie.Need-add-i Inv-loop μ-loop
+add-i c = search needs
+
+mul-write-deal : tie.Need-mul-write-deal Inv-loop μ-loop
+mul-write-deal c = omega (arith, room c)
+
+sub-write-deal : tie.Need-sub-write-deal Inv-loop μ-loop
+sub-write-deal c = omega (arith, room c)
+
+part-write-deal-start : tie.Need-part-write-deal-start Inv-loop μ-loop
+part-write-deal-start c = omega (arith, room c)
+
+part-write-deal-end : tie.Need-part-write-deal-end Inv-loop μ-loop
+part-write-deal-end c = omega (arith, room c)
+
+write-deal-requires : tie.Need-write-deal-requires Inv-loop μ-loop
+write-deal-requires c κs =
+    let k = c .before .before .loop in
+    (search needs, k .inv .square, deals-part modulus _ _ _ _ _ _ (k .inv) (omega arith))
+
+loop-less : tie.Need-loop-less Inv-loop μ-loop
+loop-less c = search needs
+
+loop-again : tie.Need-loop-again Inv-loop μ-loop
+loop-again c =
+    let k = c .before .before .before .before .before .loop in
+    deals-next modulus _ _ _ (k .out) (k .i) (k .start) (k .inv) _ (omega arith) (c .before .before .write-deal .ensures)
+
+same-length : tie.Need-same-length Inv-loop μ-loop
+same-length c = search needs
+
+returns : tie.Need-returns Inv-loop μ-loop
+returns c =
+    let k = c .before .loop in
+    deals-end modulus _ _ _ (k .out) (k .i) (k .start) (k .inv) (omega arith)
+
+pub write-deals-spec : {M : Type 1} → statement M
+write-deals-spec =
+    tie.close
+    (tie.spec
+    Inv-loop
+    μ-loop
+    loop-holds
+    mul-end
+    add-end
+    add-i
+    mul-write-deal
+    sub-write-deal
+    part-write-deal-start
+    part-write-deal-end
+    write-deal-requires
+    loop-less
+    loop-again
+    same-length
+    returns)

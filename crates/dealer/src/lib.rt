@@ -1,0 +1,77 @@
+// The dealing desk: checks the dealer's list and writes each party's deal into its own part of the lent list.
+ghost use mathlib.Core.Path.{_≡_};
+ghost use mathlib.Core.Bool.{Bool, true};
+ghost use Prim.Native.Nat.{ℕ, suc, _+_, _*_, _≤_};
+ghost use lib.ListN.{length};
+ghost use Rattle.field.specs.Modulus.{modulus};
+ghost use Rattle.parties.specs.Parties.{sizes};
+ghost use Rattle.dealer.specs.Desk.{deal, deals, verdict, desk};
+
+// What the desk answers. Document 01's number of each refusal is `numberOf` in the definitions.
+pub enum Dealing {
+    Written,
+    WrongSize,
+    WrongLength,
+    NotResidue,
+}
+
+// The lowest refusal that applies, or that all may be written.
+fn verdict(n: u8, t: u8, list: &[u16], room: usize) -> Dealing
+    ensures { λ r. ⌜ r ≡ verdict modulus n t (now (list .entry)) room ⌝ }
+{
+    if !parties::sizes(n, t) {
+        return Dealing::WrongSize;
+    }
+    let width = t as usize + 1;
+    if list.len() != width * width {
+        return Dealing::WrongLength;
+    }
+    if room != n as usize * (2 * width) {
+        return Dealing::WrongLength;
+    }
+    if !polynomial::residues(list) {
+        return Dealing::NotResidue;
+    }
+    Dealing::Written
+}
+
+// Party i's deal, over the whole of the lent part: its row, then its column.
+fn write_deal(list: &[u16], width: usize, i: u8, out: &mut [u16])
+    requires { ⌜ (width ≤ 4) × (length (now list) ≡ width * width) × (length (now out) ≡ 2 * width) ⌝ }
+    ensures { λ r. ⌜ now (out .exit) ≡ deal modulus width (now (list .entry)) i ⌝ }
+{
+    let point = parties::point(i);
+    polynomial::row(list, point, &mut out[..width]);
+    polynomial::column(list, point, &mut out[width..]);
+}
+
+// The deals of parties 1 to n, each in its own part of the lent list.
+fn write_deals(n: u8, list: &[u16], width: usize, out: &mut [u16])
+    requires { ⌜ (n ≤ 16) × (width ≤ 4) × (length (now list) ≡ width * width) × (length (now out) ≡ n * (2 * width)) ⌝ }
+    ensures { λ r. ⌜ now (out .exit) ≡ deals modulus width (now (list .entry)) n ⌝ }
+{
+    let mut i: u8 = 0;
+    let mut start = 0;
+    while i < n {
+        let end = start + 2 * width;
+        i += 1;
+        write_deal(list, width, i, &mut out[start..end]);
+        start = end;
+    }
+}
+
+// Deals F, whose (t+1)² coefficients stand in `list`, to n parties. On a refusal the lent list is left alone.
+pub fn deal(n: u8, t: u8, list: &[u16], out: &mut [u16]) -> Dealing
+    ensures { λ r. ⌜ (now (out .exit), r) ≡ desk modulus n t (now (list .entry)) (now (out .entry)) ⌝ }
+{
+    let answer = verdict(n, t, list, out.len());
+    match answer {
+        Dealing::WrongSize => Dealing::WrongSize,
+        Dealing::WrongLength => Dealing::WrongLength,
+        Dealing::NotResidue => Dealing::NotResidue,
+        Dealing::Written => {
+            write_deals(n, list, t as usize + 1, out);
+            Dealing::Written
+        }
+    }
+}

@@ -1,0 +1,51 @@
+-- What a call answers, in document 01's numbers.
+--   refusalNumber   the number of a refusal
+--   numberOf        the number of an answer: none where the call is accepted
+--   valuesOf        the values of an answer: a pair's two numbers, the report, the opened number; none otherwise
+--   stageNumber     the stages in order, from 0
+use mathlib.Core.Option.{Option, none, some}
+use mathlib.Core.List.{List, [], _∷_}
+use Prim.Native.Nat.{ℕ}
+use Rattle.lamp.specs.declared.Stage.{Stage}
+use Rattle.lamp.specs.declared.Stage.the-variants.{Waiting, Dealt, Reported, Holding, Closed}
+use Rattle.lamp.specs.declared.Refusal.{Refusal}
+use Rattle.lamp.specs.declared.Refusal.the-variants.{WrongSize, WrongNumber, WrongLength, WrongStage, AlteredReport, DealerRejected, NoColumn, NoOpening}
+use Rattle.lamp.specs.declared.Answer.{Answer}
+use Rattle.lamp.specs.declared.Answer.the-variants.{Done, Pair, Report, Accepted, Opened, Refused}
+
+-- Document 01, "Who can cause a no".
+abbrev pub refusalNumber : Refusal → ℕ
+refusalNumber WrongSize = 1
+refusalNumber WrongNumber = 2
+refusalNumber WrongLength = 3
+refusalNumber WrongStage = 4
+refusalNumber AlteredReport = 7
+refusalNumber DealerRejected = 8
+refusalNumber NoColumn = 9
+refusalNumber NoOpening = 10
+
+-- The number of an answer; none where the call is accepted.
+abbrev pub numberOf : Answer → Option ℕ
+numberOf Done = none
+numberOf (Pair a b) = none
+numberOf (Report r) = none
+numberOf Accepted = none
+numberOf (Opened v) = none
+numberOf (Refused why) = some (refusalNumber why)
+
+-- The values of an answer.
+abbrev pub valuesOf : Answer → List ℕ
+valuesOf Done = []
+valuesOf (Pair a b) = a ∷ b ∷ []
+valuesOf (Report r) = r ∷ []
+valuesOf Accepted = []
+valuesOf (Opened v) = v ∷ []
+valuesOf (Refused why) = []
+
+-- waiting, dealt, reported, holding, closed.
+abbrev pub stageNumber : Stage → ℕ
+stageNumber Waiting = 0
+stageNumber Dealt = 1
+stageNumber Reported = 2
+stageNumber Holding = 3
+stageNumber Closed = 4
