@@ -21,7 +21,7 @@ use Rattle.field.proofs.Primes.{prime}
 use Rattle.polynomial.specs.Polynomial.{Poly, value}
 use Rattle.polynomial.specs.Bivariate.{at, row, column}
 use Rattle.polynomial.proofs.Crossing.{row-poly, column-poly, crossing}
-use Rattle.polynomial.proofs.Terms.{row-at, column-at}
+use Rattle.polynomial.proofs.Terms.{row-at, at-secret}
 use Rattle.happy.specs.Happy.{happySet}
 use Rattle.lists.specs.Choices.{count}
 use Rattle.lists.proofs.Choices.{count-no}
@@ -37,10 +37,10 @@ use Rattle.lamp.specs.Answer.{numberOf, valuesOf}
 use Rattle.lamp.specs.Deal.{rowOf, columnOf, firstFrom}
 use Rattle.lamp.specs.Lamp.{Call, takeDeal, sayPair, hearPairs, settle, openShares, made, reply, firsts, constant, columnOfLamp, withDeal, withPairs, atEnd, repair, settled, opening, step, after}
 use Rattle.agreement.specs.Calls.{Run, toDeal, toPairs, toReports, whole, sinceDeal, sinceSettling, At, Begins}
-use Rattle.agreement.specs.Demand3.{Execution, Honest, Premises, HonestDealer, Speaks, Stays, Rejects, Accepts, OnF, Rejected, Accepted, Conclusions, Demand3, shareOf, lampAt}
+use Rattle.agreement.specs.Demand3.{Execution, Honest, Premises, HonestDealer, Speaks, Stays, Rejects, Accepts, OnF, AllReject, AllAccept, Conclusions, Demand3, shareOf, lampAt}
 use Rattle.agreement.proofs.Counting.{honest-parties}
 use Rattle.agreement.proofs.Geometry.{Inside, Lies, opens, repairs, lies, lies-once, column-constant, row-constant}
-use Rattle.agreement.proofs.Reports.{Heard, happy-within, crossed, heard-first, honest-many}
+use Rattle.agreement.proofs.Reports.{Heard, happy-right, happy-within, crossed, heard-first, honest-many}
 use Rattle.agreement.proofs.Steps.{shares-opened}
 use Rattle.agreement.proofs.Collapse as one
 use Rattle.agreement.proofs.Strays.{others}
@@ -122,7 +122,7 @@ module _ (p : ℕ) (P : Prime p) (big : 16 < p) (n t : ℕ) (e : Execution) (pr 
     unfolding withPairs withDeal atEnd
     rejects few =
         let is = settled-rejects p reported S few in
-        record { verdict = ap (λ (z : Reply). numberOf (z .answer)) (settling _ is); stays = stays _ is }
+        record { answered = ap (λ (z : Reply). numberOf (z .answer)) (settling _ is); stays = stays _ is }
 
   -- ---- what the honest hold, hear and report
   seen-long : length (e .seen) ≡ n
@@ -225,7 +225,7 @@ module _ (p : ℕ) (P : Prime p) (big : 16 < p) (n t : ℕ) (e : Execution) (pr 
           let is = holds i h in
           let l : Lamp = atEnd (reported i h) Holding S (share i) in
           record {
-            verdict = (ap (λ (z : Reply). numberOf (z .answer)) (settling i h _ is), ap (λ (z : Reply). valuesOf (z .answer)) (settling i h _ is));
+            answered = (ap (λ (z : Reply). numberOf (z .answer)) (settling i h _ is), ap (λ (z : Reply). valuesOf (z .answer)) (settling i h _ is));
             stays = stays i h _ is;
             opens = λ xs ys at long places.
                 let answered =
@@ -243,15 +243,16 @@ module _ (p : ℕ) (P : Prime p) (big : 16 < p) (n t : ℕ) (e : Execution) (pr 
         on-columns = λ i m. g .columns i (record { party = m .party; good = m .good }) (m .happy);
       }
 
-      accepted : Accepted p n t e F
+      accepted : AllAccept p n t e F
       accepted = record {
+        set-right = happy-right p P big n t (e .honest) rows columns pairs (e .seen) heard;
         on = record { poly = on .poly; rows = λ i h m. on .on-rows i (inside i h m); columns = λ i h m. on .on-columns i (inside i h m) };
         only = λ G g. lies-once p P big n t (heard .size) (e .honest) (heard .few) S within many rows columns G F (to-lies G g) on;
         hold = accepts;
       }
 
   -- ---- one verdict
-  verdict : Rejected p n t e ⊎ ((F : List ℕ) × Accepted p n t e F)
+  verdict : AllReject p n t e ⊎ ((F : List ℕ) × AllAccept p n t e F)
   verdict =
       ⊎-elim
       (λ many.
@@ -262,7 +263,7 @@ module _ (p : ℕ) (P : Prime p) (big : 16 < p) (n t : ℕ) (e : Execution) (pr 
       (le-or-lt (n - t) (ones S))
 
   -- ---- an honest dealer
-  dealer : (F : List ℕ) → HonestDealer p n t e F → Accepted p n t e F
+  dealer : (F : List ℕ) → HonestDealer p n t e F → AllAccept p n t e F × (at p (suc t) (suc t) F 0 0 ≡ getD F 0 0)
   dealer F hd =
       let w = desk-written p n t F (hd .lent) (hd .written) in
       let its : (i : ℕ) → Honest p n t e i → e .run i .itsDeal ≡ deal p (suc t) F i =
@@ -272,15 +273,17 @@ module _ (p : ℕ) (P : Prime p) (big : 16 < p) (n t : ℕ) (e : Execution) (pr 
       let column-of : (i : ℕ) → Honest p n t e i → column p (suc t) (suc t) F (pointOf i) ≡ columns i =
       λ i h. sym (drop-deal p (suc t) F i) ∙ ap (drop (suc t)) (sym (its i h)) in
       let many = honest-many p P big n t (e .honest) rows columns pairs (e .seen) heard F (w .1)
-      (λ i q g. row-of i (record { party = q; good = g })) (λ i q g. column-of i (record { party = q; good = g })) in
-      accepted many F (record {
-        poly = record { residues = w .3; size = w .1 };
-        on-rows = λ i m. row-of i (record { party = m .party; good = m .good });
-        on-columns = λ i m. column-of i (record { party = m .party; good = m .good });
-      })
+      (λ i q g. row-of i (record { party = q; good = g })) (λ i q g. column-of i (record { party = q; good = g })) in (
+        accepted many F (record {
+          poly = record { residues = w .3; size = w .1 };
+          on-rows = λ i m. row-of i (record { party = m .party; good = m .good });
+          on-columns = λ i m. column-of i (record { party = m .party; good = m .good });
+        }),
+        at-secret p t t F (omega arith) (w .3),
+      )
 
   conclusions : Conclusions p n t e
-  conclusions = record { speak = speaks; verdict = verdict; dealer = dealer }
+  conclusions = record { speak = speaks; one-verdict = verdict; dealer = dealer }
 
 -- Demand 3, for every prime above 16.
 pub demand3-for : (p : ℕ) → Prime p → 16 < p → Demand3 p

@@ -13,10 +13,10 @@ use Rattle.happy.specs.Happy.{joins, better, best, largest, largestIn, happySet
 use Rattle.fit.specs.Fit.{hits, sent, received, through, fit}
 use Rattle.parties.specs.Parties.{sizes, isParty, pointOf, notSent}
 use Rattle.dealer.specs.Desk.{deal, deals, verdict, desk}
-use Rattle.lamp.specs.Deal.{sound}
-use Rattle.lamp.specs.Lamp.{lowest, check, atEnd, repair, settled, opening, step}
-use Rattle.agreement.specs.Marked.{holds, allHold, marked, traps}
+use Rattle.lamp.specs.Deal.{sound, confirms, reportOf}
+use Rattle.lamp.specs.Lamp.{lowest, check, make, withDeal, withPairs, reportFrom, atEnd, repair, settled, opening, step}
+use Rattle.agreement.specs.Marked.{holds, allHold, table, traps}
 
-pub markedHold : allHold modulus (marked ++ traps) ≡ true
-unfolding holds step check lowest settled repair opening atEnd sound sizes isParty pointOf notSent desk verdict deals deal fit received hits sent through interpolate zipWith happySet largestIn largest best better joins agreements agree tabulate add sub mul inv invWithin ones
+pub markedHold : allHold modulus (table ++ traps) ≡ true
+unfolding holds step make check lowest settled repair opening atEnd withDeal withPairs reportFrom reportOf confirms mask sound sizes isParty pointOf notSent desk verdict deals deal fit received hits sent through interpolate zipWith happySet largestIn largest best better joins agreements agree tabulate add sub mul inv invWithin ones
 markedHold = refl

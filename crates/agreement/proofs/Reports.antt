@@ -19,7 +19,7 @@ use Rattle.polynomial.specs.Polynomial.{Poly, value}
 use Rattle.polynomial.specs.Bivariate.{row, column}
 use Rattle.polynomial.proofs.Crossing.{row-poly, column-poly, crossing}
 use Rattle.happy.specs.Agreement.{agree, Agreed}
-use Rattle.happy.specs.Clique.{Clique}
+use Rattle.happy.specs.Clique.{Clique, Largest}
 use Rattle.happy.specs.Happy.{happySet}
 use Rattle.happy.proofs.Agreement.{agree-iff}
 use Rattle.happy.proofs.Happy.{happy-is, happy-enough}
@@ -55,8 +55,11 @@ module _ (p : ℕ) (P : Prime p) (big : 16 < p) (n t : ℕ) (honest : ℕ → Bo
   small : length rs ≤ 16
   small = let s = sizes-facts n t (h .size) in omega (arith, h .long)
 
+  pub happy-right : Largest (agree rs) n (happySet rs)
+  happy-right = subst (λ k. Largest (agree rs) k (happySet rs)) (h .long) (happy-is rs small)
+
   pub happy-within : happySet rs < 2 ^ n
-  happy-within = subst (λ k. happySet rs < 2 ^ k) (h .long) (happy-is rs small .within)
+  happy-within = happy-right .within
 
   -- ---- an honest party's one for j
   one-for : (i j : ℕ) → isParty n i ≡ true → honest i ≡ true → isParty n j ≡ true → bit (getD rs (i - 1) 0) (j - 1) ≡ true
@@ -75,7 +78,7 @@ module _ (p : ℕ) (P : Prime p) (big : 16 < p) (n t : ℕ) (honest : ℕ → Bo
         let fj = party-facts n j (b .party) in
         let apart : i - 1 ≢ j - 1 = λ q. d (omega arith) in
         one-for i j (a .party) (a .good) (b .party)
-        (agree-iff rs (i - 1) (j - 1) .0 (happy-is rs small .clique (i - 1) (j - 1) (a .happy) (b .happy) apart) .forth)
+        (agree-iff rs (i - 1) (j - 1) .0 (happy-right .clique (i - 1) (j - 1) (a .happy) (b .happy) apart) .forth)
 
     -- Everyone inside has a sound deal, since it has a one for a neighbour inside.
     pub soundly : (i : ℕ) → In i → sound p i (rows i) (columns i) ≡ true

@@ -10,8 +10,8 @@ use Prim.Native.Nat.{ℕ, suc, _+_, _*_, _-_, _^_, _≤_, _<_}
 use native.Mathlib.Omega.{arith}
 use lib.Count.{ones}
 use lib.Dec.{eqb, lit<}
-use lib.ListN.{length, take, set, length-set}
-use lib.Seq.{length-take-le}
+use lib.ListN.{length, take, set, replicate, length-set, length-drop}
+use lib.Seq.{length-take-le, take-at}
 use borrow.Author.Tests.{eq-eqb}
 use Rattle.lists.specs.Masks.{bit}
 use Rattle.lists.specs.Tabulate.{tabulate}
@@ -23,6 +23,7 @@ use Rattle.field.specs.Modulus.{modulus}
 use Rattle.field.proofs.Primes.{prime}
 use Rattle.polynomial.specs.Polynomial.{Poly, Points}
 use Rattle.polynomial.specs.Bivariate.{row, column}
+use Rattle.polynomial.proofs.Terms.{row-at, column-at}
 use Rattle.happy.specs.Agreement.{agree}
 use Rattle.happy.specs.Clique.{Clique, Largest}
 use Rattle.happy.specs.Happy.{happySet}
@@ -35,8 +36,8 @@ use Rattle.fit.proofs.Selection.{points-select}
 use Rattle.lists.proofs.Selections.{length-select}
 use Rattle.parties.specs.Parties.{sizes, isParty, pointOf, points, member, entry}
 use Rattle.parties.proofs.Parties.{sizes-facts, party-facts, length-points}
-use Rattle.dealer.specs.Desk.{deal, desk}
-use Rattle.dealer.proofs.Desk.{length-deals, desk-written, desk-list, desk-stretch, desk-refused}
+use Rattle.dealer.specs.Desk.{deal, desk, numberOf as numberOfDealing}
+use Rattle.dealer.proofs.Desk.{length-deals, desk-written, desk-writes, desk-list, desk-stretch, desk-size, desk-length, desk-residue, desk-refused}
 use Rattle.lamp.specs.declared.Stage.{Stage}
 use Rattle.lamp.specs.declared.Stage.the-variants.{Reported, Holding, Closed}
 use Rattle.lamp.specs.declared.Refusal.the-variants.{DealerRejected, NoColumn, NoOpening}
@@ -44,13 +45,14 @@ use Rattle.lamp.specs.declared.Answer.the-variants.{Accepted, Opened, Refused}
 use Rattle.lamp.specs.declared.Lamp.{Lamp}
 use Rattle.lamp.specs.declared.Reply.{Reply}
 use Rattle.lamp.specs.Answer.{numberOf, valuesOf, stageNumber}
-use Rattle.lamp.specs.Lamp.{Sized, reply, refuse, isAt, columnOfLamp, constant, atEnd, repair, repaired, settled, opening, opened, settle, openShares, step}
-use Rattle.agreement.specs.Demand2.{Nearest, FewAgree, pointsIn, heardIn, Stands, Settles, Opens, RejectsRight, KeepsRight, RepairsRight, OpensRight, DealsRight, Demand2}
+use Rattle.lamp.specs.Deal.{rowOf, columnOf}
+use Rattle.lamp.specs.Lamp.{withDeal, withPairs, reportFrom, takeDeal, hearPairs, rowOfLamp, Sized, reply, refuse, isAt, columnOfLamp, constant, atEnd, repair, repaired, settled, opening, opened, settle, openShares, step}
+use Rattle.agreement.specs.Demand2.{Takes, Hears, TakesRight, HearsRight, Nearest, FewAgree, pointsIn, heardIn, Stands, Settles, Opens, RejectsRight, KeepsRight, RepairsRight, OpensRight, DealsRight, Demand2}
 use Rattle.agreement.specs.Demand3.{Gives, Refuses}
 use Rattle.agreement.proofs.Counting.{marks-ones}
 use Rattle.agreement.proofs.Geometry.{points-fine}
-use Rattle.agreement.proofs.Steps.{settles, shares-opened}
-use Rattle.agreement.proofs.Outcomes.{settled-rejects, settled-happy, settled-mended, settled-repaired, opened-some}
+use Rattle.agreement.proofs.Steps.{takes, hears, settles, shares-opened}
+use Rattle.agreement.proofs.Outcomes.{settled-rejects, settled-happy, settled-mended, settled-repaired, heard-entry, opened-some}
 
 -- ---- an answer has one number
 differ : (o : Option ℕ) (a b : ℕ) → o ≡ some a → o ≡ some b → (a ≡ b → ⊥) → ⊥
@@ -129,15 +131,15 @@ module _ (p : ℕ) (P : Prime p) (big : 16 < p) where
     rejects-right = record { exactly = (to, from); closes = closes }
       where
         to : Refuses (step p l (settle rs) .answer) 8 → FewAgree (l .n) (l .t) rs
-        to e = ⊎-elim (λ many. absurd (not-rejected many e)) (λ few s w c. omega (arith, largest .most s w c)) (le-or-lt (l .n - l .t) (ones S))
+        to e = ⊎-elim (λ many. absurd (not-rejected many e)) (λ few s w c. omega (arith, largest .most s w c, ones-members (l .n) s w)) (le-or-lt (l .n - l .t) (ones S))
 
         from : FewAgree (l .n) (l .t) rs → Refuses (step p l (settle rs) .answer) 8
-        from few = ap (λ (z : Reply). numberOf (z .answer)) (rejected (few S (largest .within) (largest .clique)))
+        from few = ap (λ (z : Reply). numberOf (z .answer)) (rejected (omega (arith, few S (largest .within) (largest .clique), ones-members (l .n) S (largest .within))))
 
         closes : Refuses (step p l (settle rs) .answer) 8 → Stands (step p l (settle rs) .lamp) Closed 0 0
         closes e =
             subst (λ z. Stands z Closed 0 0)
-            (sym (ap (λ (z : Reply). z .lamp) (rejected (to e S (largest .within) (largest .clique))))) (stands l Closed 0 0)
+            (sym (ap (λ (z : Reply). z .lamp) (rejected (omega (arith, to e S (largest .within) (largest .clique), ones-members (l .n) S (largest .within)))))) (stands l Closed 0 0)
 
     module _ (many : l .n - l .t ≤ ones S) where
       keeps-right : KeepsRight p l rs S
@@ -267,14 +269,46 @@ module _ (p : ℕ) (P : Prime p) (big : 16 < p) where
 deals-right : (p n t : ℕ) (F out : List ℕ) → DealsRight p n t F out
 unfolding deal
 deals-right p n t F out = record {
-  deals = λ w i q. desk-stretch p n t F out w i (party-facts n i q .0) (party-facts n i q .1);
-  whole = λ w. ap length (desk-list p n t F out w) ∙ length-deals p (suc t) F (desk-written p n t F out w .1) n;
-  refuses = λ k e. desk-refused p n t F out k e;
+  exactly = (desk-written p n t F out, λ h. ap numberOfDealing (desk-writes p n t F out (h .0) (h .1) (h .2) (h .3)));
+  stretches = λ w i q. desk-stretch p n t F out w i (party-facts n i q .0) (party-facts n i q .1);
+  all-written = λ w. ap length (desk-list p n t F out w) ∙ length-deals p (suc t) F (desk-written p n t F out w .1) n;
+  row-right = λ y x. row-at p (suc t) (suc t) F x y;
+  column-right = λ e x y. column-at p (suc t) (suc t) F x y e;
+  one = desk-size p n t F out;
+  three = desk-length p n t F out;
+  five = desk-residue p n t F out;
+  untouched = desk-refused p n t F out;
 }
+
+-- ---- taking a deal and hearing pairs
+takes-right : (p : ℕ) (l : Lamp) (d : List ℕ) → Takes l d → TakesRight p l d
+unfolding withDeal
+takes-right p l d h =
+    let is = takes l (h .sized) p d (ap₂ (λ (a b : Bool). a && b) (eq-eqb (length d) (2 * suc (l .t)) (h .long)) (ap (λ s. eqb (stageNumber s) 0) (h .stage))) in
+    let row-size : length (rowOf (l .t) d) ≡ suc (l .t) = length-take-le (suc (l .t)) d (omega (arith, h .long)) in
+    let column-size : length (columnOf (l .t) d) ≡ suc (l .t) = length-drop (suc (l .t)) d ∙ omega (arith, h .long) in
+    record {
+      answered = (ap (λ (z : Reply). numberOf (z .answer)) is, ap (λ (z : Reply). valuesOf (z .answer)) is);
+      row-kept = ap (λ (z : Reply). rowOfLamp (z .lamp)) is ∙ take-at (rowOf (l .t) d) (replicate (4 - length (rowOf (l .t) d)) 0) (suc (l .t)) row-size;
+      column-kept = ap (λ (z : Reply). columnOfLamp (z .lamp)) is ∙ take-at (columnOf (l .t) d) (replicate (4 - length (columnOf (l .t) d)) 0) (suc (l .t)) column-size;
+    }
+
+hears-right : (p : ℕ) (l : Lamp) (hs : List ℕ) → Hears l hs → HearsRight p l hs
+unfolding withPairs reportFrom
+hears-right p l hs h =
+    let is = hears l (h .sized) p hs (ap₂ (λ (a b : Bool). a && b) (eq-eqb (length hs) (2 * l .n) (h .long)) (ap (λ s. eqb (stageNumber s) 1) (h .stage))) in
+    record {
+      answered = (ap (λ (z : Reply). numberOf (z .answer)) is, ap (λ (z : Reply). valuesOf (z .answer)) is);
+      firsts-kept = λ j q. ap (λ (z : Reply). entry (z .lamp .heard) j) is ∙ heard-entry (l .n) hs j q;
+      row-kept = ap (λ (z : Reply). rowOfLamp (z .lamp)) is;
+      column-kept = ap (λ (z : Reply). columnOfLamp (z .lamp)) is;
+    }
 
 -- Demand 2, for every prime above 16.
 pub demand2-for : (p : ℕ) → Prime p → 16 < p → Demand2 p
 demand2-for p P big = record {
+  taking = takes-right p;
+  hearing = hears-right p;
   rejecting = rejects-right p P big;
   keeping = λ l rs h some-agree. (happySet rs, keeps-right p P big l rs h (many l rs h some-agree));
   repairing = λ l rs S h k out.
@@ -287,7 +321,7 @@ demand2-for p P big = record {
     many : (l : Lamp) (rs : List ℕ) (h : Settles l rs) → (FewAgree (l .n) (l .t) rs → ⊥) → l .n - l .t ≤ ones (happySet rs)
     many l rs h some-agree =
         ⊎-elim (λ q. q)
-        (λ few. absurd (some-agree (λ s w c. omega (arith, largest p P big l rs h .most s w c))))
+        (λ few. absurd (some-agree (λ s w c. omega (arith, largest p P big l rs h .most s w c, ones-members (l .n) s w))))
         (le-or-lt (l .n - l .t) (ones (happySet rs)))
 
     once : (l : Lamp) (rs : List ℕ) (S : ℕ) (h : Settles l rs) → KeepsRight p l rs S → S ≡ happySet rs

@@ -1,6 +1,7 @@
 -- Every plot meets the premises of demand 3; and three plots, played by the definitions themselves: one with an honest dealer, one
 -- accepted with a liar and a repair, one rejected.
 use mathlib.Core.Path.{_≡_, refl, sym, ap, ap₂, subst, _∙_}
+use mathlib.Core.Logic.{⊎-elim}
 use mathlib.Core.Bool.{Bool, true, false, cond, not}
 use mathlib.Core.Option.{Option, none, some}
 use mathlib.Core.List.{List, [], _∷_, zipWith}
@@ -29,8 +30,8 @@ use Rattle.lamp.specs.declared.Reply.{Reply}
 use Rattle.lamp.specs.Answer.{numberOf, valuesOf}
 use Rattle.lamp.specs.Lamp.{settle, openShares, step, check, lowest, withDeal, withPairs, reportFrom, settled, repair, opening, atEnd}
 use Rattle.lamp.specs.Deal.{rowOf, columnOf, firstFrom, secondFrom, sound, pairFor, confirms, reportOf}
-use Rattle.agreement.specs.Calls.{whole, toReports, sinceSettling}
-use Rattle.agreement.specs.Demand3.{Honest, Premises, HonestDealer, Accepted, lampAt, answerAt, Demand3}
+use Rattle.agreement.specs.Calls.{whole, toReports, sinceSettling, Never, isDeal, isHearing, isSettling}
+use Rattle.agreement.specs.Demand3.{Honest, Premises, HonestDealer, AllReject, AllAccept, lampAt, answerAt, Demand3}
 use Rattle.agreement.specs.Stories.{Plot, pairHeard, pairsHeard, reportsSeen, runOf, execution, anF, honestDealer, liar, twoDealers}
 use Rattle.agreement.proofs.Agreement.{demand3}
 
@@ -68,22 +69,24 @@ module _ (p n t : ℕ) (s : Plot) where
       ∙ ap (λ m. cond (s .good m) (its m) (s .claims m)) place
       ∙ ap (λ b. cond b (its i) (s .claims i)) e
 
-  -- Whatever the plot, the premises are met.
+  -- The premises are met.
   pub premises : sizes n t ≡ true → count (λ i. not (s .good i)) (parties n) ≤ t
-      → ((i : ℕ) → isParty n i ≡ true → s .good i ≡ true → length (s .dealTo i) ≡ 2 * suc t) → Premises p n t (execution p n t s)
+      → ((i : ℕ) → isParty n i ≡ true → s .good i ≡ true → length (s .dealTo i) ≡ 2 * suc t)
+      → Never (isDeal t) (s .early) → Never (isHearing n) (s .between) → ((i r : ℕ) → Never (isSettling n i r) (s .late))
+      → Premises p n t (execution p n t s)
   unfolding pairsHeard reportsSeen
-  premises size few long = record {
+  premises size few long no-deal no-pairs no-reports = record {
     size = size;
     few = few;
     brings = λ i h. record {
       list = refl;
       dealLength = long i (h .party) (h .good);
-      dealFirst = tt;
+      dealFirst = no-deal;
       pairsLength = length-tabulate _ (2 * n);
-      pairsFirst = tt;
+      pairsFirst = no-pairs;
       reportsLength = length-tabulate _ n;
       reportsOwn = own-report i (h .party) (h .good);
-      reportsFirst = tt;
+      reportsFirst = no-reports i _;
     };
     hear = λ i j hi hj d. (
       first-heard i j (hj .party) ∙ ap (λ (q : ℕ × ℕ). q .0) (honest-pair i j (hj .good)),
@@ -111,16 +114,16 @@ deal-long i = length-deal modulus 2 anF refl i
 -- The dealer is honest, and lamp 3 is not: accepted, with the dealer's own F.
 pub honestDealerMeets : Premises modulus 5 1 (execution modulus 5 1 (honestDealer modulus))
 unfolding sizes tabulate
-honestDealerMeets = premises modulus 5 1 (honestDealer modulus) refl (lit≤ tt) (λ i q g. deal-long i)
+honestDealerMeets = premises modulus 5 1 (honestDealer modulus) refl (lit≤ tt) (λ i q g. deal-long i) tt tt (λ i r. tt)
 
-pub honestDealerAccepted : Accepted modulus 5 1 (execution modulus 5 1 (honestDealer modulus)) anF
+pub honestDealerAccepted : AllAccept modulus 5 1 (execution modulus 5 1 (honestDealer modulus)) anF
 unfolding Demand3
 honestDealerAccepted =
     demand3 5 1 (execution modulus 5 1 (honestDealer modulus)) honestDealerMeets .dealer anF (record {
       lent = replicate 20 0;
       written = written;
       deals = λ i h. sym (desk-stretch modulus 5 1 anF (replicate 20 0) written i (party-facts 5 i (h .party) .0) (party-facts 5 i (h .party) .1));
-    })
+    }) .0
   where
     written : numberOfDealing (desk modulus 5 1 anF (replicate 20 0) .1) ≡ none
     written = unfold desk verdict sizes in refl
@@ -128,7 +131,7 @@ honestDealerAccepted =
 -- Lamp 5's deal is unsound and lamp 3 lies to it: accepted with the set of lamps 1 to 4, and lamp 5 repairs its share.
 pub liarMeets : Premises modulus 5 1 (execution modulus 5 1 (liar modulus))
 unfolding sizes tabulate
-liarMeets = premises modulus 5 1 (liar modulus) refl (lit≤ tt) (λ i q g. long (eqb i 5) i)
+liarMeets = premises modulus 5 1 (liar modulus) refl (lit≤ tt) (λ i q g. long (eqb i 5) i) (refl, (refl, (refl, tt))) (refl, (refl, (refl, tt))) (λ i r. (refl, (refl, tt)))
   where
     long : (b : Bool) (i : ℕ) → length (cond b (17 ∷ 24 ∷ 22 ∷ 22 ∷ []) (deal modulus 2 anF i)) ≡ 4
     long true i = refl
@@ -146,7 +149,7 @@ liarOpened = refl
 -- Two polynomials were dealt: rejected by everyone.
 pub twoDealersMeet : Premises modulus 5 1 (execution modulus 5 1 (twoDealers modulus))
 unfolding sizes tabulate
-twoDealersMeet = premises modulus 5 1 (twoDealers modulus) refl (lit≤ tt) (λ i q g. long (leb i 2) i)
+twoDealersMeet = premises modulus 5 1 (twoDealers modulus) refl (lit≤ tt) (λ i q g. long (leb i 2) i) tt tt (λ i r. tt)
   where
     long : (b : Bool) (i : ℕ) → length (cond b (deal modulus 2 anF i) (deal modulus 2 (8 ∷ 9 ∷ 3 ∷ 1 ∷ []) i)) ≡ 4
     long true i = deal-long i
@@ -155,3 +158,20 @@ twoDealersMeet = premises modulus 5 1 (twoDealers modulus) refl (lit≤ tt) (λ 
 pub twoDealersOutcome : outcomes (twoDealers modulus) ≡ (some 8, 0, 0) ∷ (some 8, 0, 0) ∷ (some 8, 0, 0) ∷ (some 8, 0, 0) ∷ []
 unfolding pairHeard pairsHeard reportsSeen step check lowest withDeal withPairs reportFrom settled repair opening atEnd reportOf confirms pairFor sound sizes isParty pointOf notSent deal fit received hits sent through interpolate zipWith happySet largestIn largest best better joins agreements agree mask tabulate at pow add sub mul inv invWithin ones
 twoDealersOutcome = refl
+
+pub twoDealersRejected : AllReject modulus 5 1 (execution modulus 5 1 (twoDealers modulus))
+unfolding Demand3
+twoDealersRejected =
+    ⊎-elim (λ all. all)
+    (λ one. absurd (none-eight (sym (one .1 .hold 1 first .answered .0) ∙ ap (λ os. head os) twoDealersOutcome)))
+    (demand3 5 1 (execution modulus 5 1 (twoDealers modulus)) twoDealersMeet .one-verdict)
+  where
+    first : Honest modulus 5 1 (execution modulus 5 1 (twoDealers modulus)) 1
+    first = record { party = unfold isParty in refl; good = refl }
+
+    head : List (Option ℕ × ℕ × ℕ) → Option ℕ
+    head [] = none
+    head (o ∷ os) = o .0
+
+    none-eight : _≡_ {A = Option ℕ} none (some 8) → ⊥
+    none-eight e = let z : _≡_ {A = ℕ} 0 1 = cc in omega arith

@@ -1,9 +1,8 @@
 -- Demand 2, one type: dealing, the happy set, repair and opening are right, for any lamp and any list that the caller's refusals do not meet.
---   Arrays l            the lamp's arrays have the lengths that they have in the code
---   Settles, Opens      nothing is wrong with the call: none of 1, 2, 3, 4 and 7 applies
---   fewAgree n t rs     no n − t parties all agree with each other
---   Nearest p t xs ys f   f has degree at most t and differs from the points in at most t places
---   Demand2 p           the demand, for arithmetic modulo p
+--   Takes, Hears, Settles, Opens   nothing is wrong with the call: none of 1, 2, 3, 4 and 7 applies
+--   FewAgree n t rs                no n − t parties all agree with each other
+--   Nearest p t xs ys f            f has degree at most t and differs from the points in at most t places (document 01: it fits)
+--   Demand2 p                      the demand, for arithmetic modulo p
 use mathlib.Core.Path.{_≡_}
 use mathlib.Core.Logic.{_↔_}
 use mathlib.Core.Bool.{Bool, true, false}
@@ -14,20 +13,21 @@ use lib.Count.{ones}
 use lib.ListN.{length, take, set}
 use Rattle.lists.specs.Masks.{bit, members}
 use Rattle.lists.specs.Tabulate.{tabulate}
-use Rattle.polynomial.specs.Polynomial.{Poly}
-use Rattle.polynomial.specs.Bivariate.{row, column}
+use Rattle.polynomial.specs.Polynomial.{Poly, Residues, value}
+use Rattle.polynomial.specs.Bivariate.{at, row, column}
 use Rattle.happy.specs.Agreement.{agree}
 use Rattle.happy.specs.Clique.{Clique, Largest}
 use Rattle.lists.specs.Choices.{select}
 use Rattle.fit.specs.Fit.{misses}
-use Rattle.parties.specs.Parties.{isParty, pointOf, points, member, entry}
+use Rattle.parties.specs.Parties.{sizes, isParty, pointOf, points, member, entry}
 use Rattle.dealer.specs.Desk as desks
 use Rattle.lamp.specs.declared.Stage.{Stage}
-use Rattle.lamp.specs.declared.Stage.the-variants.{Reported, Holding, Closed}
+use Rattle.lamp.specs.declared.Stage.the-variants.{Waiting, Dealt, Reported, Holding, Closed}
 use Rattle.lamp.specs.declared.Lamp.{Lamp}
 use Rattle.lamp.specs.declared.Reply.{Reply}
 use Rattle.lamp.specs.Answer.{numberOf}
-use Rattle.lamp.specs.Lamp.{Sized, columnOfLamp, constant, settle, openShares, step}
+use Rattle.lamp.specs.Deal.{rowOf, columnOf, firstFrom, reportOf}
+use Rattle.lamp.specs.Lamp.{Sized, rowOfLamp, columnOfLamp, constant, takeDeal, hearPairs, settle, openShares, step}
 use Rattle.agreement.specs.Demand3.{Gives, Refuses}
 
 -- f has degree at most t, and at most t of the points differ from it (document 01's "fits").
@@ -37,7 +37,7 @@ pub record Nearest (p t : ℕ) (xs ys f : List ℕ) : Type 0 where
 
 -- No n − t parties all agree with each other.
 abbrev pub FewAgree : ℕ → ℕ → List ℕ → Type 0
-FewAgree n t rs = (s : ℕ) → s < 2 ^ n → Clique (agree rs) s → ones s < n - t
+FewAgree n t rs = (s : ℕ) → s < 2 ^ n → Clique (agree rs) s → members s n < n - t
 
 -- The points and the first numbers heard, of the parties in S.
 abbrev pub pointsIn : ℕ → ℕ → List ℕ
@@ -51,6 +51,18 @@ pub record Stands (l : Lamp) (s : Stage) (S v : ℕ) : Type 0 where
   pub stands : l .stage ≡ s
   pub set-kept : l .happy ≡ S
   pub share-kept : l .share ≡ v
+
+-- Nothing is wrong with giving the lamp l the deal d.
+pub record Takes (l : Lamp) (d : List ℕ) : Type 0 where
+  pub sized : Sized l
+  pub stage : l .stage ≡ Waiting
+  pub long : length d ≡ 2 * suc (l .t)
+
+-- Nothing is wrong with telling the lamp l the pairs hs.
+pub record Hears (l : Lamp) (hs : List ℕ) : Type 0 where
+  pub sized : Sized l
+  pub stage : l .stage ≡ Dealt
+  pub long : length hs ≡ 2 * l .n
 
 -- Nothing is wrong with settling the lamp l on the reports rs.
 pub record Settles (l : Lamp) (rs : List ℕ) : Type 0 where
@@ -67,6 +79,18 @@ pub record Opens (l : Lamp) (xs : List ℕ) : Type 0 where
   pub long : length xs ≡ l .n
 
 module _ (p : ℕ) where
+  -- The lamp keeps the row and the column that it was dealt, and the first number that it heard from each party.
+  pub record TakesRight (l : Lamp) (d : List ℕ) : Type 0 where
+    pub answered : Gives (step p l (takeDeal d) .answer) []
+    pub row-kept : rowOfLamp (step p l (takeDeal d) .lamp) ≡ rowOf (l .t) d
+    pub column-kept : columnOfLamp (step p l (takeDeal d) .lamp) ≡ columnOf (l .t) d
+
+  pub record HearsRight (l : Lamp) (hs : List ℕ) : Type 0 where
+    pub answered : Gives (step p l (hearPairs hs) .answer) (reportOf p (l .n) (l .number) (rowOfLamp l) (columnOfLamp l) hs ∷ [])
+    pub firsts-kept : (j : ℕ) → isParty (l .n) j ≡ true → entry (step p l (hearPairs hs) .lamp .heard) j ≡ firstFrom hs j
+    pub row-kept : rowOfLamp (step p l (hearPairs hs) .lamp) ≡ rowOfLamp l
+    pub column-kept : columnOfLamp (step p l (hearPairs hs) .lamp) ≡ columnOfLamp l
+
   -- "The dealer is rejected if no n-t lamps all agree with each other", and exactly then: closed, share 0, empty set.
   pub record RejectsRight (l : Lamp) (rs : List ℕ) : Type 0 where
     pub exactly : Refuses (step p l (settle rs) .answer) 8 ↔ FewAgree (l .n) (l .t) rs
@@ -101,15 +125,27 @@ module _ (p : ℕ) where
         → Gives (step p l (openShares xs) .answer) (constant f ∷ [])
     pub unchanged : step p l (openShares xs) .lamp ≡ l
 
-  -- "Dealing gives exactly the rows and columns of the dealer's polynomial", each party's in its own stretch; a refusal writes nothing.
+  -- "Dealing gives exactly the rows and columns of the dealer's polynomial", each party's in its own stretch: F(X, i), then F(i, Y). The desk
+  -- writes exactly where nothing is wrong, answers the lowest number that applies, and on a refusal writes nothing.
   pub record DealsRight (n t : ℕ) (F out : List ℕ) : Type 0 where
-    pub deals : desks.numberOf (desks.desk p n t F out .1) ≡ none → (i : ℕ) → isParty n i ≡ true
+    pub exactly : (desks.numberOf (desks.desk p n t F out .1) ≡ none)
+        ↔ ((sizes n t ≡ true) × (length F ≡ suc t * suc t) × (length out ≡ n * (2 * suc t)) × Residues p F)
+    pub stretches : desks.numberOf (desks.desk p n t F out .1) ≡ none → (i : ℕ) → isParty n i ≡ true
         → desks.stretch (suc t) (desks.desk p n t F out .0) i ≡ row p (suc t) (suc t) F (pointOf i) ++ column p (suc t) (suc t) F (pointOf i)
-    pub whole : desks.numberOf (desks.desk p n t F out .1) ≡ none → length (desks.desk p n t F out .0) ≡ n * (2 * suc t)
-    pub refuses : (k : ℕ) → desks.numberOf (desks.desk p n t F out .1) ≡ some k → desks.desk p n t F out .0 ≡ out
+    pub all-written : desks.numberOf (desks.desk p n t F out .1) ≡ none → length (desks.desk p n t F out .0) ≡ n * (2 * suc t)
+    pub row-right : (y x : ℕ) → value p (row p (suc t) (suc t) F y) x ≡ at p (suc t) (suc t) F x y
+    pub column-right : length F ≡ suc t * suc t → (x y : ℕ) → value p (column p (suc t) (suc t) F x) y ≡ at p (suc t) (suc t) F x y
+    pub one : sizes n t ≡ false → desks.numberOf (desks.desk p n t F out .1) ≡ some 1
+    pub three : sizes n t ≡ true → ((length F ≡ suc t * suc t) × (length out ≡ n * (2 * suc t)) → ⊥)
+        → desks.numberOf (desks.desk p n t F out .1) ≡ some 3
+    pub five : sizes n t ≡ true → length F ≡ suc t * suc t → length out ≡ n * (2 * suc t) → (Residues p F → ⊥)
+        → desks.numberOf (desks.desk p n t F out .1) ≡ some 5
+    pub untouched : (k : ℕ) → desks.numberOf (desks.desk p n t F out .1) ≡ some k → desks.desk p n t F out .0 ≡ out
 
   -- DEMAND 2, for arithmetic modulo p.
   pub record Demand2 : Type 0 where
+    pub taking : (l : Lamp) (d : List ℕ) → Takes l d → TakesRight l d
+    pub hearing : (l : Lamp) (hs : List ℕ) → Hears l hs → HearsRight l hs
     pub rejecting : (l : Lamp) (rs : List ℕ) → Settles l rs → RejectsRight l rs
     pub keeping : (l : Lamp) (rs : List ℕ) → Settles l rs → (FewAgree (l .n) (l .t) rs → ⊥) → (S : ℕ) × KeepsRight l rs S
     pub repairing : (l : Lamp) (rs : List ℕ) (S : ℕ) → Settles l rs → KeepsRight l rs S → member S (l .number) ≡ false → RepairsRight l rs S

@@ -2,7 +2,7 @@
 --   Execution          who is honest, the calls of each lamp, and the reports that all see
 --   Brings             the list brings its lamp a deal, pairs and reports
 --   Premises           all that demand 3 supposes; HonestDealer: what it supposes of an honest dealer
---   Speaks, Rejects, Accepts, Accepted   what it concludes of each lamp and of all
+--   Speaks, Rejects, Accepts   what it concludes of each lamp; AllReject, AllAccept: of all together
 --   Demand3 p          the demand, for arithmetic modulo p
 use mathlib.Core.Path.{_≡_}
 use mathlib.Core.Logic.{_⊎_}
@@ -10,9 +10,11 @@ use mathlib.Core.Bool.{Bool, true, not}
 use mathlib.Core.Option.{none, some}
 use mathlib.Core.List.{List, [], _∷_, _++_}
 use Prim.Native.Nat.{ℕ, suc, _*_, _≤_}
-use lib.ListN.{length}
+use lib.ListN.{length, getD}
 use Rattle.polynomial.specs.Polynomial.{Poly}
 use Rattle.polynomial.specs.Bivariate.{at, row, column}
+use Rattle.happy.specs.Agreement.{agree}
+use Rattle.happy.specs.Clique.{Largest}
 use Rattle.happy.specs.Happy.{happySet}
 use Rattle.lists.specs.Choices.{count}
 use Rattle.parties.specs.Parties.{sizes, isParty, parties, pointOf, member, entry}
@@ -126,7 +128,7 @@ module _ (p n t : ℕ) where
 
     -- Settling gives 8, and the lamp stays closed, with the empty set and share 0.
     pub record Rejects (i : ℕ) (cs : List Call) (r : Run) : Type 0 where
-      pub verdict : Refuses (answerAt i (toReports r) (settle (r .itsReports))) 8
+      pub answered : Refuses (answerAt i (toReports r) (settle (r .itsReports))) 8
       pub stays : Stays i cs r Closed 0 0
 
     -- Lamp j's share, at the end of its list.
@@ -136,7 +138,7 @@ module _ (p n t : ℕ) where
     -- Settling accepts; the lamp stays holding, with the happy set and F(i, 0); and every opening of n numbers in which each other
     -- honest lamp's place holds that lamp's share answers F(0, 0).
     pub record Accepts (F : List ℕ) (i : ℕ) (cs : List Call) (r : Run) : Type 0 where
-      pub verdict : Gives (answerAt i (toReports r) (settle (r .itsReports))) []
+      pub answered : Gives (answerAt i (toReports r) (settle (r .itsReports))) []
       pub stays : Stays i cs r Holding (happySet (e .seen)) (at p (suc t) (suc t) F (pointOf i) 0)
       pub opens : (xs : List Call) (ys : List ℕ) → At cs (sinceSettling r xs) (openShares ys) → length ys ≡ n
           → ((j : ℕ) → Honest j → (j ≡ i → ⊥) → entry ys j ≡ shareOf j)
@@ -149,20 +151,21 @@ module _ (p n t : ℕ) where
       pub columns : (i : ℕ) → Honest i → member (happySet (e .seen)) i ≡ true → column p (suc t) (suc t) F (pointOf i) ≡ columnOf t (e .run i .itsDeal)
 
     -- Every honest lamp rejects the dealer.
-    abbrev pub Rejected : Type 0
-    Rejected = (i : ℕ) → Honest i → Rejects i (e .calls i) (e .run i)
+    abbrev pub AllReject : Type 0
+    AllReject = (i : ℕ) → Honest i → Rejects i (e .calls i) (e .run i)
 
-    -- Exactly this F, and every honest lamp accepts with it.
-    pub record Accepted (F : List ℕ) : Type 0 where
+    -- Exactly this F, and every honest lamp accepts with it; the happy set is the one of step 4.
+    pub record AllAccept (F : List ℕ) : Type 0 where
+      pub set-right : Largest (agree (e .seen)) n (happySet (e .seen))
       pub on : OnF F
       pub only : (G : List ℕ) → OnF G → G ≡ F
       pub hold : (i : ℕ) → Honest i → Accepts F i (e .calls i) (e .run i)
 
-    -- One verdict; an honest dealer is accepted, with F its own.
+    -- One verdict; an honest dealer is accepted, with F its own, and F(0, 0) is its secret, the number at place 0.
     pub record Conclusions : Type 0 where
       pub speak : (i : ℕ) → Honest i → Speaks i (e .calls i) (e .run i)
-      pub verdict : Rejected ⊎ ((F : List ℕ) × Accepted F)
-      pub dealer : (F : List ℕ) → HonestDealer F → Accepted F
+      pub one-verdict : AllReject ⊎ ((F : List ℕ) × AllAccept F)
+      pub dealer : (F : List ℕ) → HonestDealer F → AllAccept F × (at p (suc t) (suc t) F 0 0 ≡ getD F 0 0)
 
 -- DEMAND 3, for arithmetic modulo p.
 unfoldable pub Demand3 : ℕ → Type 0

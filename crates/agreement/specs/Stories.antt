@@ -1,29 +1,31 @@
 -- Executions made to order, for any choice of faulty lamps and of what they send: demand 3 is not about nothing.
---   Plot              who is honest, each lamp's deal, what a faulty lamp says to each listener and reports
---   execution p n t   the execution: each honest lamp is given its deal, hears and settles, then opens some lists
+--   Plot              who is honest, each lamp's deal, what a faulty lamp says to each listener and reports, and the calls around the three
+--   execution p n t   the execution: each honest lamp is given its deal, hears and settles, with other calls before, between and after
 --   honestDealer, liar, twoDealers   three plots for n = 5 and t = 1
--- The premises are met by every plot: proofs/Stories.
+-- A plot within the sizes, with at most t faulty lamps, deals of the right length and no earlier right call, meets the premises: proofs/Stories.
 use mathlib.Core.Bool.{Bool, true, false, cond, not}
-use mathlib.Core.List.{List, [], _∷_, map}
+use mathlib.Core.List.{List, [], _∷_}
 use Prim.Native.Nat.{ℕ, suc, _*_, _/_, _%_}
 use lib.Dec.{eqb, leb}
 use Rattle.lists.specs.Tabulate.{tabulate}
-use Rattle.polynomial.specs.Polynomial.{value}
 use Rattle.polynomial.specs.Bivariate.{at}
-use Rattle.parties.specs.Parties.{pointOf}
 use Rattle.dealer.specs.Desk as desks
 use Rattle.lamp.specs.Deal.{rowOf, columnOf, pairFor, reportOf}
-use Rattle.lamp.specs.Lamp.{openShares}
+use Rattle.lamp.specs.Lamp.{Call, takeDeal, sayPair, hearPairs, settle, openShares}
 use Rattle.agreement.specs.Calls.{Run, whole}
 use Rattle.agreement.specs.Demand3.{Execution}
 
--- Who is honest; each honest lamp's deal; what the faulty lamp j says to i; what it reports; the lists that are opened in the end.
+-- Who is honest; each honest lamp's deal; what the faulty lamp j says to i; what it reports; the calls before the deal, between deal and
+-- pairs, between pairs and reports, and after.
 pub record Plot : Type 0 where
   pub good : ℕ → Bool
   pub dealTo : ℕ → List ℕ
   pub liesTo : ℕ → ℕ → ℕ × ℕ
   pub claims : ℕ → ℕ
-  pub published : List (List ℕ)
+  pub early : List Call
+  pub between : List Call
+  pub late : List Call
+  pub behind : List Call
 
 module _ (p n t : ℕ) (s : Plot) where
   -- The pair that i hears from j.
@@ -43,13 +45,13 @@ module _ (p n t : ℕ) (s : Plot) where
 
   abbrev pub runOf : ℕ → Run
   runOf i = record {
-    beforeDeal = [];
+    beforeDeal = s .early;
     itsDeal = s .dealTo i;
-    beforePairs = [];
+    beforePairs = s .between;
     itsPairs = pairsHeard i;
-    beforeReports = [];
+    beforeReports = s .late;
     itsReports = reportsSeen;
-    rest = map openShares (s .published);
+    rest = s .behind;
   }
 
   abbrev pub execution : Execution
@@ -71,17 +73,24 @@ module _ (p : ℕ) where
     dealTo = λ i. desks.deal p 2 anF i;
     liesTo = λ i j. (i, 65535);
     claims = λ j. 65535;
-    published = (10 ∷ 13 ∷ 999 ∷ 19 ∷ 22 ∷ []) ∷ [];
+    early = [];
+    between = [];
+    late = [];
+    behind = openShares (10 ∷ 13 ∷ 999 ∷ 19 ∷ 22 ∷ []) ∷ [];
   }
 
-  -- The dealer gives lamp 5 an unsound deal, row 17 + 24 X; lamp 3 tells lamps 1, 2 and 4 what is right and lamp 5 a lie.
+  -- The dealer gives lamp 5 an unsound deal, row 17 + 24 X; lamp 3 tells lamps 1, 2 and 4 what is right and lamp 5 a lie. Everyone gets stray
+  -- calls besides: a short deal and a settling too early, a second deal, a second hearing, short lists.
   abbrev pub liar : Plot
   liar = record {
     good = butThree;
     dealTo = λ i. cond (eqb i 5) (17 ∷ 24 ∷ 22 ∷ 22 ∷ []) (desks.deal p 2 anF i);
     liesTo = λ i j. cond (eqb i 5) (999, 1) (at p 2 2 anF i 3, at p 2 2 anF 3 i);
     claims = λ j. 11;
-    published = (0 ∷ 13 ∷ 999 ∷ 19 ∷ 22 ∷ []) ∷ [];
+    early = sayPair 2 ∷ takeDeal (1 ∷ 2 ∷ 3 ∷ []) ∷ settle (0 ∷ 0 ∷ 0 ∷ 0 ∷ 0 ∷ []) ∷ [];
+    between = takeDeal (9 ∷ 9 ∷ 9 ∷ 9 ∷ []) ∷ sayPair 2 ∷ openShares (1 ∷ 2 ∷ 3 ∷ 4 ∷ 5 ∷ []) ∷ [];
+    late = hearPairs (0 ∷ 0 ∷ 0 ∷ 0 ∷ 0 ∷ 0 ∷ 0 ∷ 0 ∷ 0 ∷ 0 ∷ []) ∷ settle (1 ∷ 2 ∷ 3 ∷ []) ∷ [];
+    behind = openShares (1 ∷ 2 ∷ 3 ∷ []) ∷ settle (0 ∷ 0 ∷ 0 ∷ 0 ∷ 0 ∷ []) ∷ openShares (0 ∷ 13 ∷ 999 ∷ 19 ∷ 22 ∷ []) ∷ [];
   }
 
   -- The dealer deals one polynomial to lamps 1 and 2 and another to the rest.
@@ -91,5 +100,8 @@ module _ (p : ℕ) where
     dealTo = λ i. cond (leb i 2) (desks.deal p 2 anF i) (desks.deal p 2 (8 ∷ 9 ∷ 3 ∷ 1 ∷ []) i);
     liesTo = λ i j. (0, 0);
     claims = λ j. 0;
-    published = [];
+    early = [];
+    between = [];
+    late = [];
+    behind = [];
   }

@@ -10,7 +10,7 @@ ghost use Rattle.lists.specs.Choices.{hide};
 ghost use Rattle.fit.specs.Fit.{fit};
 ghost use Rattle.fit.specs.Answer.{answer};
 ghost use Rattle.parties.specs.Parties.{points, member, notSent};
-ghost use Rattle.lamp.specs.Answer.{stageNumber};
+ghost use Rattle.lamp.specs.Answer.{refusalNumber, stageNumber};
 ghost use Rattle.lamp.specs.Deal.{sound, pairFor, confirms, reportOf};
 ghost use Rattle.lamp.specs.Lamp.{make, refuse, lowest, check, withDeal, firsts, withPairs, atEnd, repair, settled, opening, opened, step, takeDeal, sayPair, hearPairs, settle, openShares, Sized};
 
@@ -66,6 +66,22 @@ pub struct Lamp {
 pub struct Reply {
     pub lamp: Lamp,
     pub answer: Answer,
+}
+
+// Document 01's number of a refusal.
+pub fn refusal_number(why: Refusal) -> u8
+    ensures { λ r. ⌜ r ≡ refusalNumber why ⌝ }
+{
+    match why {
+        Refusal::WrongSize => 1,
+        Refusal::WrongNumber => 2,
+        Refusal::WrongLength => 3,
+        Refusal::WrongStage => 4,
+        Refusal::AlteredReport => 7,
+        Refusal::DealerRejected => 8,
+        Refusal::NoColumn => 9,
+        Refusal::NoOpening => 10,
+    }
 }
 
 // The stages in order, from 0.
@@ -221,7 +237,8 @@ fn report(n: u8, i: u8, row: &[u16], column: &[u16], pairs: &[u16]) -> u16
     }
     let mut bits: u16 = 0;
     for k in 0..n {
-        if confirms(i, row, column, pairs, k + 1) {
+        let j = k + 1;
+        if confirms(i, row, column, pairs, j) {
             bits += 1u16 << k;
         }
     }

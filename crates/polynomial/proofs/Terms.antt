@@ -1,14 +1,14 @@
 -- F(x, y), the sum of F's terms, is the value of F's row at x and of its column at y; F(0, 0) is place 0.
 use mathlib.Core.Path.{_≡_, refl, sym, ap, ap₂, _∙_}
 use mathlib.Core.List.{List, [], _∷_}
-use Prim.Native.Nat.{ℕ, zero, suc, _+_, _*_, _%_}
-use native.Mathlib.Nat.{zero-mod, mod-mod}
+use Prim.Native.Nat.{ℕ, zero, suc, _+_, _*_, _%_, _<_}
+use native.Mathlib.Nat.{zero-mod, mod-mod, mod-eq-of-lt}
 use native.Mathlib.Omega.{arith}
 use lib.ListN.{length, take, drop, getD}
 use lib.Seq.{getD-drop}
 use Rattle.field.specs.Arithmetic.{add, mul, pow}
 use Rattle.field.proofs.Ring.{add-zero, mul-zero, mul-one, mul-add, mul-comm, mul-mod, mul-assoc, mul-left-comm, add-mod, add-comm, pow-zero, pow-suc}
-use Rattle.polynomial.specs.Polynomial.{value}
+use Rattle.polynomial.specs.Polynomial.{Residues, value}
 use Rattle.polynomial.specs.Bivariate.{sum, at, row, column}
 use Rattle.polynomial.proofs.Division.{value-zero}
 use Rattle.polynomial.proofs.Crossing.{crossing}
@@ -98,3 +98,8 @@ module _ (p : ℕ) where
       constant : (F : List ℕ) → value p (take (suc n) F) 0 ≡ getD F 0 0 % p
       constant [] = sym (zero-mod p)
       constant (c ∷ F) = value-zero p c (take n F)
+
+  -- Where F's numbers are residues, that very number: the secret.
+  pub at-secret : (k n : ℕ) (F : List ℕ) → 0 < p → Residues p F → at p (suc k) (suc n) F 0 0 ≡ getD F 0 0
+  at-secret k n [] positive r = at-zero k n [] ∙ zero-mod p
+  at-secret k n (c ∷ F) positive r = at-zero k n (c ∷ F) ∙ mod-eq-of-lt (r .0)

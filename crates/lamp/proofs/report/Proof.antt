@@ -26,8 +26,8 @@ returns c = report-unsound modulus _ _ _ _ _ (sym (c .before .sound .ensures) �
 loop-holds : tie.Need-loop-holds Inv-loop μ-loop
 loop-holds c = let a = c .before .before .before .before .before .args in (search needs, report-start modulus (a .i) (a .row .now) (a .column .now) (a .pairs .now))
 
-add-confirms : tie.Need-add-confirms Inv-loop μ-loop
-add-confirms c = search needs
+add-j : tie.Need-add-j Inv-loop μ-loop
+add-j c = search needs
 
 confirms-requires : tie.Need-confirms-requires Inv-loop μ-loop
 confirms-requires c κs =
@@ -82,7 +82,7 @@ report-spec =
     sound-requires
     returns
     loop-holds
-    add-confirms
+    add-j
     confirms-requires
     cast-bits
     shl-bits

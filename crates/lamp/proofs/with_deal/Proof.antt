@@ -27,7 +27,7 @@ returns c =
     let a = c .before .before .before .before .before .args in
     let d = a .deal .now in
     let all : length (drop (suc (a .lamp .t)) d) ≤ suc (a .lamp .t) = omega (arith, length-drop (suc (a .lamp .t)) d) in
-    rw (c .before .before .copied .ensures, c .before .copied2 .ensures, add-one (a .lamp .t), take-all (suc (a .lamp .t)) (drop (suc (a .lamp .t)) d) all)
+    simp (c .before .before .copied .ensures, c .before .copied2 .ensures, add-one (a .lamp .t), take-all (suc (a .lamp .t)) (drop (suc (a .lamp .t)) d) all)
 
 pub with-deal-spec : {M : Type 1} → statement M
 with-deal-spec =

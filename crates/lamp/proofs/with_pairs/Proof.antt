@@ -12,7 +12,7 @@ given-report-requires c κs = search needs
 
 returns : tie.Need-returns
 unfolding withPairs reportFrom
-returns c = rw (c .before .firsts .ensures, c .given-report .ensures)
+returns c = simp (c .before .firsts .ensures, c .given-report .ensures)
 
 pub with-pairs-spec : {M : Type 1} → statement M
 with-pairs-spec = tie.close (tie.spec firsts-requires given-report-requires returns)
