@@ -1,0 +1,99 @@
+// Hearing pairs: the ones for parties that confirm, the report, and the first numbers kept.
+ghost use mathlib.Core.Path.{_≡_};
+ghost use mathlib.Core.Bool.{true};
+ghost use Prim.Native.Nat.{suc, _*_, _≤_};
+ghost use lib.ListN.{length, take};
+ghost use Rattle.lists.specs.Tabulate.{pad};
+ghost use Rattle.field.specs.Modulus.{modulus};
+ghost use Rattle.lamp.specs.Deal.{sound, confirms, reportOf};
+ghost use Rattle.lamp.specs.Lamp.{firsts, withPairs};
+use crate::Lamp;
+use crate::Stage;
+use crate::dealing::sound;
+
+// Whether party i, whose deal is sound, has a one for party j.
+pub(crate) fn confirms(i: u8, row: &[u16], column: &[u16], pairs: &[u16], j: u8) -> bool
+    requires { ⌜ (1 ≤ j) × (2 * j ≤ length (now pairs)) × (sound modulus i (now row) (now column) ≡ true) ⌝ }
+    ensures { λ r. ⌜ r ≡ confirms modulus i (now (row .entry)) (now (column .entry)) (now (pairs .entry)) j ⌝ }
+{
+    if i == j {
+        return false;
+    }
+    let at = 2 * (j as usize - 1);
+    let point = parties::point(j);
+    if pairs[at] != polynomial::value(column, point) {
+        return false;
+    }
+    pairs[at + 1] == polynomial::value(row, point)
+}
+
+// Party i's report on n pairs. With an unsound deal it has a one for nobody.
+pub(crate) fn report(n: u8, i: u8, row: &[u16], column: &[u16], pairs: &[u16]) -> u16
+    requires { ⌜ (n ≤ 16) × (length (now pairs) ≡ 2 * n) ⌝ }
+    ensures { λ r. ⌜ r ≡ reportOf modulus n i (now (row .entry)) (now (column .entry)) (now (pairs .entry)) ⌝ }
+{
+    if !sound(i, row, column) {
+        return 0;
+    }
+    let mut bits: u16 = 0;
+    for k in 0..n {
+        let j = k + 1;
+        if confirms(i, row, column, pairs, j) {
+            bits += 1u16 << k;
+        }
+    }
+    bits
+}
+
+// The same from arrays, whose first t + 1 numbers are the row and the column.
+pub(crate) fn given_report(
+    n: u8,
+    i: u8,
+    t: u8,
+    row: [u16; 4],
+    column: [u16; 4],
+    pairs: &[u16],
+) -> u16
+    requires { ⌜ (n ≤ 16) × (t ≤ 3) × (length (now pairs) ≡ 2 * n) ⌝ }
+    ensures { λ r. ⌜ r ≡ reportOf modulus n i (take (suc t) row) (take (suc t) column) (now (pairs .entry)) ⌝ }
+{
+    let width = t as usize + 1;
+    report(n, i, &row[..width], &column[..width], pairs)
+}
+
+// The first number of each of n pairs, with zeros behind them.
+pub(crate) fn firsts(n: u8, pairs: &[u16]) -> [u16; 16]
+    requires { ⌜ (n ≤ 16) × (length (now pairs) ≡ 2 * n) ⌝ }
+    ensures { λ r. ⌜ r ≡ pad 16 (firsts n (now (pairs .entry))) ⌝ }
+{
+    let mut heard = [0u16; 16];
+    let mut at = 0;
+    for k in 0..n as usize {
+        heard[k] = pairs[at];
+        at += 2;
+    }
+    heard
+}
+
+// The lamp after n pairs, its report among what it keeps.
+pub(crate) fn with_pairs(lamp: Lamp, pairs: &[u16]) -> Lamp
+    requires { ⌜ (lamp .t ≤ 3) × (lamp .n ≤ 16) × (length (now pairs) ≡ 2 * lamp .n) ⌝ }
+    ensures { λ r. ⌜ r ≡ withPairs modulus lamp (now (pairs .entry)) ⌝ }
+{
+    let row = lamp.row;
+    let column = lamp.column;
+    let heard = firsts(lamp.n, pairs);
+    let bits = given_report(lamp.n, lamp.number, lamp.t, row, column, pairs);
+    Lamp {
+        n: lamp.n,
+        t: lamp.t,
+        number: lamp.number,
+        stage: Stage::Reported,
+        row: row,
+        column: column,
+        heard: heard,
+        report: bits,
+        happy: lamp.happy,
+        share: lamp.share,
+    }
+}
