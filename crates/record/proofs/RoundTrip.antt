@@ -1,0 +1,123 @@
+-- What is written is read: a record of legal contents is fine, its sections hold the lists that went in, and the code's buffer holds it.
+use mathlib.Core.Path.{_≡_, sym, ap, ap₂, _∙_}
+use mathlib.Core.Bool.{true}
+use mathlib.Core.List.{List, [], _∷_, _++_, append-assoc, append-nil}
+use Prim.Native.Nat.{ℕ, zero, suc, _+_, _*_, _≤_, _<_}
+use native.Mathlib.Omega.{arith}
+use lib.ListN.{length, getD, take, drop, length-append, List·getD-append}
+use lib.Seq.{take-at, drop-at}
+use borrow.Author.Tests.{eq-eqb}
+use Rattle.lists.specs.All.{All}
+use Rattle.parties.specs.Parties.{sizes}
+use Rattle.record.specs.declared.Reading.the-variants.{Fine}
+use Rattle.record.specs.Bytes.{numberAt, numbers, bytesOf, standAt, over}
+use Rattle.record.specs.Record.{sectionLength, sectionStart, directory, directoryRight, reading, sectionOf, recordOf, Contents, fits, writing}
+use Rattle.record.proofs.Bytes.{length-bytes, bytes-append, bytes-place, numbers-bytes, stand-true, over-front, over-rest}
+use Rattle.record.proofs.Sections.{length-directory, directory-below, record-head}
+use Rattle.record.proofs.Answers.{reading-fine, section-at}
+use Rattle.record.proofs.Writing.{Fit, double, fits-facts, length-record, writing-fits}
+
+-- A number that stands in the front bytes.
+front-place : (xs ys : List ℕ) (at : ℕ) → at + 1 < length xs → numberAt (xs ++ ys) at ≡ numberAt xs at
+front-place xs ys at h =
+    ap₂ (λ a b. a * 256 + b) (List·getD-append xs ys 0 at (omega arith)) (List·getD-append xs ys 0 (at + 1) h)
+
+-- A number behind the sizes.
+behind-sizes : (n t : ℕ) (bytes : List ℕ) (at : ℕ) → numberAt (n ∷ t ∷ bytes) (2 + at) ≡ numberAt bytes at
+behind-sizes n t bytes at =
+    let high : 2 + at ≡ suc (suc at) = omega arith in
+    let low : 2 + at + 1 ≡ suc (suc (at + 1)) = omega arith in
+    ap₂ (λ a b. getD (n ∷ t ∷ bytes) a 0 * 256 + getD (n ∷ t ∷ bytes) b 0) high low
+
+-- The middle of three parts.
+middle : (before part behind : List ℕ) (a m : ℕ) → length before ≡ a → length part ≡ m → take m (drop a (before ++ (part ++ behind))) ≡ part
+middle before part behind a m e f = ap (take m) (drop-at before (part ++ behind) a e) ∙ take-at part behind m f
+
+module _ (n t : ℕ) (deals pairs reports shares : List ℕ) (given : Contents n t deals pairs reports shares) where
+  fit : Fit n t (length deals) (length pairs) (length reports) (length shares) (sectionStart n t 4)
+  fit = record {
+    size = given .size;
+    first = ap (λ z. 2 * z) (given .first) ∙ double n (t + 1);
+    second = ap (λ z. 2 * z) (given .second) ∙ double n n;
+    third = ap (λ z. 2 * z) (given .third);
+    fourth = ap (λ z. 2 * z) (given .fourth);
+    whole = omega arith;
+  }
+
+  -- ---- The reader takes it
+  pub reading-record : reading (recordOf n t deals pairs reports shares) ≡ Fine
+  unfolding recordOf directoryRight
+  reading-record =
+      let rest : List ℕ = deals ++ pairs ++ reports ++ shares in
+      let bytes : List ℕ = recordOf n t deals pairs reports shares in
+      let end = length-record n t deals pairs reports shares fit in
+      let eight = length-directory n t in
+      let split : bytesOf (directory n t ++ deals ++ pairs ++ reports ++ shares) ≡ bytesOf (directory n t) ++ bytesOf rest = simp (bytes-append, append-assoc) in
+      let stand : standAt bytes 2 (directory n t) ≡ true =
+      stand-true bytes 2 (directory n t) (λ k h.
+      behind-sizes n t (bytesOf (directory n t ++ deals ++ pairs ++ reports ++ shares)) (2 * k)
+      ∙ ap (λ z. numberAt z (2 * k)) split
+      ∙ front-place (bytesOf (directory n t)) (bytesOf rest) (2 * k) (omega (arith, length-bytes (directory n t)))
+      ∙ bytes-place (directory n t) (directory-below n t (given .size)) k h) in
+      reading-fine bytes (omega (arith, record-head n t)) (given .size) (simp (eq-eqb _ _ end, stand))
+
+  -- ---- Each section is the bytes of its list
+  cut : (k : ℕ) (before xs behind : List ℕ) → k ≤ 3 → recordOf n t deals pairs reports shares ≡ before ++ (bytesOf xs ++ behind)
+      → length before ≡ sectionStart n t k → 2 * length xs ≡ sectionLength n t k → sectionOf (recordOf n t deals pairs reports shares) k ≡ bytesOf xs
+  unfolding recordOf
+  cut k before xs behind h e a m =
+      section-at (recordOf n t deals pairs reports shares) k reading-record h
+      ∙ ap (λ z. take (sectionLength n t k) (drop (sectionStart n t k) z)) e
+      ∙ middle before (bytesOf xs) behind (sectionStart n t k) (sectionLength n t k) a (length-bytes xs ∙ m)
+
+  pub record-section : (k : ℕ) → k ≤ 3 → sectionOf (recordOf n t deals pairs reports shares) k ≡ bytesOf (getD (deals ∷ pairs ∷ reports ∷ shares ∷ []) k [])
+  unfolding recordOf
+  record-section zero h =
+      cut 0 (n ∷ t ∷ bytesOf (directory n t)) deals (bytesOf (pairs ++ reports ++ shares)) h (simp (bytes-append, append-assoc))
+      (simp (length-bytes, length-directory)) (fit .first)
+  record-section (suc zero) h =
+      cut 1 (n ∷ t ∷ bytesOf (directory n t ++ deals)) pairs (bytesOf (reports ++ shares)) h (simp (bytes-append, append-assoc))
+      (simp (length-bytes, length-append, length-directory) (omega (arith, fit .first))) (fit .second)
+  record-section (suc (suc zero)) h =
+      cut 2 (n ∷ t ∷ bytesOf (directory n t ++ deals ++ pairs)) reports (bytesOf shares) h (simp (bytes-append, append-assoc))
+      (simp (length-bytes, length-append, length-directory) (omega (arith, fit .first, fit .second))) (fit .third)
+  record-section (suc (suc (suc zero))) h =
+      cut 3 (n ∷ t ∷ bytesOf (directory n t ++ deals ++ pairs ++ reports)) shares [] h (simp (bytes-append, append-assoc, append-nil))
+      (simp (length-bytes, length-append, length-directory) (omega (arith, fit .first, fit .second, fit .third))) (fit .fourth)
+  record-section (suc (suc (suc (suc k)))) h = absurd (omega arith)
+
+  -- ---- Its numbers are the list
+  small : (k : ℕ) → k ≤ 3 → All (λ x. x < 65536) (getD (deals ∷ pairs ∷ reports ∷ shares ∷ []) k [])
+  small zero h = given .small .0
+  small (suc zero) h = given .small .1 .0
+  small (suc (suc zero)) h = given .small .1 .1 .0
+  small (suc (suc (suc zero))) h = given .small .1 .1 .1 .0
+  small (suc (suc (suc (suc k)))) h = absurd (omega arith)
+
+  pub round-trip : (k : ℕ) → k ≤ 3 → numbers (sectionOf (recordOf n t deals pairs reports shares) k) ≡ getD (deals ∷ pairs ∷ reports ∷ shares ∷ []) k []
+  round-trip k h = ap numbers (record-section k h) ∙ numbers-bytes (getD (deals ∷ pairs ∷ reports ∷ shares ∷ []) k []) (small k h)
+
+-- ---- What the code leaves in the buffer is the record, and behind it the buffer is as it was
+module _ (n t : ℕ) (deals pairs reports shares out : List ℕ)
+    (e : fits n t (length deals) (length pairs) (length reports) (length shares) (length out) ≡ true) where
+  abbrev all : List ℕ
+  all = recordOf n t deals pairs reports shares
+
+  fitting : (length all ≡ sectionStart n t 4) × (length all ≤ length out)
+  fitting =
+      let f = fits-facts n t (length deals) (length pairs) (length reports) (length shares) (length out) e in
+      let size = length-record n t deals pairs reports shares f in
+      (size, omega (arith, f .whole))
+
+  pub written : let w = writing n t deals pairs reports shares out in take (w .1) (w .0) ≡ recordOf n t deals pairs reports shares
+  written =
+      ap (λ w. take (w .1) (w .0)) (writing-fits n t deals pairs reports shares out e)
+      ∙ ap (λ z. take z (over all out)) (sym (fitting .0))
+      ∙ over-front all out (fitting .1)
+
+  pub rest-left : let w = writing n t deals pairs reports shares out in drop (w .1) (w .0) ≡ drop (w .1) out
+  rest-left =
+      ap (λ w. drop (w .1) (w .0)) (writing-fits n t deals pairs reports shares out e)
+      ∙ ap (λ z. drop z (over all out)) (sym (fitting .0))
+      ∙ over-rest all out (fitting .1)
+      ∙ ap (λ z. drop z out) (fitting .0 ∙ sym (ap (λ w. w .1) (writing-fits n t deals pairs reports shares out e)))
