@@ -1,0 +1,12 @@
+// Reads a record from standard input, runs each lamp on it, and writes what document 01 asks for to standard output.
+use libc::STDIN_FILENO;
+use libc::STDOUT_FILENO;
+
+// The longest record has 1,362 bytes. Of longer input more than that is read, so that a legal record never stands for it.
+fn main() {
+    let mut buffer = io::buffer();
+    let n = io::read_full(STDIN_FILENO, &mut buffer);
+    let mut out = [0u8; 512];
+    let k = transcript::render(&buffer[..n], &mut out);
+    io::write_all(STDOUT_FILENO, &out[..k]);
+}

@@ -1,0 +1,1 @@
+// What is printed of a record, by demand 3. It has no functions.

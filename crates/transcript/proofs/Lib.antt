@@ -1,0 +1,4 @@
+pub mod Letters
+pub mod Lines
+pub mod Runs
+pub mod Texts

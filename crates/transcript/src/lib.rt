@@ -1,0 +1,332 @@
+// The text of a record: its verdict, what each lamp answers when it is run on the record, and what is opened.
+ghost use mathlib.Core.Path.{_≡_};
+ghost use mathlib.Core.Bool.{true};
+ghost use mathlib.Core.List.{[], _∷_};
+ghost use Prim.Native.Nat.{_+_, _*_, _-_, _≤_};
+ghost use lib.ListN.{length, take};
+ghost use Rattle.field.specs.Modulus.{modulus};
+ghost use Rattle.happy.specs.Happy.{happySet};
+ghost use Rattle.parties.specs.Parties.{sizes, points};
+ghost use Rattle.record.specs.Record.{nOf, tOf, reading};
+ghost use Rattle.lamp.specs.Answer.{numberOf};
+ghost use Rattle.lamp.specs.Lamp.{made, after};
+ghost use Rattle.transcript.specs.Letters.{Added, decimal, field, line};
+ghost use Rattle.transcript.specs.Lines.{sizeLine, isAccepted, name, names, verdictLines, lampLine, orZero, lastLine};
+ghost use Rattle.transcript.specs.Transcript.{numbersOf, dealCall, pairsCall, run, lampLines, textOf, textBy, rendering, Whole};
+use lamp::Answer;
+use lamp::Lamp;
+use lamp::Reply;
+use record::Reading;
+
+// ---- pieces of text
+
+// Puts the word into the buffer from a place on, and answers the place behind it.
+fn put(out: &mut [u8], at: usize, word: &[u8]) -> usize
+    requires { ⌜ at + length (now word) ≤ length (now out) ⌝ }
+    ensures { λ r. ⌜ Added (now (out .entry)) at (now (word .entry)) (now (out .exit)) r ⌝ }
+{
+    let mut i = 0;
+    while i < word.len() {
+        out[at + i] = word[i];
+        i += 1;
+    }
+    at + i
+}
+
+// Puts the decimal digits of x.
+fn put_number(out: &mut [u8], at: usize, x: u16) -> usize
+    requires { ⌜ at + 5 ≤ length (now out) ⌝ }
+    ensures { λ r. ⌜ Added (now (out .entry)) at (decimal x) (now (out .exit)) r ⌝ }
+    ensures short { λ r. ⌜ r ≤ at + 5 ⌝ }
+{
+    let d = [
+        (48 + x / 10000 % 10) as u8,
+        (48 + x / 1000 % 10) as u8,
+        (48 + x / 100 % 10) as u8,
+        (48 + x / 10 % 10) as u8,
+        (48 + x % 10) as u8,
+    ];
+    if x < 10 {
+        return put(out, at, &d[4..5]);
+    }
+    if x < 100 {
+        return put(out, at, &d[3..5]);
+    }
+    if x < 1000 {
+        return put(out, at, &d[2..5]);
+    }
+    if x < 10000 {
+        return put(out, at, &d[1..5]);
+    }
+    put(out, at, &d[0..5])
+}
+
+// Puts a word and a number.
+fn put_field(out: &mut [u8], at: usize, word: &[u8], x: u16) -> usize
+    requires { ⌜ at + length (now word) + 5 ≤ length (now out) ⌝ }
+    ensures { λ r. ⌜ Added (now (out .entry)) at (field (now (word .entry)) x) (now (out .exit)) r ⌝ }
+    ensures short { λ r. ⌜ r ≤ at + length (now (word .entry)) + 5 ⌝ }
+{
+    let next = put(out, at, word);
+    put_number(out, next, x)
+}
+
+// Puts a word, a number and a line end.
+fn put_line(out: &mut [u8], at: usize, word: &[u8], x: u16) -> usize
+    requires { ⌜ at + length (now word) + 6 ≤ length (now out) ⌝ }
+    ensures { λ r. ⌜ Added (now (out .entry)) at (line (now (word .entry)) x) (now (out .exit)) r ⌝ }
+    ensures short { λ r. ⌜ r ≤ at + length (now (word .entry)) + 6 ⌝ }
+{
+    let next = put_field(out, at, word, x);
+    put(out, next, b"\n")
+}
+
+// ---- the lines
+
+// Puts "size n t".
+fn put_size(out: &mut [u8], n: u8, t: u8) -> usize
+    requires { ⌜ 17 ≤ length (now out) ⌝ }
+    ensures { λ r. ⌜ Added (now (out .entry)) 0 (sizeLine n t) (now (out .exit)) r ⌝ }
+    ensures short { λ r. ⌜ r ≤ 17 ⌝ }
+{
+    let next = put_field(out, 0, b"size ", n as u16);
+    put_line(out, next, b" ", t as u16)
+}
+
+// Whether the dealer is accepted with this happy set.
+fn accepted(set: u16, n: u8, t: u8) -> bool
+    requires { ⌜ t ≤ n ⌝ }
+    ensures { λ r. ⌜ r ≡ isAccepted set n t ⌝ }
+{
+    (n - t) as u32 <= happy::count(set)
+}
+
+// Puts the number of the lamp at place k, if it is in the set.
+fn put_name(out: &mut [u8], at: usize, set: u16, k: u8) -> usize
+    requires { ⌜ (k + 1 ≤ 16) × (at + 6 ≤ length (now out)) ⌝ }
+    ensures { λ r. ⌜ Added (now (out .entry)) at (name set k) (now (out .exit)) r ⌝ }
+    ensures short { λ r. ⌜ r ≤ at + 3 ⌝ }
+{
+    if (set >> k) % 2 == 1 {
+        return put_field(out, at, b" ", k as u16 + 1);
+    }
+    at
+}
+
+// Puts the numbers of the first n lamps that are in the set.
+fn put_names(out: &mut [u8], at: usize, set: u16, n: u8) -> usize
+    requires { ⌜ (n ≤ 16) × (at + 54 ≤ length (now out)) ⌝ }
+    ensures { λ r. ⌜ Added (now (out .entry)) at (names set n) (now (out .exit)) r ⌝ }
+    ensures short { λ r. ⌜ r ≤ at + 48 ⌝ }
+{
+    let mut next = at;
+    for k in 0..n {
+        next = put_name(out, next, set, k);
+    }
+    next
+}
+
+// Puts the verdict, and the happy line where the dealer is accepted.
+fn put_verdict(out: &mut [u8], at: usize, accepted: bool, set: u16, n: u8) -> usize
+    requires { ⌜ (n ≤ 16) × (at + 76 ≤ length (now out)) ⌝ }
+    ensures { λ r. ⌜ Added (now (out .entry)) at (verdictLines accepted set n) (now (out .exit)) r ⌝ }
+    ensures short { λ r. ⌜ r ≤ at + 70 ⌝ }
+{
+    if !accepted {
+        return put(out, at, b"dealer rejected\n");
+    }
+    let verdict = put(out, at, b"dealer accepted\n");
+    let word = put(out, verdict, b"happy");
+    let listed = put_names(out, word, set, n);
+    put(out, listed, b"\n")
+}
+
+// Document 01's number of an answer, 0 where the call is accepted.
+fn number_of(answer: Answer) -> u8
+    ensures { λ r. ⌜ r ≡ orZero (numberOf answer) ⌝ }
+{
+    match answer {
+        Answer::Done => 0,
+        Answer::Pair(first, second) => 0,
+        Answer::Report(bits) => 0,
+        Answer::Accepted => 0,
+        Answer::Opened(secret) => 0,
+        Answer::Refused(why) => lamp::refusal_number(why),
+    }
+}
+
+// Puts the line of lamp i: its share, or the number of its refusal.
+fn put_lamp(out: &mut [u8], at: usize, i: u8, reply: Reply) -> usize
+    requires { ⌜ (i ≤ 16) × (at + 22 ≤ length (now out)) ⌝ }
+    ensures { λ r. ⌜ Added (now (out .entry)) at (lampLine i reply) (now (out .exit)) r ⌝ }
+    ensures short { λ r. ⌜ r ≤ at + 22 ⌝ }
+{
+    let next = put_field(out, at, b"lamp ", i as u16);
+    let lamp = reply.lamp;
+    let answer = reply.answer;
+    let k = number_of(answer);
+    if k == 0 {
+        return put_line(out, next, b" share ", lamp.share);
+    }
+    put_line(out, next, b" refused ", k as u16)
+}
+
+// The points of n parties, first in an array.
+fn points(n: u8) -> [u16; 16]
+    requires { ⌜ n ≤ 16 ⌝ }
+    ensures { λ r. ⌜ take n r ≡ points n ⌝ }
+{
+    let mut list = [0u16; 16];
+    for k in 0..n {
+        list[k as usize] = parties::point(k + 1);
+    }
+    list
+}
+
+// Puts what the published shares open, or 8 after a rejected dealer.
+fn put_last(out: &mut [u8], at: usize, accepted: bool, n: u8, t: u8, shares: &[u16]) -> usize
+    requires { ⌜ (sizes n t ≡ true) × (length (now shares) ≡ n) × (at + 21 ≤ length (now out)) ⌝ }
+    ensures { λ r. ⌜ Added (now (out .entry)) at (lastLine accepted n t (now (shares .entry))) (now (out .exit)) r ⌝ }
+    ensures short { λ r. ⌜ r ≤ at + 21 ⌝ }
+{
+    if !accepted {
+        return put_line(out, at, b"opened refused ", 8);
+    }
+    let xs = points(n);
+    let count = n as usize;
+    let fitted = fit::fit(t as usize, (n - t) as usize, &xs[..count], shares);
+    if fitted.found {
+        let f = fitted.coefficients;
+        return put_line(out, at, b"opened ", f[0]);
+    }
+    put_line(out, at, b"opened refused ", 10)
+}
+
+// ---- the lamps
+
+// The numbers of section k, first in an array that holds the longest section.
+fn listed(bytes: &[u8], k: usize) -> [u16; 512]
+    requires { ⌜ length (numbersOf (now bytes) k) ≤ 512 ⌝ }
+    ensures { λ r. ⌜ take (length (numbersOf (now (bytes .entry)) k)) r ≡ numbersOf (now (bytes .entry)) k ⌝ }
+{
+    let mut list = [0u16; 512];
+    record::numbers(record::section(bytes, k), &mut list);
+    list
+}
+
+// Lamp i with its own part of the deals taken.
+fn dealt(bytes: &[u8], n: u8, t: u8, i: u8) -> Lamp
+    requires { ⌜ Whole (now bytes) n t × (1 ≤ i) × (i ≤ n) ⌝ }
+    ensures { λ r. ⌜ r ≡ after modulus (made n t i) (dealCall (now (bytes .entry)) t i ∷ []) ⌝ }
+{
+    let list = listed(bytes, 0);
+    let width = 2 * (t as usize + 1);
+    let from = (i as usize - 1) * width;
+    let end = from + width;
+    let waiting = Lamp::make(n, t, i);
+    let lamp = waiting.lamp;
+    let reply = lamp.take_deal(&list[from..end]);
+    reply.lamp
+}
+
+// Lamp i with its own part of round two heard.
+fn reported(bytes: &[u8], n: u8, t: u8, i: u8) -> Lamp
+    requires { ⌜ Whole (now bytes) n t × (1 ≤ i) × (i ≤ n) ⌝ }
+    ensures { λ r. ⌜ r ≡ after modulus (made n t i) (dealCall (now (bytes .entry)) t i ∷ pairsCall (now (bytes .entry)) n i ∷ []) ⌝ }
+{
+    let list = listed(bytes, 1);
+    let width = 2 * n as usize;
+    let from = (i as usize - 1) * width;
+    let end = from + width;
+    let lamp = dealt(bytes, n, t, i);
+    let reply = lamp.hear_pairs(&list[from..end]);
+    reply.lamp
+}
+
+// What lamp i answers to settling.
+fn run(bytes: &[u8], n: u8, t: u8, i: u8) -> Reply
+    requires { ⌜ Whole (now bytes) n t × (1 ≤ i) × (i ≤ n) ⌝ }
+    ensures { λ r. ⌜ r ≡ run (now (bytes .entry)) n t i ⌝ }
+{
+    let list = listed(bytes, 2);
+    let count = n as usize;
+    let lamp = reported(bytes, n, t, i);
+    lamp.settle(&list[..count])
+}
+
+// Puts the lines of all lamps.
+fn put_lamps(out: &mut [u8], at: usize, bytes: &[u8], n: u8, t: u8) -> usize
+    requires { ⌜ Whole (now bytes) n t × (n ≤ 16) × (at + 352 ≤ length (now out)) ⌝ }
+    ensures { λ r. ⌜ Added (now (out .entry)) at (lampLines (now (bytes .entry)) n t n) (now (out .exit)) r ⌝ }
+    ensures short { λ r. ⌜ r ≤ at + 352 ⌝ }
+{
+    let mut next = at;
+    for k in 0..n {
+        let reply = run(bytes, n, t, k + 1);
+        next = put_lamp(out, next, k + 1, reply);
+    }
+    next
+}
+
+// ---- the text
+
+// The happy set by the reports.
+fn happy_set(bytes: &[u8], n: u8, t: u8) -> u16
+    requires { ⌜ Whole (now bytes) n t ⌝ }
+    ensures { λ r. ⌜ r ≡ happySet (numbersOf (now (bytes .entry)) 2) ⌝ }
+{
+    let list = listed(bytes, 2);
+    let count = n as usize;
+    happy::happy_set(&list[..count])
+}
+
+// Puts the last line by the published shares.
+fn put_end(out: &mut [u8], at: usize, accepted: bool, bytes: &[u8], n: u8, t: u8) -> usize
+    requires { ⌜ Whole (now bytes) n t × (at + 21 ≤ length (now out)) ⌝ }
+    ensures { λ r. ⌜ Added (now (out .entry)) at (lastLine accepted n t (numbersOf (now (bytes .entry)) 3)) (now (out .exit)) r ⌝ }
+    ensures short { λ r. ⌜ r ≤ at + 21 ⌝ }
+{
+    let list = listed(bytes, 3);
+    let count = n as usize;
+    put_last(out, at, accepted, n, t, &list[..count])
+}
+
+// Puts the text of a record that is not refused.
+fn put_record(out: &mut [u8], bytes: &[u8], n: u8, t: u8) -> usize
+    requires { ⌜ Whole (now bytes) n t × (512 ≤ length (now out)) ⌝ }
+    ensures { λ r. ⌜ Added (now (out .entry)) 0 (textOf (now (bytes .entry)) n t) (now (out .exit)) r ⌝ }
+    ensures short { λ r. ⌜ r ≤ 512 ⌝ }
+{
+    let set = happy_set(bytes, n, t);
+    let good = accepted(set, n, t);
+    let size = put_size(out, n, t);
+    let verdict = put_verdict(out, size, good, set, n);
+    let lamps = put_lamps(out, verdict, bytes, n, t);
+    put_end(out, lamps, good, bytes, n, t)
+}
+
+// Puts the text by what the reader answered.
+fn put_text(out: &mut [u8], bytes: &[u8], answer: Reading) -> usize
+    requires { ⌜ (answer ≡ reading (now bytes)) × (512 ≤ length (now out)) ⌝ }
+    ensures { λ r. ⌜ Added (now (out .entry)) 0 (textBy answer (now (bytes .entry))) (now (out .exit)) r ⌝ }
+    ensures short { λ r. ⌜ r ≤ 512 ⌝ }
+{
+    match answer {
+        Reading::WrongSize => put_line(out, 0, b"record refused ", 1),
+        Reading::WrongDirectory => put_line(out, 0, b"record refused ", 6),
+        Reading::Fine => put_record(out, bytes, bytes[0], bytes[1]),
+    }
+}
+
+// Writes the text of a record over the front of the lent buffer and answers its length. Every text has less than 512 bytes:
+// a buffer of less is left alone, and the answer is 0.
+pub fn render(bytes: &[u8], out: &mut [u8]) -> usize
+    ensures { λ r. ⌜ (now (out .exit), r) ≡ rendering (now (bytes .entry)) (now (out .entry)) ⌝ }
+    ensures inside { λ r. ⌜ (r ≤ length (now (out .exit))) × (r ≡ length (take r (now (out .exit)))) ⌝ }
+{
+    if out.len() < 512 {
+        return 0;
+    }
+    let answer = record::read(bytes);
+    put_text(out, bytes, answer)
+}

@@ -1,0 +1,68 @@
+//! The fit: a polynomial of degree at most t from which at most t of the
+//! given points differ. Found by trying every choice of t+1 sent points.
+
+use crate::field::is_sent;
+use crate::poly::{interpolate, value};
+
+/// A point: x, and the number sent for it (perhaps "not sent").
+pub type Point = (u64, u16);
+
+/// How many points differ from the polynomial. What was not sent always does.
+pub fn differing(points: &[Point], poly: &[u64]) -> usize {
+    points
+        .iter()
+        .filter(|&&(x, y)| !is_sent(y) || value(poly, x) != u64::from(y))
+        .count()
+}
+
+/// The points of the list that were sent, as field elements.
+fn sent_points(points: &[Point]) -> Vec<(u64, u64)> {
+    points
+        .iter()
+        .filter(|&&(_, y)| is_sent(y))
+        .map(|&(x, y)| (x, u64::from(y)))
+        .collect()
+}
+
+/// The members of a list that a mask picks out.
+fn picked(list: &[(u64, u64)], mask: u32) -> Vec<(u64, u64)> {
+    (0..list.len())
+        .filter(|&k| mask >> k & 1 == 1)
+        .map(|k| list[k])
+        .collect()
+}
+
+/// The polynomial that fits, if there is one.
+///
+/// A polynomial that fits passes through all but t points, hence through at
+/// least t+1 sent ones if the list has 2t+1 or more; so the interpolations of
+/// all choices of t+1 sent points include it. With 3t+1 points or more two
+/// that fit share t+1 points and are the same; this is checked, not assumed,
+/// which is why the search does not stop at the first.
+pub fn fit(points: &[Point], t: usize) -> Option<Vec<u64>> {
+    assert!(points.len() > 3 * t, "too few points for one answer");
+    let sent = sent_points(points);
+    let mut found: Option<Vec<u64>> = None;
+    for mask in 0u32..1 << sent.len() {
+        if mask.count_ones() as usize != t + 1 {
+            continue;
+        }
+        let poly = interpolate(&picked(&sent, mask));
+        if differing(points, &poly) <= t {
+            if let Some(earlier) = &found {
+                assert_eq!(earlier, &poly, "two polynomials fit");
+            }
+            found = Some(poly);
+        }
+    }
+    found
+}
+
+/// The opening of n published numbers: the constant of what fits, or 10.
+pub fn open_all(published: &[u16], t: usize) -> Result<u16, u8> {
+    let points: Vec<Point> = (1..).zip(published.iter().copied()).collect();
+    match fit(&points, t) {
+        Some(poly) => Ok(poly[0] as u16),
+        None => Err(10),
+    }
+}

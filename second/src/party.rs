@@ -1,0 +1,189 @@
+//! One party (a lamp) from waiting to holding. Every call answers with its
+//! values or with the number of the lowest refusal that applies; a refused
+//! call changes nothing, except that 8 and 9 close the party.
+
+use crate::clique::{members, verdict};
+use crate::dealer::legal_size;
+use crate::field::{is_sent, NOT_SENT};
+use crate::fit::{fit, open_all, Point};
+use crate::poly::{from_numbers, value};
+
+#[derive(Clone, Copy, PartialEq, Eq, Debug)]
+pub enum Stage {
+    Waiting = 0,
+    Dealt = 1,
+    Reported = 2,
+    Holding = 3,
+    Closed = 4,
+}
+
+#[derive(Clone, PartialEq, Eq, Debug)]
+pub struct Party {
+    pub n: usize,
+    pub t: usize,
+    pub number: usize,
+    pub stage: Stage,
+    /// Row, then column, as dealt; a repair does not alter them.
+    pub deal: Vec<u16>,
+    /// The n pairs heard.
+    pub pairs: Vec<u16>,
+    pub report: u16,
+    pub share: u16,
+    pub happy: u16,
+}
+
+impl Party {
+    /// The party as made. With a bad size or number it exists all the same,
+    /// but the making and every later call are refused with 1 or 2.
+    pub fn make(n: usize, t: usize, number: usize) -> (Party, Result<(), u8>) {
+        let party = Party {
+            n,
+            t,
+            number,
+            stage: Stage::Waiting,
+            deal: Vec::new(),
+            pairs: Vec::new(),
+            report: 0,
+            share: 0,
+            happy: 0,
+        };
+        let answer = party.check_made();
+        (party, answer)
+    }
+
+    /// Refusals 1 and 2 of the state itself.
+    pub fn check_made(&self) -> Result<(), u8> {
+        if !legal_size(self.n, self.t) {
+            return Err(1);
+        }
+        self.check_number(self.number)
+    }
+
+    /// Refusal 2 of a party's number.
+    fn check_number(&self, number: usize) -> Result<(), u8> {
+        if number < 1 || number > self.n {
+            return Err(2);
+        }
+        Ok(())
+    }
+
+    /// Refusals 1 to 4 of a call that lends a list, in their order: the state
+    /// first, then the length, then the stage.
+    fn check_call(&self, list: &[u16], length: usize, stage: Stage) -> Result<(), u8> {
+        self.check_made()?;
+        if list.len() != length {
+            return Err(3);
+        }
+        if self.stage != stage {
+            return Err(4);
+        }
+        Ok(())
+    }
+
+    fn row_at(&self, x: usize) -> u16 {
+        value(&from_numbers(&self.deal[..=self.t]), x as u64) as u16
+    }
+
+    fn column_at(&self, y: usize) -> u16 {
+        value(&from_numbers(&self.deal[self.t + 1..]), y as u64) as u16
+    }
+
+    /// Every number a field element, and the own crossing right.
+    pub fn sound(&self) -> bool {
+        self.deal.iter().all(|&c| is_sent(c))
+            && self.row_at(self.number) == self.column_at(self.number)
+    }
+
+    pub fn take_deal(&mut self, list: &[u16]) -> Result<(), u8> {
+        // The product is safe for any size: a bad one is refused before use.
+        let length = self.t.saturating_add(1).saturating_mul(2);
+        self.check_call(list, length, Stage::Waiting)?;
+        self.deal = list.to_vec();
+        self.stage = Stage::Dealt;
+        Ok(())
+    }
+
+    /// The pair for party j: row at j, column at j.
+    pub fn say(&self, j: usize) -> Result<(u16, u16), u8> {
+        self.check_made()?;
+        self.check_number(j)?;
+        if self.stage == Stage::Waiting {
+            return Err(4);
+        }
+        if j == self.number || !self.sound() {
+            return Ok((NOT_SENT, NOT_SENT));
+        }
+        Ok((self.row_at(j), self.column_at(j)))
+    }
+
+    /// The report's bit for party j.
+    fn confirms(&self, j: usize, first: u16, second: u16) -> bool {
+        j != self.number && self.sound() && first == self.column_at(j) && second == self.row_at(j)
+    }
+
+    /// Takes the n pairs and answers the report.
+    pub fn hear(&mut self, list: &[u16]) -> Result<u16, u8> {
+        self.check_call(list, self.n.saturating_mul(2), Stage::Dealt)?;
+        self.pairs = list.to_vec();
+        self.report = 0;
+        for j in 1..=self.n {
+            if self.confirms(j, list[2 * j - 2], list[2 * j - 1]) {
+                self.report |= 1 << (j - 1);
+            }
+        }
+        self.stage = Stage::Reported;
+        Ok(self.report)
+    }
+
+    /// Takes all n reports. 7 leaves the party as it was, also where 8 or 9
+    /// would be due.
+    pub fn settle(&mut self, list: &[u16]) -> Result<(), u8> {
+        self.check_call(list, self.n, Stage::Reported)?;
+        if list[self.number - 1] != self.report {
+            return Err(7);
+        }
+        let (happy, accepted) = verdict(list, self.t);
+        if !accepted {
+            self.end(Stage::Closed, 0, 0);
+            return Err(8);
+        }
+        if happy >> (self.number - 1) & 1 == 1 {
+            self.end(Stage::Holding, self.deal[self.t + 1], happy);
+            return Ok(());
+        }
+        match self.repaired_share(happy) {
+            Some(share) => {
+                self.end(Stage::Holding, share, happy);
+                Ok(())
+            }
+            None => {
+                self.end(Stage::Closed, 0, happy);
+                Err(9)
+            }
+        }
+    }
+
+    /// The constant of the column that fits the first numbers heard from the
+    /// happy parties. The dealt column plays no part.
+    fn repaired_share(&self, happy: u16) -> Option<u16> {
+        let points: Vec<Point> = members(happy)
+            .into_iter()
+            .map(|j| (j as u64, self.pairs[2 * (j - 1)]))
+            .collect();
+        fit(&points, self.t).map(|column| column[0] as u16)
+    }
+
+    fn end(&mut self, stage: Stage, share: u16, happy: u16) {
+        self.stage = stage;
+        self.share = share;
+        self.happy = happy;
+    }
+
+    /// Opens from n published shares, with the own share in the own place.
+    pub fn open(&self, list: &[u16]) -> Result<u16, u8> {
+        self.check_call(list, self.n, Stage::Holding)?;
+        let mut published = list.to_vec();
+        published[self.number - 1] = self.share;
+        open_all(&published, self.t)
+    }
+}
