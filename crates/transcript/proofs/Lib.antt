@@ -1,3 +1,4 @@
+pub mod Examples
 pub mod Letters
 pub mod Lines
 pub mod Runs

@@ -5,7 +5,7 @@
 --   textOf bytes n t, text bytes   the text of a record that is not refused, and of any bytes
 --   rendering bytes out     the buffer afterwards, and the answer
 --   Whole bytes n t         the bytes are a record for n and t
--- Laws: proofs/Runs.
+-- Laws: proofs/Texts, proofs/Runs; document 01's example: proofs/Examples.
 use mathlib.Core.Path.{_≡_}
 use mathlib.Core.Bool.{cond}
 use mathlib.Core.List.{List, [], _∷_, _++_}

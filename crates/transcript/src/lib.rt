@@ -10,76 +10,19 @@ ghost use Rattle.parties.specs.Parties.{sizes, points};
 ghost use Rattle.record.specs.Record.{nOf, tOf, reading};
 ghost use Rattle.lamp.specs.Answer.{numberOf};
 ghost use Rattle.lamp.specs.Lamp.{made, after};
-ghost use Rattle.transcript.specs.Letters.{Added, decimal, field, line};
+ghost use Rattle.transcript.specs.Letters.{Added};
 ghost use Rattle.transcript.specs.Lines.{sizeLine, isAccepted, name, names, verdictLines, lampLine, orZero, lastLine};
 ghost use Rattle.transcript.specs.Transcript.{numbersOf, dealCall, pairsCall, run, lampLines, textOf, textBy, rendering, Whole};
+
+mod pieces;
+
+use crate::pieces::put;
+use crate::pieces::put_field;
+use crate::pieces::put_line;
 use lamp::Answer;
 use lamp::Lamp;
 use lamp::Reply;
 use record::Reading;
-
-// ---- pieces of text
-
-// Puts the word into the buffer from a place on, and answers the place behind it.
-fn put(out: &mut [u8], at: usize, word: &[u8]) -> usize
-    requires { ⌜ at + length (now word) ≤ length (now out) ⌝ }
-    ensures { λ r. ⌜ Added (now (out .entry)) at (now (word .entry)) (now (out .exit)) r ⌝ }
-{
-    let mut i = 0;
-    while i < word.len() {
-        out[at + i] = word[i];
-        i += 1;
-    }
-    at + i
-}
-
-// Puts the decimal digits of x.
-fn put_number(out: &mut [u8], at: usize, x: u16) -> usize
-    requires { ⌜ at + 5 ≤ length (now out) ⌝ }
-    ensures { λ r. ⌜ Added (now (out .entry)) at (decimal x) (now (out .exit)) r ⌝ }
-    ensures short { λ r. ⌜ r ≤ at + 5 ⌝ }
-{
-    let d = [
-        (48 + x / 10000 % 10) as u8,
-        (48 + x / 1000 % 10) as u8,
-        (48 + x / 100 % 10) as u8,
-        (48 + x / 10 % 10) as u8,
-        (48 + x % 10) as u8,
-    ];
-    if x < 10 {
-        return put(out, at, &d[4..5]);
-    }
-    if x < 100 {
-        return put(out, at, &d[3..5]);
-    }
-    if x < 1000 {
-        return put(out, at, &d[2..5]);
-    }
-    if x < 10000 {
-        return put(out, at, &d[1..5]);
-    }
-    put(out, at, &d[0..5])
-}
-
-// Puts a word and a number.
-fn put_field(out: &mut [u8], at: usize, word: &[u8], x: u16) -> usize
-    requires { ⌜ at + length (now word) + 5 ≤ length (now out) ⌝ }
-    ensures { λ r. ⌜ Added (now (out .entry)) at (field (now (word .entry)) x) (now (out .exit)) r ⌝ }
-    ensures short { λ r. ⌜ r ≤ at + length (now (word .entry)) + 5 ⌝ }
-{
-    let next = put(out, at, word);
-    put_number(out, next, x)
-}
-
-// Puts a word, a number and a line end.
-fn put_line(out: &mut [u8], at: usize, word: &[u8], x: u16) -> usize
-    requires { ⌜ at + length (now word) + 6 ≤ length (now out) ⌝ }
-    ensures { λ r. ⌜ Added (now (out .entry)) at (line (now (word .entry)) x) (now (out .exit)) r ⌝ }
-    ensures short { λ r. ⌜ r ≤ at + length (now (word .entry)) + 6 ⌝ }
-{
-    let next = put_field(out, at, word, x);
-    put(out, next, b"\n")
-}
 
 // ---- the lines
 

@@ -1,8 +1,8 @@
--- `transcript::put_line` meets its contract: two pieces one behind the other.
+-- `transcript::pieces::put_line` meets its contract: two pieces one behind the other.
 use Rattle.transcript.proofs.Letters.{then}
 use borrow.Author.Needs.{needs}
-use Rattle.transcript.proofs.put_line.Statement.{statement}
-use Rattle.transcript.proofs.put_line.Tie as tie
+use Rattle.transcript.proofs.pieces.put_line.Statement.{statement}
+use Rattle.transcript.proofs.pieces.put_line.Tie as tie
 
 put-field-requires : tie.Need-put-field-requires
 put-field-requires c κs = search needs

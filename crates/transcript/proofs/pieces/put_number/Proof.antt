@@ -1,10 +1,10 @@
--- `transcript::put_number` meets its contract: the digits are those of the case that the tests leave.
+-- `transcript::pieces::put_number` meets its contract: the digits are those of the case that the tests leave.
 use Rattle.transcript.specs.Letters.{decimal}
 use borrow.Author.Tests.{lt-ltb, le-ltb}
 use borrow.Author.Needs.{needs}
 use native.Mathlib.Omega.{arith}
-use Rattle.transcript.proofs.put_number.Statement.{statement}
-use Rattle.transcript.proofs.put_number.Tie as tie
+use Rattle.transcript.proofs.pieces.put_number.Statement.{statement}
+use Rattle.transcript.proofs.pieces.put_number.Tie as tie
 
 add-t7 : tie.Need-add-t7
 add-t7 c = search needs

@@ -1,4 +1,4 @@
--- `transcript::put` meets its contract: after i turns the first i bytes of the word stand behind what was there.
+-- `transcript::pieces::put` meets its contract: after i turns the first i bytes of the word stand behind what was there.
 use Prim.Native.Nat.{_+_, _-_, _≤_}
 use mathlib.Core.Path.{_≡_, refl, _∙_}
 use mathlib.Core.List.{_++_, append-nil}
@@ -8,8 +8,8 @@ use borrow.Author.Needs.{needs}
 use lib.ListN.{length, take, drop, length-set}
 use lib.Seq.{take-length}
 use Rattle.transcript.proofs.Letters.{put-more, put-rest}
-use Rattle.transcript.proofs.put.Statement.{statement}
-use Rattle.transcript.proofs.put.Tie as tie
+use Rattle.transcript.proofs.pieces.put.Statement.{statement}
+use Rattle.transcript.proofs.pieces.put.Tie as tie
 
 abbrev Inv-loop : tie.InvT-loop
 Inv-loop out₀ at word i₀ out i = (i ≤ length word) × (length out ≡ length out₀) × (take (at + i) out ≡ take at out₀ ++ take i word) × (drop (at + i) out ≡ drop (at + i) out₀)

@@ -1,8 +1,8 @@
--- `transcript::put_field` meets its contract: two pieces one behind the other.
+-- `transcript::pieces::put_field` meets its contract: two pieces one behind the other.
 use Rattle.transcript.proofs.Letters.{then}
 use borrow.Author.Needs.{needs}
-use Rattle.transcript.proofs.put_field.Statement.{statement}
-use Rattle.transcript.proofs.put_field.Tie as tie
+use Rattle.transcript.proofs.pieces.put_field.Statement.{statement}
+use Rattle.transcript.proofs.pieces.put_field.Tie as tie
 
 put-requires : tie.Need-put-requires
 put-requires c κs = search needs
