@@ -5,7 +5,7 @@ ghost use lib.ListN.{length};
 ghost use Rattle.transcript.specs.Letters.{Added, decimal, field, line};
 
 // Puts the word into the buffer from a place on, and answers the place behind it.
-pub fn put(out: &mut [u8], at: usize, word: &[u8]) -> usize
+pub(crate) fn put(out: &mut [u8], at: usize, word: &[u8]) -> usize
     requires { ⌜ at + length (now word) ≤ length (now out) ⌝ }
     ensures { λ r. ⌜ Added (now (out .entry)) at (now (word .entry)) (now (out .exit)) r ⌝ }
 {
@@ -18,7 +18,7 @@ pub fn put(out: &mut [u8], at: usize, word: &[u8]) -> usize
 }
 
 // Puts the decimal digits of x.
-pub fn put_number(out: &mut [u8], at: usize, x: u16) -> usize
+pub(crate) fn put_number(out: &mut [u8], at: usize, x: u16) -> usize
     requires { ⌜ at + 5 ≤ length (now out) ⌝ }
     ensures { λ r. ⌜ Added (now (out .entry)) at (decimal x) (now (out .exit)) r ⌝ }
     ensures short { λ r. ⌜ r ≤ at + 5 ⌝ }
@@ -46,7 +46,7 @@ pub fn put_number(out: &mut [u8], at: usize, x: u16) -> usize
 }
 
 // Puts a word and a number.
-pub fn put_field(out: &mut [u8], at: usize, word: &[u8], x: u16) -> usize
+pub(crate) fn put_field(out: &mut [u8], at: usize, word: &[u8], x: u16) -> usize
     requires { ⌜ at + length (now word) + 5 ≤ length (now out) ⌝ }
     ensures { λ r. ⌜ Added (now (out .entry)) at (field (now (word .entry)) x) (now (out .exit)) r ⌝ }
     ensures short { λ r. ⌜ r ≤ at + length (now (word .entry)) + 5 ⌝ }
@@ -56,7 +56,7 @@ pub fn put_field(out: &mut [u8], at: usize, word: &[u8], x: u16) -> usize
 }
 
 // Puts a word, a number and a line end.
-pub fn put_line(out: &mut [u8], at: usize, word: &[u8], x: u16) -> usize
+pub(crate) fn put_line(out: &mut [u8], at: usize, word: &[u8], x: u16) -> usize
     requires { ⌜ at + length (now word) + 6 ≤ length (now out) ⌝ }
     ensures { λ r. ⌜ Added (now (out .entry)) at (line (now (word .entry)) x) (now (out .exit)) r ⌝ }
     ensures short { λ r. ⌜ r ≤ at + length (now (word .entry)) + 6 ⌝ }

@@ -49,7 +49,7 @@ fn part(deals: &[u16], t: u8, i: u8) -> &[u16] {
 }
 
 // One dealing up to the place `from`, and another from there on.
-pub fn spliced(first: [u16; 20], second: [u16; 20], from: usize) -> [u16; 20] {
+pub(crate) fn spliced(first: [u16; 20], second: [u16; 20], from: usize) -> [u16; 20] {
     let mut deals = first;
     for k in from..20 {
         deals[k] = second[k];
@@ -136,7 +136,7 @@ fn settled(run: Run, deals: &[u16], reports: [u16; 16], i: u8) -> Reply
 }
 
 // Lamp i's opening of the published shares.
-pub fn open(run: Run, deals: &[u16], reports: [u16; 16], published: [u16; 16], i: u8) -> Reply
+pub(crate) fn open(run: Run, deals: &[u16], reports: [u16; 16], published: [u16; 16], i: u8) -> Reply
     requires { ⌜ run .n ≤ 16 ⌝ }
 {
     let before = settled(run, deals, reports, i);
@@ -165,7 +165,7 @@ fn published_to(run: Run, shares: [u16; 16], i: u8) -> [u16; 16]
 }
 
 // Prints each lamp's deal.
-pub fn show_deals(run: Run, deals: &[u16]) {
+pub(crate) fn show_deals(run: Run, deals: &[u16]) {
     let n = run.n;
     for k in 0..n {
         text::deal(k + 1, part(deals, run.t, k + 1));
@@ -173,7 +173,7 @@ pub fn show_deals(run: Run, deals: &[u16]) {
 }
 
 // Lets every honest lamp hear its pairs, and answers all reports.
-pub fn hear_all(run: Run, deals: &[u16]) -> [u16; 16]
+pub(crate) fn hear_all(run: Run, deals: &[u16]) -> [u16; 16]
     requires { ⌜ run .n ≤ 16 ⌝ }
 {
     let mut reports = [0u16; 16];
@@ -193,7 +193,7 @@ pub fn hear_all(run: Run, deals: &[u16]) -> [u16; 16]
 }
 
 // Lets every honest lamp settle, and answers their shares.
-pub fn settle_all(run: Run, deals: &[u16], reports: [u16; 16]) -> [u16; 16]
+pub(crate) fn settle_all(run: Run, deals: &[u16], reports: [u16; 16]) -> [u16; 16]
     requires { ⌜ run .n ≤ 16 ⌝ }
 {
     let mut shares = [0u16; 16];
@@ -210,7 +210,7 @@ pub fn settle_all(run: Run, deals: &[u16], reports: [u16; 16]) -> [u16; 16]
 }
 
 // Lets every settled lamp say its pair for lamp 1.
-pub fn say_all(run: Run, deals: &[u16], reports: [u16; 16])
+pub(crate) fn say_all(run: Run, deals: &[u16], reports: [u16; 16])
     requires { ⌜ run .n ≤ 16 ⌝ }
 {
     let n = run.n;
@@ -222,7 +222,7 @@ pub fn say_all(run: Run, deals: &[u16], reports: [u16; 16])
 }
 
 // Lets every honest lamp open the shares as they reach it.
-pub fn open_all(run: Run, deals: &[u16], reports: [u16; 16], shares: [u16; 16])
+pub(crate) fn open_all(run: Run, deals: &[u16], reports: [u16; 16], shares: [u16; 16])
     requires { ⌜ run .n ≤ 16 ⌝ }
 {
     let n = run.n;

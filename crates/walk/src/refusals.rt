@@ -101,7 +101,7 @@ fn holding(lamp: Lamp) {
     text::answer(2, still.open(&shares));
 }
 
-pub fn walk() {
+pub(crate) fn walk() {
     desk();
     made_wrong(4, 1, 0);
     made_wrong(5, 1, 6);

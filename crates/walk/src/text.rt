@@ -14,7 +14,7 @@ fn number(x: u16) {
     io::print_decimal(STDOUT_FILENO, x as u64);
 }
 
-pub fn line(letters: &[u8]) {
+pub(crate) fn line(letters: &[u8]) {
     word(letters);
     word(b"\n");
 }
@@ -41,7 +41,7 @@ fn holding(lamp: Lamp) {
 }
 
 // What lamp i answered, after which it holds what the reply says.
-pub fn answer(i: u8, reply: Reply) {
+pub(crate) fn answer(i: u8, reply: Reply) {
     word(b"lamp");
     number(i as u16);
     let answer = reply.answer;
@@ -67,7 +67,7 @@ pub fn answer(i: u8, reply: Reply) {
 }
 
 // What the desk answered.
-pub fn dealing(answer: Dealing) {
+pub(crate) fn dealing(answer: Dealing) {
     word(b"desk");
     match answer {
         Dealing::Written => word(b" written"),
@@ -79,7 +79,7 @@ pub fn dealing(answer: Dealing) {
 }
 
 // Lamp i's deal.
-pub fn deal(i: u8, numbers: &[u16]) {
+pub(crate) fn deal(i: u8, numbers: &[u16]) {
     word(b"lamp");
     number(i as u16);
     word(b" deal");
