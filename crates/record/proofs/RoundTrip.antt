@@ -11,11 +11,11 @@ use Rattle.lists.specs.All.{All}
 use Rattle.parties.specs.Parties.{sizes}
 use Rattle.record.specs.declared.Reading.the-variants.{Fine}
 use Rattle.record.specs.Bytes.{numberAt, numbers, bytesOf, standAt, over}
-use Rattle.record.specs.Record.{sectionLength, sectionStart, directory, directoryRight, reading, sectionOf, recordOf, Contents, fits, writing}
+use Rattle.record.specs.Record.{sectionLength, sectionStart, directory, directoryRight, reading, sectionOf, recordOf, Contents, writable, writing}
 use Rattle.record.proofs.Bytes.{length-bytes, bytes-append, bytes-place, numbers-bytes, stand-true, over-front, over-rest}
 use Rattle.record.proofs.Sections.{length-directory, directory-below, record-head}
 use Rattle.record.proofs.Answers.{reading-fine, section-at}
-use Rattle.record.proofs.Writing.{Fit, double, fits-facts, length-record, writing-fits}
+use Rattle.record.proofs.Writing.{Writable, double, writable-facts, length-record, writing-written}
 
 -- A number that stands in the front bytes.
 front-place : (xs ys : List ℕ) (at : ℕ) → at + 1 < length xs → numberAt (xs ++ ys) at ≡ numberAt xs at
@@ -34,7 +34,7 @@ middle : (before part behind : List ℕ) (a m : ℕ) → length before ≡ a →
 middle before part behind a m e f = ap (take m) (drop-at before (part ++ behind) a e) ∙ take-at part behind m f
 
 module _ (n t : ℕ) (deals pairs reports shares : List ℕ) (given : Contents n t deals pairs reports shares) where
-  fit : Fit n t (length deals) (length pairs) (length reports) (length shares) (sectionStart n t 4)
+  fit : Writable n t (length deals) (length pairs) (length reports) (length shares) (sectionStart n t 4)
   fit = record {
     size = given .size;
     first = ap (λ z. 2 * z) (given .first) ∙ double n (t + 1);
@@ -99,25 +99,25 @@ module _ (n t : ℕ) (deals pairs reports shares : List ℕ) (given : Contents n
 
 -- ---- What the code leaves in the buffer is the record, and behind it the buffer is as it was
 module _ (n t : ℕ) (deals pairs reports shares out : List ℕ)
-    (e : fits n t (length deals) (length pairs) (length reports) (length shares) (length out) ≡ true) where
+    (e : writable n t (length deals) (length pairs) (length reports) (length shares) (length out) ≡ true) where
   abbrev all : List ℕ
   all = recordOf n t deals pairs reports shares
 
   fitting : (length all ≡ sectionStart n t 4) × (length all ≤ length out)
   fitting =
-      let f = fits-facts n t (length deals) (length pairs) (length reports) (length shares) (length out) e in
+      let f = writable-facts n t (length deals) (length pairs) (length reports) (length shares) (length out) e in
       let size = length-record n t deals pairs reports shares f in
       (size, omega (arith, f .whole))
 
   pub written : let w = writing n t deals pairs reports shares out in take (w .1) (w .0) ≡ recordOf n t deals pairs reports shares
   written =
-      ap (λ w. take (w .1) (w .0)) (writing-fits n t deals pairs reports shares out e)
+      ap (λ w. take (w .1) (w .0)) (writing-written n t deals pairs reports shares out e)
       ∙ ap (λ z. take z (over all out)) (sym (fitting .0))
       ∙ over-front all out (fitting .1)
 
   pub rest-left : let w = writing n t deals pairs reports shares out in drop (w .1) (w .0) ≡ drop (w .1) out
   rest-left =
-      ap (λ w. drop (w .1) (w .0)) (writing-fits n t deals pairs reports shares out e)
+      ap (λ w. drop (w .1) (w .0)) (writing-written n t deals pairs reports shares out e)
       ∙ ap (λ z. drop z (over all out)) (sym (fitting .0))
       ∙ over-rest all out (fitting .1)
-      ∙ ap (λ z. drop z out) (fitting .0 ∙ sym (ap (λ w. w .1) (writing-fits n t deals pairs reports shares out e)))
+      ∙ ap (λ z. drop z out) (fitting .0 ∙ sym (ap (λ w. w .1) (writing-written n t deals pairs reports shares out e)))

@@ -1,5 +1,5 @@
--- Laws of writing: what fits, and the buffer after each section.
---   Fit    what the tests of `fits` say
+-- Laws of writing: what is writable, and the buffer after each section.
+--   Writable    what the tests of `writable` say
 --   Stage  everything before section k is written, and from its start on the buffer is as it was
 use mathlib.Core.Path.{_≡_, sym, ap, ap₂, subst, _∙_}
 use mathlib.Core.Bool.{true, false, _&&_, and-eq-true-iff}
@@ -12,18 +12,18 @@ use lib.ListN.{length, take, drop, set, length-append}
 use borrow.Author.Tests.{eqb-true, leb-true}
 use Rattle.parties.specs.Parties.{sizes}
 use Rattle.record.specs.Bytes.{bytesOf, over}
-use Rattle.record.specs.Record.{sectionLength, sectionStart, directory, recordOf, fits, writing}
+use Rattle.record.specs.Record.{sectionLength, sectionStart, directory, recordOf, writable, writing}
 use Rattle.record.proofs.Bytes.{length-bytes, bytes-append, over-room}
 use Rattle.record.proofs.Sections.{length-directory, record-head, section-before-end}
 use Rattle.record.proofs.Loops.{Begun, begun-start, begun-byte, begun-put, begun-length}
 
--- ---- What fits
+-- ---- What is writable
 
 -- Two bytes for each number.
 pub double : (m k : ℕ) → 2 * (2 * m * k) ≡ 4 * m * k
 double m k = sym (mul-assoc 2 (2 * m) k) ∙ ap (λ z. z * k) (let four : 2 * (2 * m) ≡ 4 * m = omega arith in four)
 
-pub record Fit (n t deals pairs reports shares room : ℕ) : Type 0 where
+pub record Writable (n t deals pairs reports shares room : ℕ) : Type 0 where
   pub size : sizes n t ≡ true
   pub first : 2 * deals ≡ sectionLength n t 0
   pub second : 2 * pairs ≡ sectionLength n t 1
@@ -31,9 +31,9 @@ pub record Fit (n t deals pairs reports shares room : ℕ) : Type 0 where
   pub fourth : 2 * shares ≡ sectionLength n t 3
   pub whole : sectionStart n t 4 ≤ room
 
-pub fits-facts : (n t deals pairs reports shares room : ℕ) → fits n t deals pairs reports shares room ≡ true → Fit n t deals pairs reports shares room
-unfolding fits
-fits-facts n t deals pairs reports shares room e =
+pub writable-facts : (n t deals pairs reports shares room : ℕ) → writable n t deals pairs reports shares room ≡ true → Writable n t deals pairs reports shares room
+unfolding writable
+writable-facts n t deals pairs reports shares room e =
     let a = sizes n t in
     let b = eqb deals (2 * n * (t + 1)) in
     let c = eqb pairs (2 * n * n) in
@@ -90,7 +90,7 @@ module _ (n t : ℕ) (out : List ℕ) (whole : sectionStart n t 4 ≤ length out
 -- ---- The whole record
 
 module _ (n t : ℕ) (deals pairs reports shares : List ℕ) where
-  pub length-record : {room : ℕ} → Fit n t (length deals) (length pairs) (length reports) (length shares) room
+  pub length-record : {room : ℕ} → Writable n t (length deals) (length pairs) (length reports) (length shares) room
       → length (recordOf n t deals pairs reports shares) ≡ sectionStart n t 4
   unfolding recordOf
   length-record fit =
@@ -104,25 +104,25 @@ module _ (n t : ℕ) (deals pairs reports shares : List ℕ) where
   in-order = simp (bytes-append, append-assoc)
 
   module _ (out : List ℕ) where
-    pub writing-refused : fits n t (length deals) (length pairs) (length reports) (length shares) (length out) ≡ false
+    pub writing-refused : writable n t (length deals) (length pairs) (length reports) (length shares) (length out) ≡ false
         → writing n t deals pairs reports shares out ≡ (out, 0)
     unfolding writing
     writing-refused e = simp e
 
-    pub writing-fits : fits n t (length deals) (length pairs) (length reports) (length shares) (length out) ≡ true
+    pub writing-written : writable n t (length deals) (length pairs) (length reports) (length shares) (length out) ≡ true
         → writing n t deals pairs reports shares out ≡ (over (recordOf n t deals pairs reports shares) out, sectionStart n t 4)
     unfolding writing
-    writing-fits e = simp e
+    writing-written e = simp e
 
     -- After the last section.
-    pub stage-end : fits n t (length deals) (length pairs) (length reports) (length shares) (length out) ≡ true → (r : ℕ) (new : List ℕ)
+    pub stage-end : writable n t (length deals) (length pairs) (length reports) (length shares) (length out) ≡ true → (r : ℕ) (new : List ℕ)
         → Stage n t out ((((n ∷ t ∷ bytesOf (directory n t) ++ bytesOf deals) ++ bytesOf pairs) ++ bytesOf reports) ++ bytesOf shares) 4 r new
         → _≡_ {A = List ℕ × ℕ} (new, r) (writing n t deals pairs reports shares out)
     stage-end e r new s =
-        let fit = fits-facts n t (length deals) (length pairs) (length reports) (length shares) (length out) e in
+        let fit = writable-facts n t (length deals) (length pairs) (length reports) (length shares) (length out) e in
         let size = length-record fit in
         let written : new ≡ over (recordOf n t deals pairs reports shares) out =
         s .begun .holds
         ∙ ap₂ (λ a b. a ++ drop b out) in-order (s .place ∙ sym size)
         ∙ sym (over-room (recordOf n t deals pairs reports shares) out (omega (arith, fit .whole))) in
-        ap₂ {C = List ℕ × ℕ} (λ a b. (a, b)) written (s .place) ∙ sym (writing-fits e)
+        ap₂ {C = List ℕ × ℕ} (λ a b. (a, b)) written (s .place) ∙ sym (writing-written e)

@@ -8,7 +8,7 @@
 --   sectionOf bytes k                         the bytes of section k, none of a refused record
 --   recordOf n t deals pairs reports shares   the whole record
 --   Contents n t deals ..                     the lists can be a record's
---   fits, writing                             when it is written, and the answer and the buffer afterwards
+--   writable, writing                             when it is written, and the answer and the buffer afterwards
 --   isFine answer                             the record is not refused
 -- Laws: proofs/Sections, proofs/Answers, proofs/Writing, proofs/RoundTrip, proofs/WayBack.
 use mathlib.Core.Path.{_≡_}
@@ -101,8 +101,8 @@ pub record Contents (n t : ℕ) (deals pairs reports shares : List ℕ) : Type 0
   pub small : All (All (λ x. x < 65536)) (deals ∷ pairs ∷ reports ∷ shares ∷ [])
 
 -- Sizes, lengths of the four lists and room in the buffer fit: 2n(t+1), 2n², n and n numbers.
-unfoldable pub fits : ℕ → ℕ → ℕ → ℕ → ℕ → ℕ → ℕ → Bool
-fits n t deals pairs reports shares room =
+unfoldable pub writable : ℕ → ℕ → ℕ → ℕ → ℕ → ℕ → ℕ → Bool
+writable n t deals pairs reports shares room =
     sizes n t
     && eqb deals (2 * n * (t + 1))
     && eqb pairs (2 * n * n)
@@ -113,6 +113,6 @@ fits n t deals pairs reports shares room =
 -- The record written over the front of the buffer, and its length; where something does not fit, the buffer as it was, and 0.
 unfoldable pub writing : ℕ → ℕ → List ℕ → List ℕ → List ℕ → List ℕ → List ℕ → List ℕ × ℕ
 writing n t deals pairs reports shares out =
-    cond (fits n t (length deals) (length pairs) (length reports) (length shares) (length out))
+    cond (writable n t (length deals) (length pairs) (length reports) (length shares) (length out))
     (over (recordOf n t deals pairs reports shares) out, sectionStart n t 4)
     (out, 0)

@@ -6,7 +6,7 @@ ghost use Prim.Native.Nat.{_+_, _*_, _/_, _%_, _≤_};
 ghost use lib.ListN.{length, take, drop};
 ghost use Rattle.parties.specs.Parties.{sizes};
 ghost use Rattle.record.specs.Bytes.{numberAt, numbers, numberIn, bytesOf, standAt, over};
-ghost use Rattle.record.specs.Record.{directory, directoryRight, reading, isFine, sectionOf, fits, writing};
+ghost use Rattle.record.specs.Record.{directory, directoryRight, reading, isFine, sectionOf, writable, writing};
 
 // What the reader answers. Document 01's number of each refusal is `numberOf` in the definitions.
 pub enum Reading {
@@ -179,7 +179,7 @@ fn put(list: &[u16], at: usize, out: &mut [u8]) -> usize
 }
 
 // Whether the sizes, the lengths of the four lists and the room in the buffer fit together.
-fn fits(
+fn writable(
     n: u8,
     t: u8,
     deals: usize,
@@ -188,7 +188,7 @@ fn fits(
     shares: usize,
     room: usize,
 ) -> bool
-    ensures { λ r. ⌜ r ≡ fits n t deals pairs reports shares room ⌝ }
+    ensures { λ r. ⌜ r ≡ writable n t deals pairs reports shares room ⌝ }
 {
     if !parties::sizes(n, t) {
         return false;
@@ -222,7 +222,7 @@ pub fn write(
 ) -> usize
     ensures { λ r. ⌜ (now (out .exit), r) ≡ writing n t (now (deals .entry)) (now (pairs .entry)) (now (reports .entry)) (now (shares .entry)) (now (out .entry)) ⌝ }
 {
-    if !fits(
+    if !writable(
         n,
         t,
         deals.len(),

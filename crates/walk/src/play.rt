@@ -136,7 +136,13 @@ fn settled(run: Run, deals: &[u16], reports: [u16; 16], i: u8) -> Reply
 }
 
 // Lamp i's opening of the published shares.
-pub(crate) fn open(run: Run, deals: &[u16], reports: [u16; 16], published: [u16; 16], i: u8) -> Reply
+pub(crate) fn open(
+    run: Run,
+    deals: &[u16],
+    reports: [u16; 16],
+    published: [u16; 16],
+    i: u8,
+) -> Reply
     requires { ⌜ run .n ≤ 16 ⌝ }
 {
     let before = settled(run, deals, reports, i);

@@ -1,4 +1,4 @@
--- `record::directory` meets its contract. The sizes are small, so that every offset fits 16 bits.
+-- `record::directory` meets its contract. The sizes are small, so that every offset has 16 bits.
 use mathlib.Core.Path.{refl}
 use native.Mathlib.Omega.{arith}
 use Rattle.record.specs.Record.{directory}

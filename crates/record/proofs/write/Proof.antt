@@ -8,14 +8,14 @@ use lib.ListN.{length, length-set}
 use borrow.Author.Needs.{needs}
 use borrow.Author.Tests.{not-true, not-false}
 use Rattle.record.specs.Bytes.{bytesOf}
-use Rattle.record.specs.Record.{directory, fits}
+use Rattle.record.specs.Record.{directory, writable}
 use Rattle.record.proofs.Sections.{length-directory, record-head}
 use Rattle.record.proofs.Loops.{begun-length}
-use Rattle.record.proofs.Writing.{Fit, fits-facts, Stage, stage-head, stage-room, stage-next, writing-refused, stage-end}
+use Rattle.record.proofs.Writing.{Writable, writable-facts, Stage, stage-head, stage-room, stage-next, writing-refused, stage-end}
 use Rattle.record.proofs.write.Statement.{statement}
 use Rattle.record.proofs.write.Tie as tie
 
--- ---- The way back from each place: to the test whether all fits, and to the start
+-- ---- The way back from each place: to the test whether all is writable, and to the start
 abbrev start : tie.Else1 → tie.Start
 start c = c .before .before .before .before .before .before .before
 
@@ -34,12 +34,12 @@ fitted₄ c = fitted₃ (c .before .before .before .before)
 abbrev fitted₅ : tie.After-put5 → tie.Else1
 fitted₅ c = fitted₄ (c .before .before .before .before)
 
--- ---- All fits
-passed : (c : tie.Else1) → let s = start c in fits (s .args .n) (s .args .t) (length (s .args .deals .now)) (length (s .args .pairs .now)) (length (s .args .reports .now)) (length (s .args .shares .now)) (length (s .args .out .now)) ≡ true
-passed c = sym (c .before .fits2 .ensures) ∙ not-false _ (c .if1 .left)
+-- ---- All is writable
+passed : (c : tie.Else1) → let s = start c in writable (s .args .n) (s .args .t) (length (s .args .deals .now)) (length (s .args .pairs .now)) (length (s .args .reports .now)) (length (s .args .shares .now)) (length (s .args .out .now)) ≡ true
+passed c = sym (c .before .writable .ensures) ∙ not-false _ (c .if1 .left)
 
-fit : (c : tie.Else1) → let s = start c in Fit (s .args .n) (s .args .t) (length (s .args .deals .now)) (length (s .args .pairs .now)) (length (s .args .reports .now)) (length (s .args .shares .now)) (length (s .args .out .now))
-fit c = fits-facts _ _ _ _ _ _ _ (passed c)
+fit : (c : tie.Else1) → let s = start c in Writable (s .args .n) (s .args .t) (length (s .args .deals .now)) (length (s .args .pairs .now)) (length (s .args .reports .now)) (length (s .args .shares .now)) (length (s .args .out .now))
+fit c = writable-facts _ _ _ _ _ _ _ (passed c)
 
 room : (c : tie.Else1) → 18 ≤ length (start c .args .out .now)
 room c = let s = start c in omega (arith, fit c .whole, record-head (s .args .n) (s .args .t))
@@ -79,11 +79,11 @@ stage₅ : (c : tie.After-put5) → At (start (fitted₅ c)) (upto-shares (start
 stage₅ c = stage-next _ _ _ (fit (fitted₅ c) .whole) _ 3 _ _ (stage₄ (c .before .before .before .before)) (omega arith) _ (fit (fitted₅ c) .fourth) _ _ (c .put5 .ensures .0) (c .put5 .ensures .1)
 
 -- ---- The needs
-fits-requires : tie.Need-fits-requires
-fits-requires c κs = search needs
+writable-requires : tie.Need-writable-requires
+writable-requires c κs = search needs
 
 returns : tie.Need-returns
-returns c = sym (writing-refused _ _ _ _ _ _ _ (sym (c .before .fits2 .ensures) ∙ not-true _ (c .if1 .taken)))
+returns c = sym (writing-refused _ _ _ _ _ _ _ (sym (c .before .writable .ensures) ∙ not-true _ (c .if1 .taken)))
 
 slice-write-out : tie.Need-slice-write-out
 slice-write-out c = omega (arith, room c)
@@ -132,7 +132,7 @@ pub write-spec : {M : Type 1} → statement M
 write-spec =
     tie.close
     (tie.spec
-    fits-requires
+    writable-requires
     returns
     slice-write-out
     slice-write-out-2

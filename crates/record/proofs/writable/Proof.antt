@@ -1,14 +1,14 @@
--- `record::fits` meets its contract: each test that fails settles the answer.
+-- `record::writable` meets its contract: each test that fails settles the answer.
 use mathlib.Core.Path.{_≡_, sym, _∙_}
 use mathlib.Core.Bool.{true}
 use native.Mathlib.Omega.{arith}
 use borrow.Author.Tests.{eq-eqb, ne-eqb, not-true, not-false}
 use Rattle.parties.specs.Parties.{sizes}
-use Rattle.record.specs.Record.{fits}
+use Rattle.record.specs.Record.{writable}
 use Rattle.record.proofs.Sections.{sections-small}
 use borrow.Author.Needs.{needs}
-use Rattle.record.proofs.fits.Statement.{statement}
-use Rattle.record.proofs.fits.Tie as tie
+use Rattle.record.proofs.writable.Statement.{statement}
+use Rattle.record.proofs.writable.Tie as tie
 
 -- The sizes have passed.
 passed : (c : tie.Else1) → sizes (c .before .before .args .n) (c .before .before .args .t) ≡ true
@@ -18,7 +18,7 @@ sizes-requires : tie.Need-sizes-requires
 sizes-requires c κs = search needs
 
 returns : tie.Need-returns
-unfolding fits
+unfolding writable
 returns c = simp (sym (c .before .sizes .ensures) ∙ not-true _ (c .if1 .taken))
 
 add-width : tie.Need-add-width
@@ -31,7 +31,7 @@ mul-if2-2 : tie.Need-mul-if2-2
 mul-if2-2 c = omega (arith, sections-small _ _ (passed (c)))
 
 returns-2 : tie.Need-returns-2
-unfolding fits
+unfolding writable
 returns-2 c = simp (passed (c .before), ne-eqb _ _ (c .if2 .taken))
 
 mul-if3 : tie.Need-mul-if3
@@ -41,15 +41,15 @@ mul-if3-2 : tie.Need-mul-if3-2
 mul-if3-2 c = omega (arith, sections-small _ _ (passed (c .before)))
 
 returns-3 : tie.Need-returns-3
-unfolding fits
+unfolding writable
 returns-3 c = simp (passed (c .before .before), eq-eqb _ _ (c .before .if2 .left), ne-eqb _ _ (c .if3 .taken))
 
 returns-4 : tie.Need-returns-4
-unfolding fits
+unfolding writable
 returns-4 c = simp (passed (c .before .before .before), eq-eqb _ _ (c .before .before .if2 .left), eq-eqb _ _ (c .before .if3 .left), ne-eqb _ _ (c .if4 .taken))
 
 returns-5 : tie.Need-returns-5
-unfolding fits
+unfolding writable
 returns-5 c = simp (passed (c .before .before .before .before), eq-eqb _ _ (c .before .before .before .if2 .left), eq-eqb _ _ (c .before .before .if3 .left), eq-eqb _ _ (c .before .if4 .left), ne-eqb _ _ (c .if5 .taken))
 
 mul-result : tie.Need-mul-result
@@ -83,11 +83,11 @@ add-result-4 : tie.Need-add-result-4
 add-result-4 c = omega (arith, sections-small _ _ (passed (c .before .before .before .before)))
 
 returns-6 : tie.Need-returns-6
-unfolding fits
+unfolding writable
 returns-6 c = simp (passed (c .before .before .before .before), eq-eqb _ _ (c .before .before .before .if2 .left), eq-eqb _ _ (c .before .before .if3 .left), eq-eqb _ _ (c .before .if4 .left), eq-eqb _ _ (c .if5 .left))
 
-pub fits-spec : {M : Type 1} → statement M
-fits-spec =
+pub writable-spec : {M : Type 1} → statement M
+writable-spec =
     tie.close
     (tie.spec
     sizes-requires
