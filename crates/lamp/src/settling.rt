@@ -44,18 +44,6 @@ pub(crate) fn member(set: u16, i: u8) -> bool
     (set >> (i - 1)) % 2 == 1
 }
 
-// The points of n parties, first in an array.
-pub(crate) fn points(n: u8) -> [u16; 16]
-    requires { ⌜ n ≤ 16 ⌝ }
-    ensures { λ r. ⌜ take n r ≡ points n ⌝ }
-{
-    let mut list = [0u16; 16];
-    for k in 0..n {
-        list[k as usize] = parties::point(k + 1);
-    }
-    list
-}
-
 // The first n numbers heard, with "not sent" for each party outside the set, first in an array.
 pub(crate) fn heard_from(n: u8, set: u16, heard: [u16; 16]) -> [u16; 16]
     requires { ⌜ n ≤ 16 ⌝ }
@@ -86,7 +74,7 @@ pub(crate) fn fit_parties(n: u8, t: u8, need: usize, values: [u16; 16]) -> fit::
     ensures { λ r. ⌜ r ≡ answer (fit modulus t need (points n) (take n values)) ⌝ }
 {
     let count = n as usize;
-    let xs = points(n);
+    let xs = parties::points();
     let ys = values;
     fit::fit(t as usize, need, &xs[..count], &ys[..count])
 }

@@ -1,6 +1,6 @@
 -- Laws of the parties: the sizes and the numbers as orders, the parties' list, and their points, which are distinct residues and none of them 0.
 -- That a point is its party's number is used here and nowhere else.
-use mathlib.Core.Path.{_≡_, subst}
+use mathlib.Core.Path.{_≡_, sym, subst, _∙_}
 use mathlib.Core.Logic.{_↔_, ⊎-elim}
 use mathlib.Core.Bool.{true, false, _&&_, and-eq-true-iff}
 use mathlib.Core.List.{List·Memᴰ}
@@ -8,7 +8,8 @@ use Prim.Native.Nat.{ℕ, suc, _+_, _*_, _-_, _≤_, _<_}
 use native.Mathlib.Nat.{le-refl}
 use native.Mathlib.Omega.{arith}
 use lib.Dec.{leb}
-use lib.ListN.{length, getD}
+use lib.ListN.{length, getD, take}
+use lib.Seq.{length-take-le, getD-take, ext-getD}
 use borrow.Author.Tests.{leb-true, le-leb}
 use Rattle.lists.specs.All.{All, Distinct}
 use Rattle.lists.specs.Tabulate.{tabulate}
@@ -65,7 +66,7 @@ point-not-zero i a e = omega arith
 
 -- ---- The points in order
 
-points-table : (n : ℕ) → points n ≡ tabulate (λ k. pointOf (suc k)) n
+pub points-table : (n : ℕ) → points n ≡ tabulate (λ k. pointOf (suc k)) n
 points-table n = map-tabulate pointOf _ n
 
 pub length-points : (n : ℕ) → length (points n) ≡ n
@@ -73,6 +74,13 @@ length-points n = rw points-table (length-tabulate (λ k. pointOf (suc k)) n)
 
 pub getD-points : (n k : ℕ) → k < n → getD (points n) k 0 ≡ pointOf (suc k)
 getD-points n k h = rw points-table (getD-tabulate (λ i. pointOf (suc i)) n k 0 h)
+
+-- Those of n parties are the first of those of more.
+pub points-front : (m n : ℕ) → n ≤ m → take n (points m) ≡ points n
+points-front m n h =
+    let long : length (take n (points m)) ≡ n = length-take-le n (points m) (omega (arith, length-points m)) in
+    ext-getD 0 (take n (points m)) (points n) (long ∙ sym (length-points n)) (λ k b.
+    getD-take n (points m) k 0 (omega arith) ∙ getD-points m k (omega arith) ∙ sym (getD-points n k (omega arith)))
 
 pub points-distinct : (n : ℕ) → Distinct (points n)
 points-distinct n =

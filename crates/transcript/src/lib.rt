@@ -114,18 +114,6 @@ fn put_lamp(out: &mut [u8], at: usize, i: u8, reply: Reply) -> usize
     put_line(out, next, b" refused ", k as u16)
 }
 
-// The points of n parties, first in an array.
-fn points(n: u8) -> [u16; 16]
-    requires { ⌜ n ≤ 16 ⌝ }
-    ensures { λ r. ⌜ take n r ≡ points n ⌝ }
-{
-    let mut list = [0u16; 16];
-    for k in 0..n {
-        list[k as usize] = parties::point(k + 1);
-    }
-    list
-}
-
 // Puts what the published shares open, or 8 after a rejected dealer.
 fn put_last(out: &mut [u8], at: usize, accepted: bool, n: u8, t: u8, shares: &[u16]) -> usize
     requires { ⌜ (sizes n t ≡ true) × (length (now shares) ≡ n) × (at + 21 ≤ length (now out)) ⌝ }
@@ -135,7 +123,7 @@ fn put_last(out: &mut [u8], at: usize, accepted: bool, n: u8, t: u8, shares: &[u
     if !accepted {
         return put_line(out, at, b"opened refused ", 8);
     }
-    let xs = points(n);
+    let xs = parties::points();
     let count = n as usize;
     let fitted = fit::fit(t as usize, (n - t) as usize, &xs[..count], shares);
     if fitted.found {

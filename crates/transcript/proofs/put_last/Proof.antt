@@ -2,13 +2,14 @@
 use mathlib.Core.Path.{_≡_, sym, ap, subst, _∙_}
 use Prim.Native.Nat.{_-_}
 use native.Mathlib.Omega.{arith}
+use lib.ListN.{take}
 use lib.Seq.{length-take-le}
 use Rattle.field.specs.Modulus.{modulus}
 use Rattle.fit.specs.Fit.{fit}
 use Rattle.fit.specs.Answer.{answer, fitIn}
 use Rattle.fit.proofs.Answers.{fit-within}
 use Rattle.parties.specs.Parties.{points}
-use Rattle.parties.proofs.Parties.{sizes-facts, length-points}
+use Rattle.parties.proofs.Parties.{sizes-facts, length-points, points-front}
 use Rattle.transcript.specs.Letters.{Added}
 use Rattle.transcript.proofs.Lines.{last-rejected, last-found, last-not}
 use borrow.Author.Needs.{needs}
@@ -22,7 +23,7 @@ fitted c =
     let a = s .args in
     let f = sizes-facts (a .n) (a .t) (s .pre .0) in
     c .fit .ensures
-    ∙ ap (λ xs. fitIn (a .t) (a .n - a .t) xs (a .shares .now)) (c .before .before .points .ensures)
+    ∙ ap (λ xs. fitIn (a .t) (a .n - a .t) xs (a .shares .now)) (ap (take (a .n)) (c .before .before .points .ensures) ∙ points-front 16 (a .n) (omega arith))
     ∙ sym (fit-within (a .t) (a .n - a .t) (points (a .n)) (a .shares .now) (f .1) (length-points (a .n) ∙ sym (s .pre .1)))
 
 slice-aggregate-put-line : tie.Need-slice-aggregate-put-line
@@ -41,7 +42,7 @@ returns c =
     (subst (λ w. Added (a .out .now) (a .at) w (p .put-line .last .0) (p .put-line .result)) (last-rejected (a .n) (a .t) (a .shares .now) (a .accepted) (p .before .before .before .if1 .taken)) (p .put-line .ensures .0), search needs)
 
 points-requires : tie.Need-points-requires
-points-requires c κs = let f = sizes-facts (c .before .before .before .args .n) (c .before .before .before .args .t) (c .before .before .before .pre .0) in omega arith
+points-requires c κs = search needs
 
 sub-fit : tie.Need-sub-fit
 sub-fit c = let f = sizes-facts (c .before .before .before .before .args .n) (c .before .before .before .before .args .t) (c .before .before .before .before .pre .0) in omega arith

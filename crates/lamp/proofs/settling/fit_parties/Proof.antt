@@ -1,7 +1,9 @@
 -- `lamp::settling::fit_parties` meets its contract: n points and n values are lent.
-use mathlib.Core.Path.{sym, _∙_}
+use mathlib.Core.Path.{sym, ap, _∙_}
 use native.Mathlib.Omega.{arith}
+use lib.ListN.{take}
 use lib.Seq.{length-take-le}
+use Rattle.parties.proofs.Parties.{points-front}
 use Rattle.lamp.proofs.Outcomes.{fit-lent}
 use borrow.Author.Needs.{needs}
 use Rattle.lamp.proofs.settling.fit_parties.Statement.{statement}
@@ -29,7 +31,7 @@ returns : tie.Need-returns
 returns c =
     let p = c .before .before .before in
     let a = p .before .args in
-    c .fit .ensures ∙ fit-lent (a .n) (a .t) (a .need) _ (a .values) (omega arith) (omega arith) (p .points .ensures)
+    c .fit .ensures ∙ fit-lent (a .n) (a .t) (a .need) _ (a .values) (omega arith) (omega arith) (ap (take (a .n)) (p .points .ensures) ∙ points-front 16 (a .n) (omega arith))
 
 pub fit-parties-spec : {M : Type 1} → statement M
 fit-parties-spec =
