@@ -125,13 +125,15 @@ module _ (p : ℕ) (P : Prime p) (big : 16 < p) (n t : ℕ) (e : Execution) (pr 
         record { answered = ap (λ (z : Reply). numberOf (z .answer)) (settling _ is); stays = stays _ is }
 
   -- ---- what the honest hold, hear and report
-  seen-long : length (e .seen) ≡ n
-  seen-long =
+  pub one-honest : (i : ℕ) × Honest p n t e i
+  one-honest =
       let s = sizes-facts n t (pr .size) in
       let w = passing (e .honest) (parties n) (omega (arith, honest-parties (e .honest) n t (pr .few))) in
       let range = mem-parties n (w .0) .0 (w .1) in
-      let h : Honest p n t e (w .0) = record { party = party-true n (w .0) (range .0) (range .1); good = w .2 } in
-      ap length (sym (pr .same (w .0) h)) ∙ pr .brings (w .0) h .reportsLength
+      (w .0, record { party = party-true n (w .0) (range .0) (range .1); good = w .2 })
+
+  seen-long : length (e .seen) ≡ n
+  seen-long = let w = one-honest in ap length (sym (pr .same (w .0) (w .1))) ∙ pr .brings (w .0) (w .1) .reportsLength
 
   heard : Heard p n t (e .honest) rows columns pairs (e .seen)
   heard = record {

@@ -82,13 +82,17 @@ module _ (l : Lamp) (sized : Sized l) where
     unfolding step
     hears hs e = admitted (eqb (length hs) (2 * l .n)) (isAt Dealt l) _ e
 
-    pub settles : (rs : List ℕ) → awaited l (settle rs) ≡ true → step p l (settle rs) ≡ settled p l (happySet rs)
+    -- Reports of the right length, at the stage that takes them: the lamp looks at its own.
+    pub looks : (rs : List ℕ) → (eqb (length rs) (l .n) && isAt Reported l) ≡ true
+        → step p l (settle rs) ≡ cond (eqb (entry rs (l .number)) (l .report)) (settled p l (happySet rs)) (refuse l AlteredReport)
     unfolding step
+    looks rs e = admitted (eqb (length rs) (l .n)) (isAt Reported l) _ e
+
+    pub settles : (rs : List ℕ) → awaited l (settle rs) ≡ true → step p l (settle rs) ≡ settled p l (happySet rs)
     settles rs e =
         let own : Bool = eqb (entry rs (l .number)) (l .report) in
         let both = and-eq-true-iff (eqb (length rs) (l .n) && isAt Reported l) own .0 e in
-        admitted (eqb (length rs) (l .n)) (isAt Reported l) _ (both .0)
-        ∙ ap (λ b. cond b (settled p l (happySet rs)) (refuse l AlteredReport)) (both .1)
+        looks rs (both .0) ∙ ap (λ b. cond b (settled p l (happySet rs)) (refuse l AlteredReport)) (both .1)
 
     -- A saying from the deal on, for any party.
     pub pair-said : (j : ℕ) → isParty (l .n) j ≡ true → isAt Waiting l ≡ false

@@ -5,28 +5,29 @@
 --   PrintedRight          one of the two, for every choice of honest lamps that meets the premises
 use mathlib.Core.Path.{_≡_}
 use mathlib.Core.Logic.{_⊎_}
-use mathlib.Core.Bool.{Bool, true}
+use mathlib.Core.Bool.{Bool, true, false}
 use mathlib.Core.List.{List, [], _∷_, _++_}
-use Prim.Native.Nat.{ℕ, suc, _+_}
+use Prim.Native.Nat.{ℕ, suc}
+use lib.ListN.{getD}
 use Rattle.field.specs.Modulus.{modulus}
 use Rattle.polynomial.specs.Bivariate.{at}
 use Rattle.parties.specs.Parties.{pointOf, entry}
-use Rattle.dealer.specs.Desk.{stretch}
 use Rattle.lamp.specs.Lamp.{openShares}
 use Rattle.record.specs.Record.{nOf, tOf}
 use Rattle.transcript.specs.Letters.{letters, field, line}
 use Rattle.transcript.specs.Lines.{lampLine, lastLine}
 use Rattle.transcript.specs.Transcript.{numbersOf, run}
 use Rattle.agreement.specs.Calls.{Run, whole}
-use Rattle.agreement.specs.Demand3.{Execution, Honest, Premises, AllAccept, HonestDealer}
+use Rattle.agreement.specs.Demand3.{Execution, Honest, AllAccept, HonestDealer}
+use Rattle.printed.specs.Direct.{itsDeal, itsPairs, verdict}
 
 -- Lamp i's own parts of the record, with no other call.
 abbrev pub told : List ℕ → ℕ → Run
 told bytes i = record {
   beforeDeal = [];
-  itsDeal = stretch (tOf bytes + 1) (numbersOf bytes 0) i;
+  itsDeal = itsDeal bytes i;
   beforePairs = [];
-  itsPairs = stretch (nOf bytes) (numbersOf bytes 1) i;
+  itsPairs = itsPairs bytes i;
   beforeReports = [];
   itsReports = numbersOf bytes 2;
   rest = openShares (numbersOf bytes 3) ∷ [];
@@ -49,18 +50,21 @@ module _ (honest : ℕ → Bool) (bytes : List ℕ) where
   abbrev pub printedLine : ℕ → List ℕ
   printedLine i = lampLine i (run bytes (nOf bytes) (tOf bytes) i)
 
-  -- "lamp i refused 8", of every honest lamp.
-  abbrev pub Rejected : Type 0
-  Rejected = (i : ℕ) → IsHonest i → printedLine i ≡ field (letters "lamp ") i ++ line (letters " refused ") 8
+  -- "dealer rejected" is printed, and "lamp i refused 8" of every honest lamp.
+  pub record Rejected : Type 0 where
+    pub no : verdict bytes ≡ false
+    pub lines : (i : ℕ) → IsHonest i → printedLine i ≡ field (letters "lamp ") i ++ line (letters " refused ") 8
 
-  -- "lamp i share v" with v = F(i, 0), of every honest lamp; and where those shares are published, "opened v" with v = F(0, 0).
+  -- "dealer accepted" is printed; "lamp i share v" with v = F(i, 0), of every honest lamp; and where those shares are published,
+  -- "opened v" with v = F(0, 0).
   pub record Accepted (F : List ℕ) : Type 0 where
+    pub yes : verdict bytes ≡ true
     pub all : AllAccept modulus (nOf bytes) (tOf bytes) (story honest bytes) F
     pub shares : (i : ℕ) → IsHonest i → printedLine i ≡ field (letters "lamp ") i ++ line (letters " share ") (valueOf F (pointOf i) 0)
     pub opens : ((j : ℕ) → IsHonest j → entry (numbersOf bytes 3) j ≡ valueOf F (pointOf j) 0)
-        → lastLine true (nOf bytes) (tOf bytes) (numbersOf bytes 3) ≡ line (letters "opened ") (valueOf F 0 0)
+        → lastLine (verdict bytes) (nOf bytes) (tOf bytes) (numbersOf bytes 3) ≡ line (letters "opened ") (valueOf F 0 0)
 
-  -- Demand 3, as far as it is printed; an honest dealer's F is its own.
+  -- Demand 3, as far as it is printed; an honest dealer's F is its own, and F(0, 0) its secret.
   pub record PrintedRight : Type 0 where
     pub one-verdict : Rejected ⊎ ((F : List ℕ) × Accepted F)
-    pub dealer : (F : List ℕ) → HonestDealer modulus (nOf bytes) (tOf bytes) (story honest bytes) F → Accepted F
+    pub dealer : (F : List ℕ) → HonestDealer modulus (nOf bytes) (tOf bytes) (story honest bytes) F → Accepted F × (valueOf F 0 0 ≡ getD F 0 0)

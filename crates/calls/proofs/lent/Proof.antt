@@ -1,0 +1,36 @@
+-- `calls::lent` is safe and ends: the bytes of at most 200 numbers are lent of 400.
+use mathlib.Core.Path.{sym}
+use native.Mathlib.Omega.{arith}
+use lib.Seq.{length-take-le}
+use borrow.Author.Needs.{needs}
+use Rattle.calls.proofs.lent.Statement.{statement}
+use Rattle.calls.proofs.lent.Tie as tie
+
+mul-end : tie.Need-mul-end
+mul-end c = search needs
+
+array-borrow-prefix-bytes : tie.Need-array-borrow-prefix-bytes
+array-borrow-prefix-bytes c = search needs
+
+slice-aggregate-take : tie.Need-slice-aggregate-take
+slice-aggregate-take c = sym (length-take-le _ _ (omega arith))
+
+slice-aggregate-take-2 : tie.Need-slice-aggregate-take-2
+slice-aggregate-take-2 c = search needs
+
+take-requires : tie.Need-take-requires
+take-requires c κs = search needs
+
+returns : tie.Need-returns
+returns c = search needs
+
+pub lent-spec : {M : Type 1} → statement M
+lent-spec =
+    tie.close
+    (tie.spec
+    mul-end
+    array-borrow-prefix-bytes
+    slice-aggregate-take
+    slice-aggregate-take-2
+    take-requires
+    returns)

@@ -1,0 +1,198 @@
+-- The text of a record that is not refused is the one straight from its numbers: each lamp takes its deal and its pairs, and
+-- answers to settling as step 4 says. So no lamp of a record says 1, 2, 3 or 4, and all lamps that settle say the printed verdict.
+use mathlib.Core.Path.{_≡_, refl, sym, ap, ap₂, _∙_}
+use mathlib.Core.Logic.{⊎-elim}
+use mathlib.Core.Bool.{Bool, true, false, cond, _&&_, and-eq-true-iff}
+use mathlib.Core.Option.{Option, none, some, Option·none-ne-some, Option·some-injective}
+use mathlib.Core.List.{List, [], _∷_, _++_}
+use Prim.Native.Nat.{ℕ, zero, suc, _+_, _*_, _-_, _≤_}
+use native.Mathlib.Numerals.{add-one}
+use native.Mathlib.Omega.{arith}
+use lib.Count.{ones}
+use lib.Dec.{eqb, leb}
+use lib.ListN.{length, take, drop, replicate, length-drop}
+use lib.Seq.{take-at, take-all, length-take-le}
+use borrow.Author.Tests.{eq-eqb}
+use Rattle.lists.specs.Masks.{bit}
+use Rattle.lists.specs.Tabulate.{tabulate, pad}
+use Rattle.lists.specs.Choices.{select}
+use Rattle.lists.proofs.Tabulate.{length-tabulate}
+use Rattle.lists.proofs.Cases.{true-or-false}
+use Rattle.field.specs.Modulus.{modulus}
+use Rattle.fit.specs.Fit.{fit}
+use Rattle.parties.specs.Parties.{isParty, points, member, entry}
+use Rattle.parties.proofs.Parties.{party-true}
+use Rattle.dealer.specs.Desk.{stretch}
+use Rattle.lamp.specs.declared.Stage.the-variants.{Reported}
+use Rattle.lamp.specs.declared.Refusal.the-variants.{AlteredReport}
+use Rattle.lamp.specs.declared.Answer.the-variants.{Done}
+use Rattle.lamp.specs.declared.Lamp.{Lamp}
+use Rattle.lamp.specs.declared.Reply.{Reply}
+use Rattle.lamp.specs.Answer.{numberOf}
+use Rattle.lamp.specs.Deal.{rowOf, columnOf, firstFrom, reportOf}
+use Rattle.lamp.specs.Lamp.{Sized, made, reply, isAt, rowOfLamp, columnOfLamp, withDeal, firsts, withPairs, reportFrom, constant, repair, repaired, refuse, atEnd, settled, takeDeal, hearPairs, settle, step}
+use Rattle.record.specs.Record.{nOf, tOf, reading}
+use Rattle.record.specs.declared.Reading.the-variants.{Fine}
+use Rattle.transcript.specs.Letters.{letters, field, line}
+use Rattle.transcript.specs.Lines.{outcome, sizeLine, verdictLines, lampLine, lastLine}
+use Rattle.transcript.specs.Transcript.{numbersOf, run, lampLines, textOf, textBy, text, Whole}
+use Rattle.transcript.proofs.Runs.{whole-sizes, whole-facts, deals-count, pairs-count, reports-count, part-room}
+use Rattle.agreement.proofs.Runs.{by-cond}
+use Rattle.agreement.proofs.Steps.{takes, hears, looks}
+use Rattle.printed.specs.Direct.{itsDeal, itsPairs, itsReport, happy, verdict, mended, said, saidLines, direct}
+
+-- What a reply prints behind "lamp i".
+abbrev shown : Reply → List ℕ
+shown r = outcome (r .lamp .share) (numberOf (r .answer))
+
+-- The heard numbers behind the n-th are not looked at.
+repair-padded : (p n t S : ℕ) (xs : List ℕ) → length xs ≡ n → repair p n t S (pad 16 xs) ≡ repair p n t S xs
+unfolding repair
+repair-padded p n t S xs e =
+    ap (λ heard. fit p t (ones S - t) (select (tabulate (bit S) n) (points n)) (select (tabulate (bit S) n) heard))
+    (take-at xs (replicate (16 - length xs) 0) n e ∙ sym (take-all n xs (omega arith)))
+
+-- A lamp's own part is as long as it must be.
+own-part : (xs : List ℕ) (n w i : ℕ) → length xs ≡ n * (2 * w) → n ≤ 16 → w ≤ 16 → 1 ≤ i → i ≤ n → length (stretch w xs i) ≡ 2 * w
+own-part xs n w i e a b c d =
+    let room = part-room n w i a b c d in
+    length-take-le (2 * w) (drop ((i - 1) * (2 * w)) xs) (omega (arith, length-drop ((i - 1) * (2 * w)) xs))
+
+shown-cond : (b : Bool) (x y : Reply) → shown (cond b x y) ≡ cond b (shown x) (shown y)
+shown-cond true x y = refl
+shown-cond false x y = refl
+
+-- With enough happy lamps nobody says 8.
+not-eight : (p : ℕ) (l : Lamp) (S : ℕ) → leb (l .n - l .t) (ones S) ≡ true → numberOf (settled p l S .answer) ≡ some 8 → ⊥
+unfolding settled
+not-eight p l S e =
+    rw e (by-cond (λ (r : Reply). numberOf (r .answer) ≡ some 8 → ⊥) (member S (l .number)) _ _ (Option·none-ne-some _)
+    (mended-not (repair p (l .n) (l .t) S (l .heard))))
+  where
+    mended-not : (o : Option (List ℕ)) → numberOf (repaired l S o .answer) ≡ some 8 → ⊥
+    mended-not none q = let z = Option·some-injective 9 8 q in omega arith
+    mended-not (some f) q = Option·none-ne-some _ q
+
+module _ (bytes : List ℕ) (fine : reading bytes ≡ Fine) where
+  abbrev n : ℕ
+  n = nOf bytes
+
+  abbrev t : ℕ
+  t = tOf bytes
+
+  whole : Whole bytes n t
+  whole = record { fine = fine; parties = refl; faulty = refl }
+
+  -- ---- one lamp
+  module _ (i : ℕ) (first : 1 ≤ i) (last : i ≤ n) where
+    abbrev d : List ℕ
+    d = itsDeal bytes i
+
+    abbrev hs : List ℕ
+    hs = itsPairs bytes i
+
+    abbrev rs : List ℕ
+    rs = numbersOf bytes 2
+
+    abbrev start : Lamp
+    start = made n t i
+
+    abbrev dealt : Lamp
+    dealt = withDeal start d
+
+    abbrev reported : Lamp
+    reported = withPairs modulus dealt hs
+
+    sized : Sized start
+    sized = record { size = whole-sizes bytes n t whole; party = party-true n i first last }
+
+    deal-long : length d ≡ 2 * suc t
+    deal-long =
+        let f = whole-facts bytes n t whole in
+        own-part (numbersOf bytes 0) n (t + 1) i (deals-count bytes n t whole) (f .3) (omega arith) first last ∙ omega arith
+
+    pairs-long : length hs ≡ 2 * n
+    pairs-long =
+        let f = whole-facts bytes n t whole in
+        own-part (numbersOf bytes 1) n n i (pairs-count bytes n t whole) (f .3) (f .3) first last
+
+    dealt-sized : Sized dealt
+    unfolding withDeal
+    dealt-sized = record { size = sized .size; party = sized .party }
+
+    reported-sized : Sized reported
+    unfolding withPairs withDeal
+    reported-sized = record { size = sized .size; party = sized .party }
+
+    taken : step modulus start (takeDeal d) ≡ reply dealt Done
+    taken = takes start sized modulus d (ap (λ z. z && true) (eq-eqb (length d) (2 * suc t) deal-long))
+
+    heard : step modulus dealt (hearPairs hs) .lamp ≡ reported
+    unfolding withDeal
+    heard = ap (λ (r : Reply). r .lamp) (hears dealt dealt-sized modulus hs (ap (λ z. z && true) (eq-eqb (length hs) (2 * n) pairs-long)))
+
+    column-is : columnOfLamp reported ≡ columnOf t d
+    unfolding withPairs withDeal
+    column-is = take-at (columnOf t d) (replicate (4 - length (columnOf t d)) 0) (suc t) (length-drop (suc t) d ∙ omega (arith, deal-long))
+
+    report-is : reported .report ≡ itsReport bytes i
+    unfolding withPairs withDeal reportFrom
+    report-is =
+        ap₂ (λ row column. reportOf modulus n i row column hs)
+        (take-at (rowOf t d) (replicate (4 - length (rowOf t d)) 0) (suc t) (length-take-le (suc t) d (omega (arith, deal-long))))
+        (take-at (columnOf t d) (replicate (4 - length (columnOf t d)) 0) (suc t) (length-drop (suc t) d ∙ omega (arith, deal-long)))
+
+    answered : run bytes n t i ≡ cond (eqb (entry rs i) (itsReport bytes i)) (settled modulus reported (happy bytes)) (refuse reported AlteredReport)
+    unfolding run withPairs withDeal
+    answered =
+        ap (λ (r : Reply). step modulus (step modulus (r .lamp) (hearPairs hs) .lamp) (settle rs)) taken
+        ∙ ap (λ l. step modulus l (settle rs)) heard
+        ∙ looks reported reported-sized modulus rs (ap (λ z. z && true) (eq-eqb (length rs) n (reports-count bytes n t whole)))
+        ∙ ap (λ r. cond (eqb (entry rs i) r) (settled modulus reported (happy bytes)) (refuse reported AlteredReport)) report-is
+
+    -- The lamp says 8 exactly if the printed verdict is against the dealer, its own report being in the record.
+    module _ (own : entry rs i ≡ itsReport bytes i) where
+      settling : run bytes n t i ≡ settled modulus reported (happy bytes)
+      settling =
+          answered
+          ∙ ap (λ b. cond b (settled modulus reported (happy bytes)) (refuse reported AlteredReport)) (eq-eqb (entry rs i) (itsReport bytes i) own)
+
+      pub says-rejected : verdict bytes ≡ false → numberOf (run bytes n t i .answer) ≡ some 8
+      unfolding settled withPairs withDeal
+      says-rejected e = ap (λ (r : Reply). numberOf (r .answer)) settling ∙ rw e
+
+      pub says-accepted : verdict bytes ≡ true → numberOf (run bytes n t i .answer) ≡ some 8 → ⊥
+      unfolding withPairs withDeal
+      says-accepted e eight = not-eight modulus reported (happy bytes) e (sym (ap (λ (r : Reply). numberOf (r .answer)) settling) ∙ eight)
+
+    mended-shown : (o : Option (List ℕ)) → shown (repaired reported (happy bytes) o) ≡ mended bytes o
+    unfolding atEnd
+    mended-shown none = refl
+    mended-shown (some f) = refl
+
+    pub lamp-said : lampLine i (run bytes n t i) ≡ field (letters "lamp ") i ++ said bytes i
+    unfolding lampLine said settled atEnd withPairs withDeal
+    lamp-said =
+        ap (λ z. field (letters "lamp ") i ++ z)
+        (ap shown answered
+        ∙ shown-cond (eqb (entry rs i) (itsReport bytes i)) _ _
+        ∙ ap (λ z. cond (eqb (entry rs i) (itsReport bytes i)) z (line (letters " refused ") 7))
+        (shown-cond (verdict bytes) _ _
+        ∙ ap (λ z. cond (verdict bytes) z (line (letters " refused ") 8))
+        (shown-cond (member (happy bytes) i) _ _
+        ∙ ap₂ (cond (member (happy bytes) i))
+        (ap (λ f. line (letters " share ") (constant f)) column-is)
+        (mended-shown (repair modulus n t (happy bytes) (pad 16 (firsts n hs)))
+        ∙ ap (mended bytes) (repair-padded modulus n t (happy bytes) (firsts n hs) (length-tabulate (λ k. firstFrom hs (suc k)) n))))))
+
+  -- ---- all of them
+  lines-said : (k : ℕ) → k ≤ n → lampLines bytes n t k ≡ saidLines bytes k
+  unfolding lampLines saidLines
+  lines-said zero h = refl
+  lines-said (suc k) h = ap₂ (λ xs ys. xs ++ ys) (lines-said k (omega arith)) (lamp-said (suc k) (omega arith) h)
+
+  -- WHAT IS PRINTED IS WHAT DOCUMENT 01'S STEPS SAY OF THE RECORD'S NUMBERS.
+  pub text-direct : text bytes ≡ direct bytes
+  unfolding text textBy textOf direct
+  text-direct =
+      rw fine (ap (λ ls. ((sizeLine n t ++ verdictLines (verdict bytes) (happy bytes) n) ++ ls) ++ lastLine (verdict bytes) n t (numbersOf bytes 3)) (lines-said n (omega arith)))
