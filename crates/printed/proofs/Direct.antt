@@ -106,12 +106,12 @@ module _ (bytes : List ℕ) (fine : reading bytes ≡ Fine) where
     sized : Sized start
     sized = record { size = whole-sizes bytes n t whole; party = party-true n i first last }
 
-    deal-long : length d ≡ 2 * suc t
+    pub deal-long : length d ≡ 2 * suc t
     deal-long =
         let f = whole-facts bytes n t whole in
         own-part (numbersOf bytes 0) n (t + 1) i (deals-count bytes n t whole) (f .3) (omega arith) first last ∙ omega arith
 
-    pairs-long : length hs ≡ 2 * n
+    pub pairs-long : length hs ≡ 2 * n
     pairs-long =
         let f = whole-facts bytes n t whole in
         own-part (numbersOf bytes 1) n n i (pairs-count bytes n t whole) (f .3) (f .3) first last

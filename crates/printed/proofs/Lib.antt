@@ -1,2 +1,4 @@
 pub mod Direct
+pub mod Examples
+pub mod Meaning
 pub mod Printed

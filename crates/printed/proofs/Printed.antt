@@ -20,17 +20,17 @@ use Rattle.lamp.specs.Answer.{numberOf}
 use Rattle.record.specs.Record.{nOf, tOf, reading}
 use Rattle.record.specs.declared.Reading.the-variants.{Fine}
 use Rattle.transcript.specs.Letters.{letters, field, line}
-use Rattle.transcript.specs.Lines.{outcome, lampLine, openedLine, lastLine}
-use Rattle.transcript.specs.Transcript.{numbersOf, run, Whole}
-use Rattle.transcript.proofs.Runs.{shares-count}
-use Rattle.agreement.specs.Demand3.{Premises, Accepts, Rejects, AllAccept, Conclusions, Demand3}
+use Rattle.transcript.specs.Lines.{outcome, verdictLines, lampLine, openedLine, lastLine}
+use Rattle.transcript.specs.Transcript.{numbersOf, run, textOf, textBy, text, Whole}
+use Rattle.transcript.proofs.Runs.{whole-sizes, reports-count, shares-count}
+use Rattle.agreement.specs.Demand3.{Premises, Accepts, Rejects, AllReject, AllAccept, Conclusions, Demand3}
 use Rattle.agreement.proofs.Geometry.{opens, row-constant}
 use Rattle.agreement.proofs.Agreement.{one-honest, demand3}
-use Rattle.printed.specs.Direct.{verdict}
-use Rattle.printed.specs.Printed.{told, story, IsHonest, valueOf, printedLine, Rejected, Accepted, PrintedRight}
-use Rattle.printed.proofs.Direct.{says-rejected, says-accepted}
+use Rattle.printed.specs.Direct.{happy, verdict}
+use Rattle.printed.specs.Printed.{told, story, IsHonest, Faithful, valueOf, printedLine, textWith, Rejected, Accepted, PrintedRight, Printed}
+use Rattle.printed.proofs.Direct.{deal-long, pairs-long, says-rejected, says-accepted}
 
-module _ (honest : ℕ → Bool) (bytes : List ℕ) (fine : reading bytes ≡ Fine) (premises : Premises modulus (nOf bytes) (tOf bytes) (story honest bytes)) where
+module _ (honest : ℕ → Bool) (bytes : List ℕ) (fine : reading bytes ≡ Fine) (f : Faithful honest bytes) where
   abbrev n : ℕ
   n = nOf bytes
 
@@ -39,6 +39,27 @@ module _ (honest : ℕ → Bool) (bytes : List ℕ) (fine : reading bytes ≡ Fi
 
   whole : Whole bytes n t
   whole = record { fine = fine; parties = refl; faulty = refl }
+
+  -- All else that demand 3 supposes holds of every record.
+  premises : Premises modulus n t (story honest bytes)
+  premises = record {
+    size = whole-sizes bytes n t whole;
+    few = f .few;
+    brings = λ i h.
+        let range = party-facts n i (h .party) in
+        record {
+          list = refl;
+          dealLength = deal-long bytes fine i (range .0) (range .1);
+          dealFirst = tt;
+          pairsLength = pairs-long bytes fine i (range .0) (range .1);
+          pairsFirst = tt;
+          reportsLength = reports-count bytes n t whole;
+          reportsOwn = f .own i h;
+          reportsFirst = tt;
+        };
+    hear = f .hear;
+    same = λ i h. refl;
+  }
 
   all-right : Conclusions modulus n t (story honest bytes)
   unfolding Demand3
@@ -60,44 +81,54 @@ module _ (honest : ℕ → Bool) (bytes : List ℕ) (fine : reading bytes ≡ Fi
   -- ---- the verdict: what an honest lamp says is what is printed
   verdict-no : (i : ℕ) → IsHonest honest bytes i → numberOf (run bytes n t i .answer) ≡ some 8 → verdict bytes ≡ false
   verdict-no i h said =
-      let f = party-facts n i (h .party) in
-      ⊎-elim (λ yes. absurd (says-accepted bytes fine i (f .0) (f .1) (premises .brings i h .reportsOwn) yes said)) (λ no. no)
+      let range = party-facts n i (h .party) in
+      ⊎-elim (λ yes. absurd (says-accepted bytes fine i (range .0) (range .1) (f .own i h) yes said)) (λ no. no)
       (true-or-false (verdict bytes))
 
   verdict-yes : (i : ℕ) → IsHonest honest bytes i → numberOf (run bytes n t i .answer) ≡ none → verdict bytes ≡ true
   verdict-yes i h said =
-      let f = party-facts n i (h .party) in
+      let range = party-facts n i (h .party) in
       ⊎-elim (λ yes. yes)
-      (λ no. absurd (Option·none-ne-some 8 (sym said ∙ says-rejected bytes fine i (f .0) (f .1) (premises .brings i h .reportsOwn) no)))
+      (λ no. absurd (Option·none-ne-some 8 (sym said ∙ says-rejected bytes fine i (range .0) (range .1) (f .own i h) no)))
       (true-or-false (verdict bytes))
 
   -- ---- all of them
   someone : (i : ℕ) × IsHonest honest bytes i
   someone = one-honest modulus prime (lit< tt) n t (story honest bytes) premises
 
-  rejected : ((i : ℕ) → IsHonest honest bytes i → Rejects modulus n t (story honest bytes) i (story honest bytes .calls i) (told bytes i)) → Rejected honest bytes
-  unfolding run
-  rejected r = record { no = verdict-no (someone .0) (someone .1) (r (someone .0) (someone .1) .answered); lines = λ i h. refused-line i (r i h) }
+  -- The text by the verdict.
+  printed-by : (v : Bool) → verdict bytes ≡ v → text bytes ≡ textWith honest bytes (verdictLines v (happy bytes) n) (lastLine v n t (numbersOf bytes 3))
+  unfolding text textBy textOf
+  printed-by v e = rw fine (ap (λ b. textWith honest bytes (verdictLines b (happy bytes) n) (lastLine b n t (numbersOf bytes 3))) e)
+
+  rejected : AllReject modulus n t (story honest bytes) → Rejected honest bytes
+  unfolding run lastLine verdictLines
+  rejected r = record {
+    all = r;
+    prints = printed-by false (verdict-no (someone .0) (someone .1) (r (someone .0) (someone .1) .answered));
+    lines = λ i h. refused-line i (r i h);
+  }
 
   accepted : (F : List ℕ) → AllAccept modulus n t (story honest bytes) F → Accepted honest bytes F
-  unfolding lastLine run
-  accepted F a =
-      let yes = verdict-yes (someone .0) (someone .1) (a .hold (someone .0) (someone .1) .answered .0) in
-      record {
-        yes = yes;
-        all = a;
-        shares = λ i h. share-line F i (a .hold i h);
-        opens = λ published.
-            let found = opens modulus prime (lit< tt) n t (premises .size) honest (premises .few) (row modulus (suc t) (suc t) F 0) (numbersOf bytes 3)
-            (row-poly modulus (suc t) (suc t) F 0 (omega arith)) (shares-count bytes n t whole)
-            (λ j q g. row-at modulus (suc t) (suc t) F (pointOf j) 0 ∙ sym (published j (record { party = q; good = g }))) in
-            ap (λ v. lastLine v n t (numbersOf bytes 3)) yes
-            ∙ ap openedLine found ∙ ap (line (letters "opened ")) (row-constant modulus (omega arith) t F (a .on .poly .size) 0);
-      }
+  unfolding lastLine verdictLines run
+  accepted F a = record {
+    all = a;
+    prints = printed-by true (verdict-yes (someone .0) (someone .1) (a .hold (someone .0) (someone .1) .answered .0));
+    lines = λ i h. share-line F i (a .hold i h);
+    opens = λ published.
+        let found = opens modulus prime (lit< tt) n t (premises .size) honest (f .few) (row modulus (suc t) (suc t) F 0) (numbersOf bytes 3)
+        (row-poly modulus (suc t) (suc t) F 0 (omega arith)) (shares-count bytes n t whole)
+        (λ j q g. row-at modulus (suc t) (suc t) F (pointOf j) 0 ∙ sym (published j (record { party = q; good = g }))) in
+        ap openedLine found ∙ ap (line (letters "opened ")) (row-constant modulus (omega arith) t F (a .on .poly .size) 0);
+  }
 
-  -- WHAT IS PRINTED IS WHAT DEMAND 3 SAYS.
-  pub printed-right : PrintedRight honest bytes
-  printed-right = record {
+  right : PrintedRight honest bytes
+  right = record {
     one-verdict = ⊎-elim (λ r. inl (rejected r)) (λ a. inr (a .0, accepted (a .0) (a .1))) (all-right .one-verdict);
     dealer = λ F d. (accepted F (all-right .dealer F d .0), all-right .dealer F d .1);
   }
+
+-- WHAT IS PRINTED IS WHAT DEMAND 3 SAYS.
+pub printed : Printed
+unfolding Printed
+printed = right

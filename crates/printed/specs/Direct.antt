@@ -18,7 +18,7 @@ use Rattle.lamp.specs.Lamp.{firsts, constant, repair}
 use Rattle.record.specs.Record.{nOf, tOf}
 use Rattle.transcript.specs.Letters.{letters, field, line}
 use Rattle.transcript.specs.Lines.{sizeLine, isAccepted, verdictLines, lastLine}
-use Rattle.transcript.specs.Transcript.{numbersOf}
+use Rattle.transcript.specs.Transcript.{numbersOf, received}
 
 module _ (bytes : List ℕ) where
   -- Lamp i's own part of the deals, and of round two.
@@ -26,7 +26,7 @@ module _ (bytes : List ℕ) where
   itsDeal i = stretch (tOf bytes + 1) (numbersOf bytes 0) i
 
   abbrev pub itsPairs : ℕ → List ℕ
-  itsPairs i = stretch (nOf bytes) (numbersOf bytes 1) i
+  itsPairs i = received (nOf bytes) (numbersOf bytes 1) i
 
   -- Its report, which step 3 gives from both.
   abbrev pub itsReport : ℕ → ℕ

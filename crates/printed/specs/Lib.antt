@@ -1,2 +1,3 @@
 pub mod Direct
+pub mod Meaning
 pub mod Printed

@@ -1,4 +1,3 @@
-pub mod Examples
 pub mod Letters
 pub mod Lines
 pub mod Runs

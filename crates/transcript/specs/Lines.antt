@@ -14,8 +14,9 @@ use Rattle.lists.specs.Masks.{bit}
 use Rattle.field.specs.Modulus.{modulus}
 use Rattle.fit.specs.Fit.{fit}
 use Rattle.parties.specs.Parties.{points}
+use Rattle.lamp.specs.declared.Refusal.the-variants.{DealerRejected, NoOpening}
 use Rattle.lamp.specs.declared.Reply.{Reply}
-use Rattle.lamp.specs.Answer.{numberOf}
+use Rattle.lamp.specs.Answer.{refusalNumber, numberOf}
 use Rattle.lamp.specs.Lamp.{constant}
 use Rattle.transcript.specs.Letters.{letters, field, line}
 
@@ -66,11 +67,11 @@ orZero (some k) = k
 
 -- "opened v", v being the constant of the polynomial that fits, or "opened refused 10".
 abbrev pub openedLine : Option (List ℕ) → List ℕ
-openedLine none = line (letters "opened refused ") 10
+openedLine none = line (letters "opened refused ") (refusalNumber NoOpening)
 openedLine (some f) = line (letters "opened ") (constant f)
 
 -- What the published shares open by themselves: at most t of them differ. After a rejected dealer the refusal is 8.
 unfoldable pub lastLine : Bool → ℕ → ℕ → List ℕ → List ℕ
 lastLine accepted n t shares =
     let opened = openedLine (fit modulus t (n - t) (points n) shares) in
-    cond accepted opened (line (letters "opened refused ") 8)
+    cond accepted opened (line (letters "opened refused ") (refusalNumber DealerRejected))

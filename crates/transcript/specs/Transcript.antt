@@ -5,23 +5,23 @@
 --   textOf bytes n t, text bytes   the text of a record that is not refused, and of any bytes
 --   rendering bytes out     the buffer afterwards, and the answer
 --   Whole bytes n t         the bytes are a record for n and t
--- Laws: proofs/Texts, proofs/Runs; document 01's example: proofs/Examples.
+-- Laws: proofs/Texts, proofs/Runs.
 use mathlib.Core.Path.{_≡_}
 use mathlib.Core.Bool.{cond}
+use mathlib.Core.Option.{Option, none, some}
 use mathlib.Core.List.{List, [], _∷_, _++_}
-use Prim.Native.Nat.{ℕ, zero, suc, _+_}
+use Prim.Native.Nat.{ℕ, zero, suc, _+_, _*_, _-_}
 use lib.Dec.{leb}
-use lib.ListN.{length, drop}
+use lib.ListN.{length, take, drop}
 use Rattle.field.specs.Modulus.{modulus}
 use Rattle.happy.specs.Happy.{happySet}
 use Rattle.dealer.specs.Desk.{stretch}
 use Rattle.lamp.specs.declared.Lamp.{Lamp}
 use Rattle.lamp.specs.declared.Reply.{Reply}
 use Rattle.lamp.specs.Lamp.{made, Call, takeDeal, hearPairs, settle, step, after}
-use Rattle.record.specs.declared.Reading.{Reading}
-use Rattle.record.specs.declared.Reading.the-variants.{Fine, WrongSize, WrongDirectory}
+use Rattle.record.specs.declared.Reading.the-variants.{Fine}
 use Rattle.record.specs.Bytes.{numbers}
-use Rattle.record.specs.Record.{nOf, tOf, reading, sectionOf}
+use Rattle.record.specs.Record.{nOf, tOf, reading, numberOf, sectionOf}
 use Rattle.transcript.specs.Letters.{letters, line}
 use Rattle.transcript.specs.Lines.{sizeLine, isAccepted, verdictLines, lampLine, lastLine}
 
@@ -31,13 +31,17 @@ numbersOf bytes k = numbers (sectionOf bytes k)
 
 -- ---- the lamps
 
+-- The n pairs of receiver i, of those of all receivers.
+abbrev pub received : ℕ → List ℕ → ℕ → List ℕ
+received n pairs i = take (2 * n) (drop ((i - 1) * (2 * n)) pairs)
+
 -- Lamp i takes its own part of the deals.
 abbrev pub dealCall : List ℕ → ℕ → ℕ → Call
 dealCall bytes t i = takeDeal (stretch (t + 1) (numbersOf bytes 0) i)
 
--- Then it hears its own part of round two, n pairs.
+-- Then it hears its own part of round two, which stands by receiver, then sender: n pairs.
 abbrev pub pairsCall : List ℕ → ℕ → ℕ → Call
-pairsCall bytes n i = hearPairs (stretch n (numbersOf bytes 1) i)
+pairsCall bytes n i = hearPairs (received n (numbersOf bytes 1) i)
 
 -- And it settles on the reports: this is what it answers.
 unfoldable pub run : List ℕ → ℕ → ℕ → ℕ → Reply
@@ -57,15 +61,14 @@ textOf bytes n t =
     let accepted = isAccepted set n t in
     ((sizeLine n t ++ verdictLines accepted set n) ++ lampLines bytes n t n) ++ lastLine accepted n t (numbersOf bytes 3)
 
--- A refused record gives one line alone.
-unfoldable pub textBy : Reading → List ℕ → List ℕ
-textBy Fine bytes = textOf bytes (nOf bytes) (tOf bytes)
-textBy WrongSize bytes = line (letters "record refused ") 1
-textBy WrongDirectory bytes = line (letters "record refused ") 6
+-- By the reader's refusal: a refused record gives one line alone.
+unfoldable pub textBy : Option ℕ → List ℕ → List ℕ
+textBy none bytes = textOf bytes (nOf bytes) (tOf bytes)
+textBy (some k) bytes = line (letters "record refused ") k
 
 -- The whole text.
 unfoldable pub text : List ℕ → List ℕ
-text bytes = textBy (reading bytes) bytes
+text bytes = textBy (numberOf (reading bytes)) bytes
 
 -- The text over the front of the buffer, and its length; a buffer of less than 512 bytes is left alone, and the answer is 0.
 unfoldable pub rendering : List ℕ → List ℕ → List ℕ × ℕ

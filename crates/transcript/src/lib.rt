@@ -7,7 +7,7 @@ ghost use lib.ListN.{length, take};
 ghost use Rattle.field.specs.Modulus.{modulus};
 ghost use Rattle.happy.specs.Happy.{happySet};
 ghost use Rattle.parties.specs.Parties.{sizes, points};
-ghost use Rattle.record.specs.Record.{nOf, tOf, reading};
+ghost use Rattle.record.specs.Record.{nOf, tOf, reading, numberOf as readingNumber};
 ghost use Rattle.lamp.specs.Answer.{numberOf};
 ghost use Rattle.lamp.specs.Lamp.{made, after};
 ghost use Rattle.transcript.specs.Letters.{Added};
@@ -239,7 +239,7 @@ fn put_record(out: &mut [u8], bytes: &[u8], n: u8, t: u8) -> usize
 // Puts the text by what the reader answered.
 fn put_text(out: &mut [u8], bytes: &[u8], answer: Reading) -> usize
     requires { ⌜ (answer ≡ reading (now bytes)) × (512 ≤ length (now out)) ⌝ }
-    ensures { λ r. ⌜ Added (now (out .entry)) 0 (textBy answer (now (bytes .entry))) (now (out .exit)) r ⌝ }
+    ensures { λ r. ⌜ Added (now (out .entry)) 0 (textBy (readingNumber answer) (now (bytes .entry))) (now (out .exit)) r ⌝ }
     ensures short { λ r. ⌜ r ≤ 512 ⌝ }
 {
     match answer {
@@ -249,10 +249,11 @@ fn put_text(out: &mut [u8], bytes: &[u8], answer: Reading) -> usize
     }
 }
 
-// Writes the text of a record over the front of the lent buffer and answers its length. Every text has less than 512 bytes:
+// Writes the text of a record over the front of the lent buffer and answers its length. No text has more than 512 bytes:
 // a buffer of less is left alone, and the answer is 0.
 pub fn render(bytes: &[u8], out: &mut [u8]) -> usize
     ensures { λ r. ⌜ (now (out .exit), r) ≡ rendering (now (bytes .entry)) (now (out .entry)) ⌝ }
+    ensures short { λ r. ⌜ r ≤ 512 ⌝ }
     ensures inside { λ r. ⌜ (r ≤ length (now (out .exit))) × (r ≡ length (take r (now (out .exit)))) ⌝ }
 {
     if out.len() < 512 {

@@ -12,7 +12,7 @@ use Rattle.transcript.proofs.render.Tie as tie
 returns : tie.Need-returns
 returns c =
     let s = c .before .before .before in
-    (render-small (s .args .bytes .now) (s .args .out .now) (c .if1 .taken), (omega arith, refl))
+    (render-small (s .args .bytes .now) (s .args .out .now) (c .if1 .taken), (omega arith, (omega arith, refl)))
 
 read-requires : tie.Need-read-requires
 read-requires c κs = search needs
@@ -29,7 +29,7 @@ returns-2 c =
     let p = c .before .before .put-text in
     let h : p .result ≤ length (p .last .0) = omega (arith, p .ensures .1, p .kept .0, c .before .before .before .before .before .if1 .left) in (
       render-large (s .args .bytes .now) (s .args .out .now) (p .last .0) (p .result) (c .before .before .before .before .read .result) (c .before .before .before .before .before .if1 .left) (c .before .before .before .before .read .ensures) (p .ensures .0),
-      (h, sym (length-take-le (p .result) (p .last .0) h)),
+      (p .ensures .1, (h, sym (length-take-le (p .result) (p .last .0) h))),
     )
 
 pub render-spec : {M : Type 1} → statement M
