@@ -16,7 +16,7 @@ use Rattle.record.specs.declared.Reading.the-variants.{Fine, WrongSize, 
 use Rattle.record.specs.Bytes.{numberAt, standAt}
 use Rattle.record.specs.Record.{sectionLength, sectionStart, directory, directoryRight, nOf, tOf, reading, IsRecord, numberOf, isFine, sectionOf}
 use Rattle.record.proofs.Bytes.{stand-facts, stand-true}
-use Rattle.record.proofs.Sections.{length-directory, directory-offset, directory-count, section-before-end}
+use Rattle.record.proofs.Sections.{sections-small, length-directory, directory-offset, directory-count, section-before-end}
 
 -- ---- Which answer when, in document 01's order
 module _ (bytes : List ℕ) where
@@ -104,6 +104,13 @@ fine-record bytes e =
           ap (numberAt bytes) place ∙ at (2 * k + 1) (omega arith) ∙ directory-count n t k h;
       end = end;
     }
+
+-- The longest record is that of 16 parties, 3 of them faulty.
+pub longest : (bytes : List ℕ) → reading bytes ≡ Fine → length bytes ≤ 1362
+longest bytes e =
+    let (two, size, end, at) = fine-passed bytes e in
+    let (deals, pairs, each) = sections-small (nOf bytes) (tOf bytes) size in
+    omega arith
 
 -- Each number of the directory is an offset or a length.
 pub record-fine : (bytes : List ℕ) → IsRecord bytes → reading bytes ≡ Fine

@@ -11,11 +11,13 @@ use Rattle.lists.specs.All.{All}
 use Rattle.parties.specs.Parties.{sizes}
 use Rattle.record.specs.declared.Reading.the-variants.{Fine}
 use Rattle.record.specs.Bytes.{numberAt, numbers, bytesOf, standAt, over}
-use Rattle.record.specs.Record.{sectionLength, sectionStart, directory, directoryRight, reading, sectionOf, recordOf, Contents, writable, writing}
+use Rattle.record.specs.Record.{sectionLength, sectionStart, directory, directoryRight, nOf, tOf, reading, sectionOf, recordOf, Contents, writable, writing}
+use Rattle.record.specs.declared.Writing.{Writing}
+use Rattle.record.specs.declared.Writing.the-variants.{Written}
 use Rattle.record.proofs.Bytes.{length-bytes, bytes-append, bytes-place, numbers-bytes, stand-true, over-front, over-rest}
 use Rattle.record.proofs.Sections.{length-directory, directory-below, record-head}
 use Rattle.record.proofs.Answers.{reading-fine, section-at}
-use Rattle.record.proofs.Writing.{Writable, double, writable-facts, length-record, writing-written}
+use Rattle.record.proofs.Buffer.{Writable, double, writable-facts, length-record, writing-written, only-writable}
 
 -- A number that stands in the front bytes.
 front-place : (xs ys : List ℕ) (at : ℕ) → at + 1 < length xs → numberAt (xs ++ ys) at ≡ numberAt xs at
@@ -97,27 +99,55 @@ module _ (n t : ℕ) (deals pairs reports shares : List ℕ) (given : Contents n
   pub round-trip : (k : ℕ) → k ≤ 3 → numbers (sectionOf (recordOf n t deals pairs reports shares) k) ≡ getD (deals ∷ pairs ∷ reports ∷ shares ∷ []) k []
   round-trip k h = ap numbers (record-section k h) ∙ numbers-bytes (getD (deals ∷ pairs ∷ reports ∷ shares ∷ []) k []) (small k h)
 
--- ---- What the code leaves in the buffer is the record, and behind it the buffer is as it was
-module _ (n t : ℕ) (deals pairs reports shares out : List ℕ)
-    (e : writable n t (length deals) (length pairs) (length reports) (length shares) (length out) ≡ true) where
+-- ---- What the code writes
+
+-- What is writable is legal contents.
+pub writable-contents : (n t : ℕ) (deals pairs reports shares : List ℕ) (room : ℕ)
+    → writable n t (length deals) (length pairs) (length reports) (length shares) room ≡ true
+    → All (All (λ x. x < 65536)) (deals ∷ pairs ∷ reports ∷ shares ∷ []) → Contents n t deals pairs reports shares
+writable-contents n t deals pairs reports shares room e small =
+    let f = writable-facts n t (length deals) (length pairs) (length reports) (length shares) room e in
+    record {
+      size = f .size;
+      first = omega (arith, f .first, double n (t + 1));
+      second = omega (arith, f .second, double n n);
+      third = omega (arith, f .third);
+      fourth = omega (arith, f .fourth);
+      small = small;
+    }
+
+-- The buffer `new` and the answer r, as the contract of `write` gives them.
+module _ (n t : ℕ) (deals pairs reports shares out new : List ℕ) (r : ℕ) (done : _≡_ {A = List ℕ × Writing} (new, Written r) (writing n t deals pairs reports shares out)) where
   abbrev all : List ℕ
   all = recordOf n t deals pairs reports shares
 
-  fitting : (length all ≡ sectionStart n t 4) × (length all ≤ length out)
-  fitting =
-      let f = writable-facts n t (length deals) (length pairs) (length reports) (length shares) (length out) e in
+  -- All tests passed.
+  tested : (writable n t (length deals) (length pairs) (length reports) (length shares) (length out) ≡ true) × (r ≡ sectionStart n t 4)
+  tested = only-writable n t deals pairs reports shares out r (sym (ap (λ w. w .1) done))
+
+  fits : (length all ≡ r) × (length all ≤ length out) × (new ≡ over all out)
+  fits =
+      let f = writable-facts n t (length deals) (length pairs) (length reports) (length shares) (length out) (tested .0) in
       let size = length-record n t deals pairs reports shares f in
-      (size, omega (arith, f .whole))
+      (size ∙ sym (tested .1), omega (arith, f .whole), ap (λ w. w .0) (done ∙ writing-written n t deals pairs reports shares out (tested .0)))
 
-  pub written : let w = writing n t deals pairs reports shares out in take (w .1) (w .0) ≡ recordOf n t deals pairs reports shares
-  written =
-      ap (λ w. take (w .1) (w .0)) (writing-written n t deals pairs reports shares out e)
-      ∙ ap (λ z. take z (over all out)) (sym (fitting .0))
-      ∙ over-front all out (fitting .1)
+  -- The buffer's front is the record, and behind it the buffer is as it was.
+  pub written : take r new ≡ recordOf n t deals pairs reports shares
+  written = ap₂ take (sym (fits .0)) (fits .2) ∙ over-front all out (fits .1)
 
-  pub rest-left : let w = writing n t deals pairs reports shares out in drop (w .1) (w .0) ≡ drop (w .1) out
-  rest-left =
-      ap (λ w. drop (w .1) (w .0)) (writing-written n t deals pairs reports shares out e)
-      ∙ ap (λ z. drop z (over all out)) (sym (fitting .0))
-      ∙ over-rest all out (fitting .1)
-      ∙ ap (λ z. drop z out) (fitting .0 ∙ sym (ap (λ w. w .1) (writing-written n t deals pairs reports shares out e)))
+  pub rest-left : drop r new ≡ drop r out
+  rest-left = ap₂ drop (sym (fits .0)) (fits .2) ∙ over-rest all out (fits .1) ∙ ap (λ z. drop z out) (fits .0)
+
+  -- What is written is read: the sizes, and in section k the numbers of the k-th list.
+  pub written-read : All (All (λ x. x < 65536)) (deals ∷ pairs ∷ reports ∷ shares ∷ [])
+      → (r ≡ sectionStart n t 4) × (reading (take r new) ≡ Fine) × (nOf (take r new) ≡ n) × (tOf (take r new) ≡ t)
+      × ((k : ℕ) → k ≤ 3 → numbers (sectionOf (take r new) k) ≡ getD (deals ∷ pairs ∷ reports ∷ shares ∷ []) k [])
+  unfolding recordOf
+  written-read small =
+      let given = writable-contents n t deals pairs reports shares (length out) (tested .0) small in (
+        tested .1,
+        ap reading written ∙ reading-record n t deals pairs reports shares given,
+        ap nOf written,
+        ap tOf written,
+        λ k h. ap (λ z. numbers (sectionOf z k)) written ∙ round-trip n t deals pairs reports shares given k h,
+      )

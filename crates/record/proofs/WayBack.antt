@@ -15,7 +15,7 @@ use Rattle.record.specs.Record.{sectionLength, sectionStart, directory, 
 use Rattle.record.proofs.Bytes.{length-numbers, number-place, bytes-append, numbers-below, bytes-numbers}
 use Rattle.record.proofs.Sections.{length-directory, record-head}
 use Rattle.record.proofs.Answers.{fine-passed, section-at, length-section}
-use Rattle.record.proofs.Writing.{double}
+use Rattle.record.proofs.Buffer.{double}
 
 two-first : (bytes : List ℕ) → 2 ≤ length bytes → nOf bytes ∷ tOf bytes ∷ drop 2 bytes ≡ bytes
 two-first [] h = absurd (omega arith)

@@ -4,13 +4,15 @@
 --   directoryRight bytes n t                  the record has this directory, and its last section ends it
 --   nOf bytes, tOf bytes                      the sizes that the bytes give
 --   IsRecord bytes                            the bytes are a record
---   reading bytes                             what the reader answers; numberOf: document 01's number of it
+--   reading bytes                             what the reader answers
+--   numberOf, writingNumber                   document 01's number of the reader's and of the writer's answer
 --   sectionOf bytes k                         the bytes of section k, none of a refused record
 --   recordOf n t deals pairs reports shares   the whole record
 --   Contents n t deals ..                     the lists can be a record's
---   writable, writing                             when it is written, and the answer and the buffer afterwards
+--   lengthsFit, writable                      the lengths that writing it takes, and these with the sizes
+--   writing n t deals .. out                  the buffer afterwards, and what the writer answers
 --   isFine answer                             the record is not refused
--- Laws: proofs/Sections, proofs/Answers, proofs/Writing, proofs/RoundTrip, proofs/WayBack.
+-- Laws: proofs/Sections, proofs/Answers, proofs/Buffer, proofs/RoundTrip, proofs/WayBack.
 use mathlib.Core.Path.{_≡_}
 use mathlib.Core.Bool.{Bool, true, false, cond, _&&_}
 use mathlib.Core.Option.{Option, none, some}
@@ -23,6 +25,8 @@ use Rattle.parties.specs.Parties.{sizes}
 use Rattle.record.specs.Bytes.{numberAt, bytesOf, standAt, over}
 use Rattle.record.specs.declared.Reading.{Reading}
 use Rattle.record.specs.declared.Reading.the-variants.{Fine, WrongSize, WrongDirectory}
+use Rattle.record.specs.declared.Writing.{Writing}
+use Rattle.record.specs.declared.Writing.the-variants.{Written, WrongLength}
 
 -- Deals 4n(t+1) bytes, round two 4n², reports 2n, published shares 2n.
 abbrev pub sectionLength : ℕ → ℕ → ℕ → ℕ
@@ -70,11 +74,17 @@ pub record IsRecord (bytes : List ℕ) : Type 0 where
   pub count : (k : ℕ) → k ≤ 3 → numberAt bytes (4 + 4 * k) ≡ sectionLength (nOf bytes) (tOf bytes) k
   pub end : length bytes ≡ sectionStart (nOf bytes) (tOf bytes) 4
 
--- Document 01's number of an answer; none where the record is fine.
+-- Document 01's number of a reader's answer; none where the record is fine.
 abbrev pub numberOf : Reading → Option ℕ
 numberOf Fine = none
 numberOf WrongSize = some 1
 numberOf WrongDirectory = some 6
+
+-- Document 01's number of a writer's answer; none where the record is written.
+abbrev pub writingNumber : Writing → Option ℕ
+writingNumber (Written count) = none
+writingNumber Writing.WrongSize = some 1
+writingNumber WrongLength = some 3
 
 -- Whether the record is not refused.
 abbrev pub isFine : Reading → Bool
@@ -100,19 +110,24 @@ pub record Contents (n t : ℕ) (deals pairs reports shares : List ℕ) : Type 0
   pub fourth : length shares ≡ n
   pub small : All (All (λ x. x < 65536)) (deals ∷ pairs ∷ reports ∷ shares ∷ [])
 
--- Sizes, lengths of the four lists and room in the buffer fit: 2n(t+1), 2n², n and n numbers.
-unfoldable pub writable : ℕ → ℕ → ℕ → ℕ → ℕ → ℕ → ℕ → Bool
-writable n t deals pairs reports shares room =
-    sizes n t
-    && eqb deals (2 * n * (t + 1))
+-- The four lists have a record's lengths, 2n(t+1), 2n², n and n numbers, and the buffer has room for it.
+unfoldable pub lengthsFit : ℕ → ℕ → ℕ → ℕ → ℕ → ℕ → ℕ → Bool
+lengthsFit n t deals pairs reports shares room =
+    eqb deals (2 * n * (t + 1))
     && eqb pairs (2 * n * n)
     && eqb reports n
     && eqb shares n
     && leb (sectionStart n t 4) room
 
--- The record written over the front of the buffer, and its length; where something does not fit, the buffer as it was, and 0.
-unfoldable pub writing : ℕ → ℕ → List ℕ → List ℕ → List ℕ → List ℕ → List ℕ → List ℕ × ℕ
+-- A record is written: no test refuses.
+unfoldable pub writable : ℕ → ℕ → ℕ → ℕ → ℕ → ℕ → ℕ → Bool
+writable n t deals pairs reports shares room = sizes n t && lengthsFit n t deals pairs reports shares room
+
+-- The buffer afterwards, and the answer: the record over the buffer's front, and its length. The size is tested first; a refusal leaves the buffer alone.
+unfoldable pub writing : ℕ → ℕ → List ℕ → List ℕ → List ℕ → List ℕ → List ℕ → List ℕ × Writing
 writing n t deals pairs reports shares out =
-    cond (writable n t (length deals) (length pairs) (length reports) (length shares) (length out))
-    (over (recordOf n t deals pairs reports shares) out, sectionStart n t 4)
-    (out, 0)
+    cond (sizes n t)
+    (cond (lengthsFit n t (length deals) (length pairs) (length reports) (length shares) (length out))
+    (over (recordOf n t deals pairs reports shares) out, Written (sectionStart n t 4))
+    (out, WrongLength))
+    (out, Writing.WrongSize)

@@ -6,13 +6,20 @@ ghost use Prim.Native.Nat.{_+_, _*_, _/_, _%_, _≤_};
 ghost use lib.ListN.{length, take, drop};
 ghost use Rattle.parties.specs.Parties.{sizes};
 ghost use Rattle.record.specs.Bytes.{numberAt, numbers, numberIn, bytesOf, standAt, over};
-ghost use Rattle.record.specs.Record.{directory, directoryRight, reading, isFine, sectionOf, writable, writing};
+ghost use Rattle.record.specs.Record.{sectionStart, directory, directoryRight, reading, isFine, sectionOf, recordOf, lengthsFit, writable, writing};
 
 // What the reader answers. Document 01's number of each refusal is `numberOf` in the definitions.
 pub enum Reading {
     Fine,
     WrongSize,
     WrongDirectory,
+}
+
+// What the writer answers: the record's length, or why nothing is written. Document 01's number of each refusal is `writingNumber` in the definitions.
+pub enum Writing {
+    Written(usize),
+    WrongSize,
+    WrongLength,
 }
 
 // A byte as a number of 16 bits, with the bound that the sum below needs.
@@ -132,7 +139,7 @@ pub fn number(part: &[u8], k: usize) -> u16
     number_at(part, 2 * k)
 }
 
-// The numbers of a section, written over the front of a lent list as far as both reach.
+// Copies the numbers of a section over the front of a lent list. It is a copy, not a call of the protocol: a list of another length is not refused but filled as far as both reach, so a longer one keeps its rest and a shorter one gets only the first numbers.
 pub fn numbers(part: &[u8], out: &mut [u16])
     ensures { λ r. ⌜ now (out .exit) ≡ over (numbers (now (part .entry))) (now (out .entry)) ⌝ }
 {
@@ -178,8 +185,8 @@ fn put(list: &[u16], at: usize, out: &mut [u8]) -> usize
     place
 }
 
-// Whether the sizes, the lengths of the four lists and the room in the buffer fit together.
-fn writable(
+// Whether the four lists have a record's lengths and the buffer has room for it.
+fn lengths_fit(
     n: u8,
     t: u8,
     deals: usize,
@@ -188,11 +195,9 @@ fn writable(
     shares: usize,
     room: usize,
 ) -> bool
-    ensures { λ r. ⌜ r ≡ writable n t deals pairs reports shares room ⌝ }
+    requires { ⌜ sizes n t ≡ true ⌝ }
+    ensures { λ r. ⌜ r ≡ lengthsFit n t deals pairs reports shares room ⌝ }
 {
-    if !parties::sizes(n, t) {
-        return false;
-    }
     let size = n as usize;
     let width = t as usize + 1;
     if deals != 2 * size * width {
@@ -210,8 +215,8 @@ fn writable(
     18 + 4 * size * width + 4 * size * size + 2 * size + 2 * size <= room
 }
 
-// Writes a record over the front of the lent buffer and answers its length. Where something does not fit, the answer is 0 and the buffer is left alone.
-pub fn write(
+// Writes the record over the front of the buffer and answers its length.
+fn fill(
     n: u8,
     t: u8,
     deals: &[u16],
@@ -220,19 +225,10 @@ pub fn write(
     shares: &[u16],
     out: &mut [u8],
 ) -> usize
-    ensures { λ r. ⌜ (now (out .exit), r) ≡ writing n t (now (deals .entry)) (now (pairs .entry)) (now (reports .entry)) (now (shares .entry)) (now (out .entry)) ⌝ }
+    requires { ⌜ writable n t (length (now deals)) (length (now pairs)) (length (now reports)) (length (now shares)) (length (now out)) ≡ true ⌝ }
+    ensures end { λ r. ⌜ r ≡ sectionStart n t 4 ⌝ }
+    ensures written { λ r. ⌜ now (out .exit) ≡ over (recordOf n t (now (deals .entry)) (now (pairs .entry)) (now (reports .entry)) (now (shares .entry))) (now (out .entry)) ⌝ }
 {
-    if !writable(
-        n,
-        t,
-        deals.len(),
-        pairs.len(),
-        reports.len(),
-        shares.len(),
-        out.len(),
-    ) {
-        return 0;
-    }
     out[0] = n;
     out[1] = t;
     let numbers = directory(n, t);
@@ -241,4 +237,33 @@ pub fn write(
     let third = put(pairs, second, out);
     let fourth = put(reports, third, out);
     put(shares, fourth, out)
+}
+
+// Writes a record over the front of the lent buffer, which may be longer. A refusal leaves the buffer alone.
+pub fn write(
+    n: u8,
+    t: u8,
+    deals: &[u16],
+    pairs: &[u16],
+    reports: &[u16],
+    shares: &[u16],
+    out: &mut [u8],
+) -> Writing
+    ensures { λ r. ⌜ (now (out .exit), r) ≡ writing n t (now (deals .entry)) (now (pairs .entry)) (now (reports .entry)) (now (shares .entry)) (now (out .entry)) ⌝ }
+{
+    if !parties::sizes(n, t) {
+        return Writing::WrongSize;
+    }
+    if !lengths_fit(
+        n,
+        t,
+        deals.len(),
+        pairs.len(),
+        reports.len(),
+        shares.len(),
+        out.len(),
+    ) {
+        return Writing::WrongLength;
+    }
+    Writing::Written(fill(n, t, deals, pairs, reports, shares, out))
 }

@@ -1,0 +1,186 @@
+-- Laws of writing: what is writable, the buffer after each section, and which answer when.
+--   Writable   what the tests of `writable` say
+--   Stage      everything before section k is written, and from its start on the buffer is as it was
+use mathlib.Core.Path.{_≡_, refl, sym, ap, ap₂, subst, _∙_}
+use mathlib.Core.Bool.{Bool, true, false, cond, _&&_, and-eq-true-iff}
+use mathlib.Core.Option.{none, some}
+use mathlib.Core.List.{List, [], _∷_, _++_, append-assoc}
+use Prim.Native.Nat.{ℕ, suc, _+_, _*_, _≤_}
+use native.Mathlib.Nat.{mul-assoc}
+use native.Mathlib.Omega.{arith}
+use lib.Dec.{eqb, leb}
+use lib.ListN.{length, take, drop, set, length-append}
+use borrow.Author.Tests.{eqb-true, leb-true}
+use Rattle.parties.specs.Parties.{sizes}
+use Rattle.record.specs.Bytes.{bytesOf, over}
+use Rattle.record.specs.Record.{sectionLength, sectionStart, directory, recordOf, lengthsFit, writable, writingNumber, writing}
+use Rattle.record.specs.declared.Writing.{Writing}
+use Rattle.record.specs.declared.Writing.the-variants.{Written, WrongLength}
+use Rattle.record.proofs.Bytes.{length-bytes, bytes-append, over-room}
+use Rattle.record.proofs.Sections.{length-directory, record-head, section-before-end}
+use Rattle.record.proofs.Loops.{Begun, begun-start, begun-byte, begun-put, begun-length}
+
+-- ---- What is writable
+
+-- Two bytes for each number.
+pub double : (m k : ℕ) → 2 * (2 * m * k) ≡ 4 * m * k
+double m k = sym (mul-assoc 2 (2 * m) k) ∙ ap (λ z. z * k) (let four : 2 * (2 * m) ≡ 4 * m = omega arith in four)
+
+pub record Writable (n t deals pairs reports shares room : ℕ) : Type 0 where
+  pub size : sizes n t ≡ true
+  pub first : 2 * deals ≡ sectionLength n t 0
+  pub second : 2 * pairs ≡ sectionLength n t 1
+  pub third : 2 * reports ≡ sectionLength n t 2
+  pub fourth : 2 * shares ≡ sectionLength n t 3
+  pub whole : sectionStart n t 4 ≤ room
+
+pub writable-facts : (n t deals pairs reports shares room : ℕ) → writable n t deals pairs reports shares room ≡ true → Writable n t deals pairs reports shares room
+unfolding writable lengthsFit
+writable-facts n t deals pairs reports shares room e =
+    let b = eqb deals (2 * n * (t + 1)) in
+    let c = eqb pairs (2 * n * n) in
+    let d = eqb reports n in
+    let f = eqb shares n in
+    let (size, lengths) = and-eq-true-iff (sizes n t) (lengthsFit n t deals pairs reports shares room) .0 e in
+    let (e4, whole) = and-eq-true-iff (b && c && d && f) (leb (sectionStart n t 4) room) .0 lengths in
+    let (e3, fourth) = and-eq-true-iff (b && c && d) f .0 e4 in
+    let (e2, third) = and-eq-true-iff (b && c) d .0 e3 in
+    let (first, second) = and-eq-true-iff b c .0 e2 in
+    record {
+      size = size;
+      first = ap (λ z. 2 * z) (eqb-true _ _ first) ∙ double n (t + 1);
+      second = ap (λ z. 2 * z) (eqb-true _ _ second) ∙ double n n;
+      third = ap (λ z. 2 * z) (eqb-true _ _ third);
+      fourth = ap (λ z. 2 * z) (eqb-true _ _ fourth);
+      whole = leb-true _ _ whole;
+    }
+
+-- ---- The buffer after each section
+
+pub record Stage (n t : ℕ) (out front : List ℕ) (k r : ℕ) (new : List ℕ) : Type 0 where
+  pub place : r ≡ sectionStart n t k
+  pub begun : Begun front r out new
+
+module _ (n t : ℕ) (out : List ℕ) (whole : sectionStart n t 4 ≤ length out) where
+  -- The sizes and the directory.
+  pub stage-head : (list : List ℕ) (r : ℕ) (new : List ℕ) → list ≡ directory n t → r ≡ 2 + 2 * length list
+      → new ≡ take 2 (set (set out 0 n) 1 t) ++ (bytesOf list ++ drop r (set (set out 0 n) 1 t))
+      → Stage n t out (n ∷ t ∷ bytesOf (directory n t)) 0 r new
+  stage-head list r new e p w =
+      let long = record-head n t in
+      let start = begun-start out 0 (omega arith) in
+      let one = begun-byte (take 0 out) 0 out out start n (omega arith) in
+      let two = begun-byte (n ∷ []) 1 out (set out 0 n) one t (omega arith) in
+      let eight : length list ≡ 8 = ap length e ∙ length-directory n t in
+      let all = begun-put (n ∷ t ∷ []) 2 out (set (set out 0 n) 1 t) two list r new (omega arith) p w in
+      record {
+        place = omega arith;
+        begun = subst (λ z. Begun (n ∷ t ∷ bytesOf z) r out new) e all;
+      }
+
+  module _ (front : List ℕ) (k r : ℕ) (new : List ℕ) (s : Stage n t out front k r new) (h : k ≤ 3) (xs : List ℕ) (l : 2 * length xs ≡ sectionLength n t k) where
+    pub stage-room : r + 2 * length xs ≤ length new
+    stage-room = omega (arith, begun-length front r out new (s .begun), s .place, section-before-end n t k h)
+
+    pub stage-next : (r₂ : ℕ) (new₂ : List ℕ) → r₂ ≡ r + 2 * length xs → new₂ ≡ take r new ++ (bytesOf xs ++ drop r₂ new)
+        → Stage n t out (front ++ bytesOf xs) (suc k) r₂ new₂
+    stage-next r₂ new₂ p w = record {
+      place = p ∙ ap₂ _+_ (s .place) l;
+      begun = begun-put front r out new (s .begun) xs r₂ new₂ (omega (arith, stage-room, begun-length front r out new (s .begun))) p w;
+    }
+
+-- ---- The whole record
+
+module _ (n t : ℕ) (deals pairs reports shares : List ℕ) where
+  pub length-record : {room : ℕ} → Writable n t (length deals) (length pairs) (length reports) (length shares) room
+      → length (recordOf n t deals pairs reports shares) ≡ sectionStart n t 4
+  unfolding recordOf
+  length-record fit =
+      let all : List ℕ = directory n t ++ deals ++ pairs ++ reports ++ shares in
+      let parts : length all ≡ 8 + length deals + length pairs + length reports + length shares = simp (length-append, length-directory) (omega arith) in
+      ap (λ z. suc (suc z)) (length-bytes all) ∙ omega (arith, fit .first, fit .second, fit .third, fit .fourth)
+
+  in-order : (((n ∷ t ∷ bytesOf (directory n t) ++ bytesOf deals) ++ bytesOf pairs) ++ bytesOf reports) ++ bytesOf shares
+      ≡ recordOf n t deals pairs reports shares
+  unfolding recordOf
+  in-order = simp (bytes-append, append-assoc)
+
+  -- After the last section.
+  pub stage-end : (out : List ℕ) → Writable n t (length deals) (length pairs) (length reports) (length shares) (length out) → (r : ℕ) (new : List ℕ)
+      → Stage n t out ((((n ∷ t ∷ bytesOf (directory n t) ++ bytesOf deals) ++ bytesOf pairs) ++ bytesOf reports) ++ bytesOf shares) 4 r new
+      → (r ≡ sectionStart n t 4) × (new ≡ over (recordOf n t deals pairs reports shares) out)
+  stage-end out fit r new s =
+      let size = length-record fit in (
+        s .place,
+        s .begun .holds
+            ∙ ap₂ (λ a b. a ++ drop b out) in-order (s .place ∙ sym size)
+            ∙ sym (over-room (recordOf n t deals pairs reports shares) out (omega (arith, fit .whole))),
+      )
+
+-- ---- Which answer when, in document 01's order
+
+not-some : {k : ℕ} → none ≡ some k → ⊥
+not-some e = let z : _≡_ {A = ℕ} 0 1 = cc in omega arith
+
+-- The length that an answer tells, plus one; 0 where it tells none.
+abbrev told : Writing → ℕ
+told (Written count) = suc count
+told Writing.WrongSize = 0
+told WrongLength = 0
+
+-- `writing`, by what its two tests say.
+abbrev answered : Bool → Bool → List ℕ → List ℕ → ℕ → List ℕ × Writing
+answered size lengths new out whole = cond size (cond lengths (new, Written whole) (out, WrongLength)) (out, Writing.WrongSize)
+
+passed : (size lengths : Bool) (new out : List ℕ) (whole r : ℕ) → answered size lengths new out whole .1 ≡ Written r → (size && lengths ≡ true) × (r ≡ whole)
+passed true true new out whole r e = let same : suc whole ≡ suc r = ap told e in (refl, omega arith)
+passed true false new out whole r e = let none : 0 ≡ suc r = ap told e in absurd (omega arith)
+passed false lengths new out whole r e = let none : 0 ≡ suc r = ap told e in absurd (omega arith)
+
+left-alone : (size lengths : Bool) (new out : List ℕ) (whole k : ℕ) → writingNumber (answered size lengths new out whole .1) ≡ some k
+    → answered size lengths new out whole .0 ≡ out
+left-alone true true new out whole k e = absurd (not-some e)
+left-alone true false new out whole k e = refl
+left-alone false lengths new out whole k e = refl
+
+module _ (n t : ℕ) (deals pairs reports shares out : List ℕ) where
+  -- The test of the lengths.
+  abbrev fitting : Bool
+  fitting = lengthsFit n t (length deals) (length pairs) (length reports) (length shares) (length out)
+
+  pub writing-size : sizes n t ≡ false → writing n t deals pairs reports shares out ≡ (out, Writing.WrongSize)
+  unfolding writing
+  writing-size e = simp e
+
+  pub writing-length : sizes n t ≡ true → lengthsFit n t (length deals) (length pairs) (length reports) (length shares) (length out) ≡ false
+      → writing n t deals pairs reports shares out ≡ (out, WrongLength)
+  unfolding writing
+  writing-length e d = simp (e, d)
+
+  pub writing-written : writable n t (length deals) (length pairs) (length reports) (length shares) (length out) ≡ true
+      → writing n t deals pairs reports shares out ≡ (over (recordOf n t deals pairs reports shares) out, Written (sectionStart n t 4))
+  unfolding writing writable
+  writing-written e = let (size, lengths) = and-eq-true-iff (sizes n t) fitting .0 e in simp (size, lengths)
+
+  -- The same in document 01's numbers: 1, 3, none.
+  pub number-writing-size : sizes n t ≡ false → writingNumber (writing n t deals pairs reports shares out .1) ≡ some 1
+  number-writing-size e = ap (λ w. writingNumber (w .1)) (writing-size e)
+
+  pub number-writing-length : sizes n t ≡ true → lengthsFit n t (length deals) (length pairs) (length reports) (length shares) (length out) ≡ false
+      → writingNumber (writing n t deals pairs reports shares out .1) ≡ some 3
+  number-writing-length e d = ap (λ w. writingNumber (w .1)) (writing-length e d)
+
+  pub number-written : writable n t (length deals) (length pairs) (length reports) (length shares) (length out) ≡ true
+      → writingNumber (writing n t deals pairs reports shares out .1) ≡ none
+  number-written e = ap (λ w. writingNumber (w .1)) (writing-written e)
+
+  -- A refusal, whichever, leaves the buffer alone.
+  pub writing-refused : (k : ℕ) → writingNumber (writing n t deals pairs reports shares out .1) ≡ some k → writing n t deals pairs reports shares out .0 ≡ out
+  unfolding writing
+  writing-refused k e = left-alone (sizes n t) fitting (over (recordOf n t deals pairs reports shares) out) out (sectionStart n t 4) k e
+
+  -- Only what is writable is written, and the answer is the record's length.
+  pub only-writable : (r : ℕ) → writing n t deals pairs reports shares out .1 ≡ Written r
+      → (writable n t (length deals) (length pairs) (length reports) (length shares) (length out) ≡ true) × (r ≡ sectionStart n t 4)
+  unfolding writing writable
+  only-writable r e = passed (sizes n t) fitting (over (recordOf n t deals pairs reports shares) out) out (sectionStart n t 4) r e
