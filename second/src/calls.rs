@@ -11,8 +11,14 @@ use crate::scenario::{
     Scenario, HONEST,
 };
 
+/// A lent list of a random call is never longer: more than three times the
+/// longest that is ever right, and little enough for a reader to hold.
+pub const LENT_LIMIT: usize = 200;
+
 #[derive(Clone, PartialEq, Eq, Debug)]
 pub enum Call {
+    /// n, t and the party's number. A new party takes the old one's place.
+    Make(usize, usize, usize),
     Deal(Vec<u16>),
     Say(usize),
     Hear(Vec<u16>),
@@ -25,7 +31,7 @@ pub type Answer = Result<Vec<u16>, u8>;
 
 /// One line of a list: what was called, answered, and held afterwards.
 pub struct Step {
-    pub call: String,
+    pub call: Call,
     pub answer: Answer,
     pub before: Party,
     pub after: Party,
@@ -34,6 +40,11 @@ pub struct Step {
 /// Makes the call.
 pub fn apply(party: &mut Party, call: &Call) -> Answer {
     match call {
+        Call::Make(n, t, number) => {
+            let (made, answer) = Party::make(*n, *t, *number);
+            *party = made;
+            answer.map(|()| vec![])
+        }
         Call::Deal(list) => party.take_deal(list).map(|()| vec![]),
         Call::Say(j) => party.say(*j).map(|(first, second)| vec![first, second]),
         Call::Hear(list) => party.hear(list).map(|report| vec![report]),
@@ -48,8 +59,10 @@ fn joined(numbers: &[u16]) -> String {
     numbers.iter().map(|number| format!(" {number}")).collect()
 }
 
-fn call_text(call: &Call) -> String {
+/// The call as it stands in a line, without its end.
+pub fn call_text(call: &Call) -> String {
     match call {
+        Call::Make(n, t, number) => format!("make {n} {t} {number}"),
         Call::Deal(list) => format!("deal{}", joined(list)),
         Call::Say(j) => format!("say {j}"),
         Call::Hear(list) => format!("hear{}", joined(list)),
@@ -58,32 +71,53 @@ fn call_text(call: &Call) -> String {
     }
 }
 
-/// The line of a step.
-pub fn line(step: &Step) -> String {
-    let answer = match &step.answer {
+/// The call's first word.
+pub fn call_name(call: &Call) -> &'static str {
+    match call {
+        Call::Make(..) => "make",
+        Call::Deal(_) => "deal",
+        Call::Say(_) => "say",
+        Call::Hear(_) => "hear",
+        Call::Settle(_) => "settle",
+        Call::Open(_) => "open",
+    }
+}
+
+/// What a call answered and left: `ANSWER ; STAGE SHARE HAPPY`.
+pub fn answer_text(answer: &Answer, party: &Party) -> String {
+    let words = match answer {
         Ok(values) => format!("ok{}", joined(values)),
         Err(refusal) => format!("refused {refusal}"),
     };
-    let party = &step.after;
     let stage = party.stage as u8;
-    format!(
-        "{} = {answer} ; {stage} {} {}\n",
-        step.call, party.share, party.happy
-    )
+    format!("{words} ; {stage} {} {}", party.share, party.happy)
+}
+
+/// The line of a step.
+pub fn line(step: &Step) -> String {
+    let call = call_text(&step.call);
+    format!("{call} = {}\n", answer_text(&step.answer, &step.after))
 }
 
 // ---- random lists ----
+
+/// Makes the call and notes what came of it.
+fn step(party: &mut Party, call: Call) -> Step {
+    let before = party.clone();
+    let answer = apply(party, &call);
+    Step {
+        call,
+        answer,
+        before,
+        after: party.clone(),
+    }
+}
 
 /// A random list, its making first.
 pub fn random_list(rng: &mut Rng) -> Vec<Step> {
     let (n, t, number) = made_for(rng);
     let (mut party, made) = Party::make(n, t, number);
-    let mut steps = vec![Step {
-        call: format!("make {n} {t} {number}"),
-        answer: made.map(|()| vec![]),
-        before: party.clone(),
-        after: party.clone(),
-    }];
+    let mut steps = vec![step(&mut party, Call::Make(n, t, number))];
     // What the other parties would say; a bad size borrows a legal one.
     let world = match made {
         Ok(()) => build(rng, n, t, HONEST),
@@ -94,14 +128,7 @@ pub fn random_list(rng: &mut Rng) -> Vec<Step> {
     };
     for _ in 0..rng.between(2, 16) {
         let call = random_call(rng, &party, &world);
-        let before = party.clone();
-        let answer = apply(&mut party, &call);
-        steps.push(Step {
-            call: call_text(&call),
-            answer,
-            before,
-            after: party.clone(),
-        });
+        steps.push(step(&mut party, call));
     }
     steps
 }
@@ -171,7 +198,8 @@ fn said_for(rng: &mut Rng, party: &Party) -> usize {
     }
 }
 
-/// One number too few or too many, none at all, or any length.
+/// One number too few or too many, none at all, twice as many, or any
+/// length up to the limit.
 fn spoil_length(rng: &mut Rng, call: &mut Call) {
     let (Call::Deal(list) | Call::Hear(list) | Call::Settle(list) | Call::Open(list)) = call else {
         return;
@@ -181,9 +209,9 @@ fn spoil_length(rng: &mut Rng, call: &mut Call) {
         1 => list.len() + 1,
         2 => 0,
         3 => 2 * list.len(),
-        _ => rng.below(40),
+        _ => rng.below(LENT_LIMIT + 1),
     };
-    list.resize(length, NOT_SENT);
+    list.resize(length.min(LENT_LIMIT), NOT_SENT);
 }
 
 /// The number of the party within the world; a bad one stands for party 1.

@@ -5,30 +5,47 @@ mod bench;
 mod calls;
 mod check;
 mod clique;
+mod cross;
+mod cross_calls;
 mod dealer;
 mod field;
 mod fit;
 mod make;
+mod named;
+mod outcome;
 mod party;
 mod poly;
+mod program;
 mod record;
 mod rng;
 mod scenario;
+mod store;
 #[cfg(test)]
 mod tests;
+mod wire;
 
+use std::fs;
 use std::io::{self, Read, Write};
 use std::path::Path;
 use std::process::ExitCode;
 
 const USAGE: &str = "usage: second run < RECORD
+       second cases FILE...
+       second answer < CALLS
        second make SEED COUNT DIR
+       second store DIR
        second check SEED COUNT
-       second calls SEED COUNT";
+       second calls SEED COUNT
+       second cross SEED COUNT BENCH
+       second cross-calls SEED COUNT CALLS";
 
 fn main() -> ExitCode {
-    let args: Vec<String> = std::env::args().skip(1).collect();
-    match command(&args) {
+    let done = arguments().and_then(|args| {
+        let words: Vec<&str> = args.iter().map(String::as_str).collect();
+        let text = command(&words)?;
+        io::stdout().write_all(text.as_bytes()).map_err(told)
+    });
+    match done {
         Ok(()) => ExitCode::SUCCESS,
         Err(what) => {
             eprintln!("{what}");
@@ -37,17 +54,35 @@ fn main() -> ExitCode {
     }
 }
 
-fn command(args: &[String]) -> Result<(), String> {
-    let words: Vec<&str> = args.iter().map(String::as_str).collect();
-    match words[..] {
-        ["run"] => run().map_err(|e| e.to_string()),
+fn arguments() -> Result<Vec<String>, String> {
+    std::env::args_os()
+        .skip(1)
+        .map(|word| word.into_string().map_err(|_| "not UTF-8".to_string()))
+        .collect()
+}
+
+fn told(error: io::Error) -> String {
+    error.to_string()
+}
+
+/// What the command prints, or why it fails.
+fn command(words: &[&str]) -> Result<String, String> {
+    match *words {
+        ["run"] => Ok(bench::run(&input()?)),
+        ["cases", ref files @ ..] => cases(files),
+        ["answer"] => wire::answers(&input()?),
         ["make", seed, count, folder] => {
-            make::make_files(number(seed)?, number(count)? as usize, Path::new(folder))
-                .map_err(|e| e.to_string())
+            make::make_files(number(seed)?, size(count)?, Path::new(folder)).map_err(told)?;
+            Ok(String::new())
         }
-        ["check", seed, count] => check(number(seed)?, number(count)? as usize),
-        ["calls", seed, count] => {
-            print(&calls::text(number(seed)?, number(count)? as usize)).map_err(|e| e.to_string())
+        ["store", folder] => store::write_files(Path::new(folder)).map_err(told),
+        ["check", seed, count] => check(number(seed)?, size(count)?),
+        ["calls", seed, count] => Ok(calls::text(number(seed)?, size(count)?)),
+        ["cross", seed, count, program] => {
+            cross::cross(number(seed)?, size(count)?, Path::new(program))
+        }
+        ["cross-calls", seed, count, program] => {
+            cross_calls::cross_calls(number(seed)?, size(count)?, Path::new(program))
         }
         _ => Err(USAGE.to_string()),
     }
@@ -57,21 +92,31 @@ fn number(word: &str) -> Result<u64, String> {
     word.parse().map_err(|_| format!("not a number: {word}"))
 }
 
-fn print(text: &str) -> io::Result<()> {
-    io::stdout().write_all(text.as_bytes())
+fn size(word: &str) -> Result<usize, String> {
+    Ok(number(word)? as usize)
 }
 
-fn run() -> io::Result<()> {
+fn input() -> Result<Vec<u8>, String> {
     let mut bytes = Vec::new();
-    io::stdin().read_to_end(&mut bytes)?;
-    print(&bench::run(&bytes))
+    io::stdin().read_to_end(&mut bytes).map_err(told)?;
+    Ok(bytes)
 }
 
-fn check(seed: u64, rounds: usize) -> Result<(), String> {
-    let tally = check::check(seed, rounds).map_err(|what| format!("FAILED: {what}"))?;
-    for (what, times) in &tally {
-        println!("{times:8} {what}");
+/// Each file's name as it was given, then its record's text.
+fn cases(files: &[&str]) -> Result<String, String> {
+    let mut text = String::new();
+    for name in files {
+        let bytes = fs::read(name).map_err(|e| format!("{name}: {e}"))?;
+        text += &format!("# {name}\n{}", bench::run(&bytes));
     }
-    println!("{rounds} rounds, all right");
-    Ok(())
+    Ok(text)
+}
+
+fn check(seed: u64, rounds: usize) -> Result<String, String> {
+    let tally = check::check(seed, rounds).map_err(|what| format!("FAILED: {what}"))?;
+    let lines = tally
+        .iter()
+        .map(|(what, times)| format!("{times:8} {what}\n"));
+    let table: String = lines.collect();
+    Ok(format!("{table}{rounds} rounds, all right\n"))
 }

@@ -191,8 +191,14 @@ fn damage(rng: &mut Rng, bytes: &mut Vec<u8>, n: usize, t: usize) {
         7 => other_size(rng, bytes),
         8 => move_border(rng, bytes),
         9 => leave_gap(rng, bytes),
-        10 => swap_entries(rng, bytes),
-        _ => reorder_sections(rng, bytes, n, t),
+        10 => {
+            let chosen = rng.some_of(4, 2);
+            swap_entries(bytes, chosen[0], chosen[1]);
+        }
+        _ => {
+            let order = rng.some_of(4, 4);
+            *bytes = reordered(bytes, n, t, [order[0], order[1], order[2], order[3]]);
+        }
     }
 }
 
@@ -201,11 +207,11 @@ fn place(k: usize) -> usize {
     2 + 2 * k
 }
 
-fn get(bytes: &[u8], k: usize) -> u16 {
+pub fn get(bytes: &[u8], k: usize) -> u16 {
     u16::from_be_bytes([bytes[place(k)], bytes[place(k) + 1]])
 }
 
-fn put(bytes: &mut [u8], k: usize, number: u16) {
+pub fn put(bytes: &mut [u8], k: usize, number: u16) {
     bytes[place(k)..place(k) + 2].copy_from_slice(&number.to_be_bytes());
 }
 
@@ -257,6 +263,11 @@ fn other_size(rng: &mut Rng, bytes: &mut [u8]) {
 fn move_border(rng: &mut Rng, bytes: &mut [u8]) {
     let k = rng.below(3);
     let by = rng.pick(&[1u16, 2, 4, 65_532, 65_534, 65_535]);
+    shift_border(bytes, k, by);
+}
+
+/// The section after the first k longer by so much, the next one shorter.
+pub fn shift_border(bytes: &mut [u8], k: usize, by: u16) {
     put(bytes, 2 * k + 1, get(bytes, 2 * k + 1).wrapping_add(by));
     put(bytes, 2 * k + 2, get(bytes, 2 * k + 2).wrapping_add(by));
     put(bytes, 2 * k + 3, get(bytes, 2 * k + 3).wrapping_sub(by));
@@ -266,6 +277,11 @@ fn move_border(rng: &mut Rng, bytes: &mut [u8]) {
 fn leave_gap(rng: &mut Rng, bytes: &mut Vec<u8>) {
     let k = rng.below(4);
     let count = rng.between(1, 4);
+    insert_gap(bytes, k, count);
+}
+
+/// Zeros before the section after the first k.
+pub fn insert_gap(bytes: &mut Vec<u8>, k: usize, count: usize) {
     let start = usize::from(get(bytes, 2 * k));
     bytes.splice(start..start, vec![0; count]);
     for later in k..4 {
@@ -274,38 +290,27 @@ fn leave_gap(rng: &mut Rng, bytes: &mut Vec<u8>) {
     }
 }
 
-/// Two entries of the directory in each other's place.
-fn swap_entries(rng: &mut Rng, bytes: &mut [u8]) {
-    let chosen = rng.some_of(4, 2);
+/// Entries a and b (1 to 4) of the directory in each other's place.
+pub fn swap_entries(bytes: &mut [u8], a: usize, b: usize) {
     for part in 0..2 {
-        let (a, b) = (2 * (chosen[0] - 1) + part, 2 * (chosen[1] - 1) + part);
+        let (a, b) = (2 * (a - 1) + part, 2 * (b - 1) + part);
         let (at_a, at_b) = (get(bytes, a), get(bytes, b));
         put(bytes, a, at_b);
         put(bytes, b, at_a);
     }
 }
 
-/// The sections in another order, with a directory that says so. If only the
-/// last two, of equal length, change places, the record stays a right one
-/// with other contents.
-fn reorder_sections(rng: &mut Rng, bytes: &mut Vec<u8>, n: usize, t: usize) {
-    let order = rng.some_of(4, 4);
+/// The record with its sections (1 to 4) in another order, and a directory
+/// that says so. If only the last two, of equal length, change places, the
+/// record stays a right one with other contents.
+pub fn reordered(bytes: &[u8], n: usize, t: usize, order: [usize; 4]) -> Vec<u8> {
     let sections = lengths(n, t);
-    let mut changed = head(
-        n,
-        t,
-        [
-            sections[order[0] - 1],
-            sections[order[1] - 1],
-            sections[order[2] - 1],
-            sections[order[3] - 1],
-        ],
-    );
-    for &k in &order {
+    let mut changed = head(n, t, order.map(|k| sections[k - 1]));
+    for k in order {
         let start = HEAD + sections[..k - 1].iter().sum::<usize>();
         changed.extend(&bytes[start..start + sections[k - 1]]);
     }
-    *bytes = changed;
+    changed
 }
 
 // ---- files ----

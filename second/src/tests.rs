@@ -6,27 +6,13 @@ use crate::clique::{agreements, happy_set, members, verdict};
 use crate::dealer::{deal, legal_size};
 use crate::field::{inverse, mul, NOT_SENT, P};
 use crate::fit::open_all;
+use crate::named::{example, honest, F};
 use crate::party::{Party, Stage};
 use crate::record::{read, write, Record, HEAD};
-use crate::scenario::{follow_pairs, follow_reports, follow_shares, honest_deals};
+use crate::scenario::honest_deals;
 
-/// F = 7 + 3X + 2Y + 4XY: place u(t+1)+v holds the coefficient of X^u Y^v.
-const F: [u16; 4] = [7, 2, 3, 4];
-
-/// The all-honest record of F with n = 5 and t = 1.
 fn honest_record() -> Record {
-    let mut record = Record {
-        n: 5,
-        t: 1,
-        deals: honest_deals(5, 1, &F),
-        pairs: vec![0; 50],
-        reports: vec![0; 5],
-        shares: vec![0; 5],
-    };
-    follow_pairs(&mut record);
-    follow_reports(&mut record);
-    follow_shares(&mut record);
-    record
+    honest(5, 1, &F)
 }
 
 const EXAMPLE: &str = "size 5 1
@@ -41,9 +27,7 @@ opened 7
 ";
 
 fn example_bytes() -> Vec<u8> {
-    let mut record = honest_record();
-    record.shares[2] = 999;
-    write(&record)
+    write(&example())
 }
 
 /// The reports of five parties of which only the given pairs disagree.

@@ -1,0 +1,58 @@
+//! The kinds of outcome that a record's text shows, to be counted.
+
+/// Every kind, in the order of the lines.
+pub const OUTCOMES: [&str; 12] = [
+    "record refused 1",
+    "record refused 6",
+    "dealer accepted",
+    "dealer rejected",
+    "lamp share, happy",
+    "lamp share, repaired",
+    "lamp refused 7",
+    "lamp refused 8",
+    "lamp refused 9",
+    "opened",
+    "opened refused 8",
+    "opened refused 10",
+];
+
+/// How often each kind was met.
+pub type Counts = [usize; OUTCOMES.len()];
+
+/// A line without its numbers, except that of a refusal. A lamp that is not
+/// in the happy line but has a share was repaired.
+fn kind_of(line: &str, happy: &[&str]) -> String {
+    let words: Vec<&str> = line.split(' ').collect();
+    match words[..] {
+        ["lamp", i, "share", _] if happy.contains(&i) => "lamp share, happy".to_string(),
+        ["lamp", _, "share", _] => "lamp share, repaired".to_string(),
+        ["lamp", _, "refused", k] => format!("lamp refused {k}"),
+        ["opened", _] => "opened".to_string(),
+        _ => line.to_string(),
+    }
+}
+
+/// Adds the outcomes of a text. The lines of size and of happy lamps are
+/// none.
+pub fn count(counts: &mut Counts, text: &str) {
+    let happy: Vec<&str> = text
+        .lines()
+        .filter(|line| line.starts_with("happy "))
+        .flat_map(|line| line.split(' ').skip(1))
+        .collect();
+    for line in text.lines() {
+        let kind = kind_of(line, &happy);
+        if let Some(k) = OUTCOMES.iter().position(|&name| name == kind) {
+            counts[k] += 1;
+        }
+    }
+}
+
+/// One line for each kind, also for those that were never met.
+pub fn table(counts: &Counts) -> String {
+    OUTCOMES
+        .iter()
+        .zip(counts)
+        .map(|(name, times)| format!("{times:8} {name}\n"))
+        .collect()
+}
