@@ -21,8 +21,12 @@ mod rng;
 mod scenario;
 mod store;
 #[cfg(test)]
+mod store_tests;
+#[cfg(test)]
 mod tests;
 mod wire;
+#[cfg(test)]
+mod wire_tests;
 
 use std::fs;
 use std::io::{self, Read, Write};

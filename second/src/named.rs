@@ -259,7 +259,7 @@ fn trap(record: &mut Record) {
 pub fn unsound() -> Vec<Named> {
     let alike = heard_alike();
     vec![
-        named("unsound-trap", all_following(five(), trap)),
+        named("unsound-trap-honest", all_following(five(), trap)),
         named("unsound-trap-blind", blind_trap()),
         named(
             "unsound-alike-claimed",

@@ -1,0 +1,305 @@
+//! The commands as a user starts them. Other programs are shell scripts in a
+//! folder of their own; most of them use this program itself.
+
+use std::fs;
+use std::os::unix::fs::PermissionsExt;
+use std::path::{Path, PathBuf};
+use std::process::{Command, Output, Stdio};
+use std::sync::{Mutex, MutexGuard};
+
+const SECOND: &str = env!("CARGO_BIN_EXE_second");
+
+/// One test at a time: a script that is started while another test's new
+/// process still has it open for writing would be "busy". So every process
+/// is started while its test holds a folder.
+static ONE_AT_A_TIME: Mutex<()> = Mutex::new(());
+
+/// A folder that goes away with the test.
+struct Folder {
+    path: PathBuf,
+    _alone: MutexGuard<'static, ()>,
+}
+
+impl Folder {
+    fn new(name: &str) -> Folder {
+        let alone = ONE_AT_A_TIME.lock().unwrap_or_else(|e| e.into_inner());
+        let path = std::env::temp_dir().join(format!("second-{}-{name}", std::process::id()));
+        fs::create_dir_all(&path).unwrap();
+        Folder {
+            path,
+            _alone: alone,
+        }
+    }
+
+    /// A script; in its lines SECOND stands for this program.
+    fn script(&self, lines: &str) -> String {
+        let path = self.path.join("script");
+        let lines = lines.replace("SECOND", SECOND);
+        fs::write(&path, format!("#!/bin/sh\n{lines}\n")).unwrap();
+        fs::set_permissions(&path, fs::Permissions::from_mode(0o755)).unwrap();
+        path.to_str().unwrap().to_string()
+    }
+}
+
+impl Drop for Folder {
+    fn drop(&mut self) {
+        let _ = fs::remove_dir_all(&self.path);
+    }
+}
+
+/// The program, started in a test's folder.
+fn second_in(folder: &Path, words: &[&str]) -> Output {
+    Command::new(SECOND)
+        .args(words)
+        .current_dir(folder)
+        .output()
+        .unwrap()
+}
+
+fn run(file: &Path) -> String {
+    let input = Stdio::from(fs::File::open(file).unwrap());
+    let output = Command::new(SECOND).arg("run").stdin(input).output();
+    String::from_utf8(output.unwrap().stdout).unwrap()
+}
+
+fn out(output: &Output) -> String {
+    String::from_utf8_lossy(&output.stdout).to_string()
+}
+
+/// What a failing command says; it exits with 1 and prints nothing else.
+fn complaint(output: &Output) -> String {
+    assert_eq!(output.status.code(), Some(1));
+    assert_eq!(out(output), "");
+    String::from_utf8_lossy(&output.stderr).to_string()
+}
+
+// ---- cases and store ----
+
+#[test]
+fn store_writes_what_it_lists() {
+    let folder = Folder::new("store");
+    let first = second_in(&folder.path, &["store", "one"]);
+    let again = second_in(&folder.path, &["store", "deep/two"]);
+    assert!(first.status.success() && again.status.success());
+    assert_eq!(out(&first), out(&again));
+    let names: Vec<String> = out(&first).lines().map(str::to_string).collect();
+    let mut files: Vec<String> = fs::read_dir(folder.path.join("one"))
+        .unwrap()
+        .map(|entry| entry.unwrap().file_name().into_string().unwrap())
+        .collect();
+    files.sort();
+    let wanted: Vec<String> = names.iter().map(|name| format!("{name}.rec")).collect();
+    assert_eq!(files, wanted);
+    for file in files {
+        let one = fs::read(folder.path.join("one").join(&file)).unwrap();
+        let two = fs::read(folder.path.join("deep/two").join(&file)).unwrap();
+        assert!(one == two, "{file}");
+    }
+}
+
+#[test]
+fn cases_prints_names_and_texts() {
+    let folder = Folder::new("cases");
+    second_in(&folder.path, &["store", "."]);
+    let words = ["cases", "m07-repair.rec", "./cut-000.rec", "m07-repair.rec"];
+    let output = second_in(&folder.path, &words);
+    assert!(output.status.success());
+    let text = run(&folder.path.join("m07-repair.rec"));
+    let wanted = format!(
+        "# m07-repair.rec\n{text}# ./cut-000.rec\nrecord refused 6\n# m07-repair.rec\n{text}"
+    );
+    assert_eq!(out(&output), wanted);
+    let output = second_in(&folder.path, &["cases", "example.rec", "none.rec"]);
+    assert!(complaint(&output).starts_with("none.rec: "));
+    assert_eq!(out(&second_in(&folder.path, &["cases"])), "");
+}
+
+// ---- cross ----
+
+/// `cross` against a script.
+fn cross(name: &str, lines: &str, seed: &str, count: &str) -> Output {
+    let folder = Folder::new(name);
+    let script = folder.script(lines);
+    second_in(&folder.path, &["cross", seed, count, &script])
+}
+
+#[test]
+fn cross_passes_with_the_same_program() {
+    let output = cross("same", "exec SECOND run", "3", "60");
+    assert!(output.status.success(), "{output:?}");
+    let text = out(&output);
+    let mut lines = text.lines();
+    let first = "bench: 60 records and 8 long inputs of seed 3, all alike";
+    assert_eq!(lines.next(), Some(first));
+    let counts: Vec<&str> = lines.collect();
+    assert_eq!(counts.len(), 12);
+    let number = |line: &str| -> usize { line[..8].trim().parse().unwrap() };
+    // Every record is refused, accepted or rejected.
+    assert_eq!(
+        counts[..4].iter().map(|line| number(line)).sum::<usize>(),
+        60
+    );
+}
+
+#[test]
+fn cross_finds_another_text() {
+    let text = complaint(&cross("other", "cat > /dev/null; echo hello", "3", "20"));
+    assert!(text.starts_with("seed 3, record 0 "), "{text}");
+    assert!(text.contains("the texts differ"));
+    assert!(text.ends_with("--- the program prints\nhello\n---\n"));
+}
+
+/// The bytes shown are those of the record that `make` writes, and it is the
+/// first on which the two differ.
+#[test]
+fn cross_names_the_first_wrong_record() {
+    let lines = "SECOND run | sed 's/refused 9/refused 8/'";
+    let text = complaint(&cross("nine", lines, "4", "300"));
+    let folder = Folder::new("nine-again");
+    second_in(&folder.path, &["make", "4", "300", "."]);
+    let file = |k: usize| folder.path.join(format!("{k:06}.rec"));
+    let number = (0..300)
+        .find(|&k| run(&file(k)).contains("refused 9"))
+        .unwrap();
+    assert!(number > 0);
+    assert!(
+        text.starts_with(&format!("seed 4, record {number} ")),
+        "{text}"
+    );
+    let bytes = fs::read(file(number)).unwrap();
+    let hex: String = bytes.iter().map(|byte| format!("{byte:02x}")).collect();
+    assert!(text.contains(&format!("\n{} bytes: {hex}\n", bytes.len())));
+    let ours = run(&file(number));
+    let theirs = ours.replace("refused 9", "refused 8");
+    let both = format!("--- second prints\n{ours}--- the program prints\n{theirs}---\n");
+    assert!(text.ends_with(&both));
+}
+
+#[test]
+fn cross_finds_small_faults() {
+    for (name, lines, what) in [
+        ("longer", "SECOND run; echo", "the texts differ"),
+        ("shorter", "printf %s \"$(SECOND run)\"", "the texts differ"),
+        ("status", "SECOND run; exit 3", "exit status: 3"),
+        ("killed", "SECOND run; kill -9 $$", "signal: 9"),
+        ("silent", "cat > /dev/null", "the texts differ"),
+    ] {
+        let text = complaint(&cross(name, lines, "4", "2"));
+        assert!(text.starts_with("seed 4, record 0 "), "{name}: {text}");
+        assert!(text.contains(what), "{name}: {text}");
+    }
+    let folder = Folder::new("nothing");
+    let words = ["cross", "4", "2", "no-such-program"];
+    let text = complaint(&second_in(&folder.path, &words));
+    assert!(text.contains("no-such-program does not run"));
+}
+
+/// A program that is wrong with long inputs only.
+#[test]
+fn cross_tries_long_inputs() {
+    let lines = "cat > \"$0.$$\"
+if [ $(wc -c < \"$0.$$\") -gt 9000000 ]; then echo record refused 6; else SECOND run < \"$0.$$\"; fi
+rm \"$0.$$\"";
+    let text = complaint(&cross("long", lines, "5", "4"));
+    assert!(text.starts_with("seed 5, 10000000 "), "{text}");
+    assert!(text.contains("\n10000000 bytes: "));
+    assert!(text.contains("--- second prints\nrecord refused 1\n"));
+    assert!(text.len() < 1000);
+}
+
+// ---- cross-calls ----
+
+fn cross_calls(name: &str, lines: &str, count: &str) -> Output {
+    let folder = Folder::new(name);
+    let script = folder.script(lines);
+    second_in(&folder.path, &["cross-calls", "3", count, &script])
+}
+
+#[test]
+fn cross_calls_passes_with_the_same_program() {
+    let output = cross_calls("calls-same", "exec SECOND answer", "400");
+    assert!(output.status.success(), "{output:?}");
+    let text = out(&output);
+    assert!(text.starts_with("calls: 400 lists of "), "{text}");
+    assert!(text.contains(" runs of seed 3, all alike; make: ok "));
+    assert_eq!(text.lines().count(), 1);
+    // Nothing is missing: no answer was met 0 times.
+    assert!(!text.contains(" 0,") && !text.contains(" 0;") && !text.contains(" 0\n"));
+}
+
+/// The batches are small enough, and more than one.
+#[test]
+fn cross_calls_keeps_its_batches_short() {
+    let lines = "cat > \"$0.$$\"
+if [ $(wc -c < \"$0.$$\") -gt 60000 ]; then exit 1; fi
+echo x >> \"$0.runs\"
+SECOND answer < \"$0.$$\"";
+    let folder = Folder::new("calls-batches");
+    let script = folder.script(lines);
+    let output = second_in(&folder.path, &["cross-calls", "3", "800", &script]);
+    assert!(output.status.success(), "{output:?}");
+    let runs = fs::read_to_string(format!("{script}.runs")).unwrap();
+    let runs = runs.lines().count();
+    assert!(runs > 2);
+    assert!(out(&output).contains(&format!(" in {runs} runs of seed 3")));
+}
+
+/// The calls shown are those of `calls`, up to the first wrong answer.
+#[test]
+fn cross_calls_shows_the_list() {
+    let lines = "SECOND answer | sed 's/^refused 9/refused 8/'";
+    let text = complaint(&cross_calls("calls-nine", lines, "200"));
+    assert!(text.starts_with("seed 3, list "), "{text}");
+    let shown: Vec<&str> = text.lines().skip(1).collect();
+    let (calls, both) = shown.split_at(shown.len() - 2);
+    assert!(both[0].starts_with("second: \"refused 9 ; 4 0 "), "{text}");
+    assert!(both[1].starts_with("program: \"refused 8 ; 4 0 "), "{text}");
+    let folder = Folder::new("calls-nine-again");
+    let all = out(&second_in(&folder.path, &["calls", "3", "200"]));
+    let of_all: Vec<&str> = all
+        .lines()
+        .map(|line| line.split_once(" = ").unwrap().0)
+        .collect();
+    let answers: Vec<&str> = all.lines().collect();
+    let at = answers
+        .iter()
+        .position(|line| line.contains(" = refused 9 ;"))
+        .unwrap();
+    assert_eq!(of_all[at + 1 - calls.len()..=at], *calls);
+    assert!(calls[0].starts_with("make "));
+}
+
+#[test]
+fn cross_calls_finds_small_faults() {
+    for (name, lines, what) in [
+        (
+            "calls-report",
+            "SECOND answer | sed 's/ 0$/ 1/'",
+            "second: ",
+        ),
+        ("calls-less", "SECOND answer | sed '$d'", "program: \"\""),
+        (
+            "calls-more",
+            "SECOND answer; echo",
+            "a line too many: \"\\n\"",
+        ),
+        ("calls-cut", "printf %s \"$(SECOND answer)\"", "program: "),
+        ("calls-status", "SECOND answer; exit 3", "exit status: 3"),
+        ("calls-silent", "cat > /dev/null", "program: \"\""),
+    ] {
+        let text = complaint(&cross_calls(name, lines, "3"));
+        assert!(text.starts_with("seed 3, "), "{name}: {text}");
+        assert!(text.contains(what), "{name}: {text}");
+    }
+}
+
+#[test]
+fn anything_else_is_told_how() {
+    let folder = Folder::new("usage");
+    let told = |words: &[&str]| complaint(&second_in(&folder.path, words));
+    for words in [&["cross"][..], &["store"], &["nothing"], &[]] {
+        assert!(told(words).starts_with("usage: second run"));
+    }
+    let text = told(&["cross", "x", "1", "bench"]);
+    assert_eq!(text, "not a number: x\n");
+}
