@@ -1,0 +1,116 @@
+/*
+ * The library from C: document 01's marked cases M1, M2, M3, M4, M7 and M10, and the text of the record whose path is
+ * the argument. Prints what stands in `expected` beside it.
+ */
+#include <stdio.h>
+
+#include "doumbaht.h"
+
+#define COUNT(list) (sizeof(list) / sizeof((list)[0]))
+
+enum { N = 5, T = 1, WIDTH = T + 1 };
+
+static void print_list(const char *word, const uint16_t *list, size_t count)
+{
+    printf(" %s", word);
+    for (size_t k = 0; k < count; k++) {
+        printf(" %u", (unsigned)list[k]);
+    }
+}
+
+/* F = 7 + 3X + 2Y + 4XY: the coefficient of X^u Y^v at place 2u + v. */
+static void deal(void)
+{
+    const uint16_t f[] = {7, 2, 3, 4};
+    uint16_t deals[N * 2 * WIDTH] = {0};
+    uint8_t refusal = doumbaht_deal(N, T, f, COUNT(f), deals, COUNT(deals));
+    if (refusal != 0) {
+        printf("deal refused %u\n", (unsigned)refusal);
+        return;
+    }
+    for (int lamp = 1; lamp <= N; lamp += 4) {
+        const uint16_t *own = deals + (lamp - 1) * 2 * WIDTH;
+        printf("lamp %d", lamp);
+        print_list("row", own, WIDTH);
+        print_list("column", own + WIDTH, WIDTH);
+        printf("\n");
+    }
+}
+
+static void open_shares(const uint16_t *shares, size_t count)
+{
+    uint16_t opened = 0;
+    uint8_t refusal = doumbaht_open(N, T, shares, count, &opened);
+    if (refusal != 0) {
+        printf("opened refused %u\n", (unsigned)refusal);
+        return;
+    }
+    printf("opened %u\n", (unsigned)opened);
+}
+
+/* Lamp 5's column, from what the happy lamps 1 to 4 said first. */
+static void repair(void)
+{
+    const uint16_t xs[] = {1, 2, 3, 4};
+    const uint16_t ys[] = {44, 66, 88, 110};
+    uint16_t column[WIDTH] = {0};
+    uint8_t refusal = doumbaht_repair(T, xs, COUNT(xs), ys, COUNT(ys), column, COUNT(column));
+    if (refusal != 0) {
+        printf("repair refused %u\n", (unsigned)refusal);
+        return;
+    }
+    printf("repaired");
+    print_list("column", column, COUNT(column));
+    printf("\n");
+}
+
+/* Lamps 1 and 2 disagree, and 1 and 3; every other pair agrees. */
+static void happy(void)
+{
+    const uint16_t reports[] = {
+        1 << 3 | 1 << 4,
+        1 << 2 | 1 << 3 | 1 << 4,
+        1 << 1 | 1 << 3 | 1 << 4,
+        1 << 0 | 1 << 1 | 1 << 2 | 1 << 4,
+        1 << 0 | 1 << 1 | 1 << 2 | 1 << 3,
+    };
+    uint16_t set = doumbaht_happy_set(reports, COUNT(reports));
+    printf("happy");
+    for (int lamp = 1; lamp <= 16; lamp++) {
+        if (set >> (lamp - 1) & 1) {
+            printf(" %d", lamp);
+        }
+    }
+    printf("\n");
+}
+
+static int text(const char *path)
+{
+    static uint8_t bytes[4096];
+    uint8_t out[512];
+    FILE *file = fopen(path, "rb");
+    if (file == NULL) {
+        perror(path);
+        return 1;
+    }
+    size_t count = fread(bytes, 1, sizeof bytes, file);
+    fclose(file);
+    fwrite(out, 1, doumbaht_text(bytes, count, out, sizeof out), stdout);
+    return 0;
+}
+
+int main(int argc, char **argv)
+{
+    const uint16_t one_wrong[N] = {10, 13, 999, 19, 22};
+    const uint16_t two_wrong[N] = {10, 13, 999, 998, 22};
+    if (argc != 2) {
+        fprintf(stderr, "usage: %s RECORD\n", argv[0]);
+        return 2;
+    }
+    deal();
+    open_shares(one_wrong, N);
+    open_shares(two_wrong, N);
+    repair();
+    happy();
+    return text(argv[1]);
+}
