@@ -8,7 +8,6 @@ use lib.ListN.{length, getD, take, drop, length-append, List·getD-append}
 use lib.Seq.{take-at, drop-at}
 use borrow.Author.Tests.{eq-eqb}
 use Rattle.lists.specs.All.{All}
-use Rattle.parties.specs.Parties.{sizes}
 use Rattle.record.specs.declared.Reading.the-variants.{Fine}
 use Rattle.record.specs.Bytes.{numberAt, numbers, bytesOf, standAt, over}
 use Rattle.record.specs.Record.{sectionLength, sectionStart, directory, directoryRight, nOf, tOf, reading, sectionOf, recordOf, Contents, writable, writing}
