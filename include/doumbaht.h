@@ -4,9 +4,9 @@
  * The functions are those of crates/exports, built by `rt staticlib exports` into target/staticlib/libexports.a.
  * Each is proved to answer what its contract there says, for every argument, and to return.
  *
- * A list is a pointer and the count of its numbers. What no proof can see is the caller's to keep: the pointer is
- * valid for that many numbers, aligned, and not null even where the count is 0; a list that is written overlaps no
- * other list of the same call, and nothing else changes a list while the call runs.
+ * A list is a pointer and the count of its numbers. What no proof can see is the caller's to keep: every pointer,
+ * that of `opened` too, is valid for that many numbers, aligned, and not null even where the count is 0; what is
+ * written overlaps nothing else of the same call, and nothing else changes a list while the call runs.
  *
  * A `uint8_t` answer is 0, or the number of the refusal: 1 a size, 3 the length of a list, 5 a number above 65,520
  * in the dealer's list, 9 no column fits, 10 no opening fits. The lowest number that applies is given. A list or a
@@ -57,8 +57,8 @@ uint8_t doumbaht_open(uint8_t n, uint8_t t, const uint16_t *shares, size_t share
 
 /*
  * Writes the text of a record, what the program `bench` prints for these bytes, over the front of `out`, with no 0
- * behind it, and answers its length. `out` needs 512 bytes, more than any text has: with less it is left alone, and
- * the answer is 0. No text is empty.
+ * behind it, and answers its length. `out` needs 512 bytes, as many as are enough for any text: with less it is left
+ * alone, and the answer is 0. No text is empty.
  */
 size_t doumbaht_text(const uint8_t *bytes, size_t bytes_count, uint8_t *out, size_t out_count);
 

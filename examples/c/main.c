@@ -1,5 +1,5 @@
 /*
- * The library from C: document 01's marked cases M1, M2, M3, M4, M7 and M10, and the text of the record whose path is
+ * The library from C: document 01's marked cases M1 to M4 and M10, the repair of M7, and the text of the record whose path is
  * the argument. Prints what stands in `expected` beside it.
  */
 #include <stdio.h>

@@ -1,11 +1,11 @@
 // Calls one lamp after another as standard input says, and writes a line for each call: what it answered, and what the lamp holds.
 // A call is a byte for its kind, a count, and as many numbers as it counts, in 16 bits each, high byte first:
-// 0 makes a lamp for n, t and its number; 1 takes a deal, 2 says the pair for the lamp named, 3 hears pairs, 4 settles, 5 opens.
+// 0 makes a lamp for n, t and its number; 1 takes a deal, 2 says the pair for the lamp named, 3 hears pairs, 4 settles, 5 opens;
+// 6 is the desk's: n, t, the room for the deals, and the dealer's list. An unknown kind, a count that its kind does not take, more than
+// 200 numbers or as much room, and a call cut short end the input.
 mod text;
 
 ghost use Prim.Native.Nat.{_≤_};
-ghost use mathlib.Core.Path.{_≡_};
-ghost use lib.ListN.{length};
 use lamp::Lamp;
 use lamp::Reply;
 use libc::STDIN_FILENO;
@@ -16,12 +16,16 @@ pub struct Turn {
     called: bool,
 }
 
-// The number at the place, as a byte; 0 where there is none.
+// The number at the place as a byte, the largest byte for a larger number, which is no size and no lamp either; 0 where there is none.
 fn small(list: &[u16], place: usize) -> u8 {
     if list.len() <= place {
         return 0;
     }
-    (list[place] % 256) as u8
+    let x = list[place];
+    if 255 < x {
+        return 255;
+    }
+    x as u8
 }
 
 // Makes the call on the lamp that the call before left, refused or not.
@@ -36,50 +40,106 @@ fn call(lamp: Lamp, kind: u8, list: &[u16]) -> Reply {
     }
 }
 
-// As many of the input's numbers as the bytes hold, over the front of the list.
-fn take(bytes: &mut [u8], list: &mut [u16]) {
-    let n = io::read_full(STDIN_FILENO, bytes);
-    record::numbers(&bytes[..n], list);
+// Deals, and writes out the answer and what the list of deals holds then.
+fn dealt(n: u8, t: u8, list: &[u16], deals: &mut [u16]) {
+    text::dealing(dealer::deal(n, t, list, deals));
+    text::numbers(deals);
 }
 
-// The next numbers of the input, first in an array.
-fn lent(count: usize) -> [u16; 200]
+// The desk, with as much room for the deals as is asked for, which holds "not sent" before.
+fn desk(list: &[u16]) -> bool {
+    if list.len() < 3 {
+        return false;
+    }
+    let room = small(list, 2) as usize;
+    if 200 < room {
+        return false;
+    }
+    let mut deals = [65535u16; 200];
+    let end = list.len();
+    dealt(
+        small(list, 0),
+        small(list, 1),
+        &list[3..end],
+        &mut deals[..room],
+    );
+    true
+}
+
+// Whether a call of this kind has so many numbers.
+fn takes(kind: u8, count: usize) -> bool {
+    if kind == 0 {
+        return count == 3;
+    }
+    if kind == 2 {
+        return count == 1;
+    }
+    kind < 7
+}
+
+// As many of the input's numbers as the bytes hold, over the front of the list; whether the input had them all.
+fn take(bytes: &mut [u8], list: &mut [u16]) -> bool {
+    let n = io::read_full(STDIN_FILENO, bytes);
+    record::numbers(&bytes[..n], list);
+    n == bytes.len()
+}
+
+// The next numbers of the input, over the front of the list; whether it had them all.
+fn lent(count: usize, list: &mut [u16]) -> bool
     requires { ⌜ count ≤ 200 ⌝ }
-    ensures { λ r. ⌜ 200 ≡ length r ⌝ }
 {
     let mut bytes = [0u8; 400];
     let end = 2 * count;
-    let mut list = [0u16; 200];
-    take(&mut bytes[..end], &mut list);
-    list
+    take(&mut bytes[..end], list)
 }
 
-// The next call of the input. An unknown kind, or a longer list than any call takes, ends it as well.
+fn over(lamp: Lamp) -> Turn {
+    Turn {
+        lamp: lamp,
+        called: false,
+    }
+}
+
+// Makes a call or a dealing with the numbers lent, and writes its line.
+fn answered(lamp: Lamp, kind: u8, list: &[u16]) -> Turn {
+    if kind == 6 {
+        if !desk(list) {
+            return over(lamp);
+        }
+        text::state(lamp);
+        return Turn {
+            lamp: lamp,
+            called: true,
+        };
+    }
+    let reply = call(lamp, kind, list);
+    let answer = reply.answer;
+    let after = reply.lamp;
+    text::answer(answer);
+    text::state(after);
+    Turn {
+        lamp: after,
+        called: true,
+    }
+}
+
+// The next call of the input, if there is one.
 fn next(lamp: Lamp) -> Turn {
     let mut head = [0u8; 3];
     let n = io::read_full(STDIN_FILENO, &mut head);
     let kind = head[0];
     let count = record::number(&head[1..3], 0) as usize;
-    if n < 3 || 5 < kind {
-        return Turn {
-            lamp: lamp,
-            called: false,
-        };
+    if n < 3 || !takes(kind, count) {
+        return over(lamp);
     }
     if 200 < count {
-        return Turn {
-            lamp: lamp,
-            called: false,
-        };
+        return over(lamp);
     }
-    let list = lent(count);
-    let reply = call(lamp, kind, &list[..count]);
-    text::line(reply);
-    let after = reply.lamp;
-    Turn {
-        lamp: after,
-        called: true,
+    let mut list = [0u16; 200];
+    if !lent(count, &mut list) {
+        return over(lamp);
     }
+    answered(lamp, kind, &list[..count])
 }
 
 // The input may never end, and a proved loop has to: the turns are counted down from more than any run takes.

@@ -1,7 +1,7 @@
 // What a call answers and what the lamp holds after it, as a line of text on standard output.
+use dealer::Dealing;
 use lamp::Answer;
 use lamp::Lamp;
-use lamp::Reply;
 use lamp::Stage;
 use libc::STDOUT_FILENO;
 
@@ -14,7 +14,13 @@ fn number(x: u16) {
     io::print_decimal(STDOUT_FILENO, x as u64);
 }
 
-fn answer(answer: Answer) {
+fn refused(k: u16) {
+    word(b"refused");
+    number(k);
+}
+
+// What the lamp answered: "ok" with the values, or the number of the refusal.
+pub(crate) fn answer(answer: Answer) {
     match answer {
         Answer::Done => word(b"ok"),
         Answer::Pair(first, second) => {
@@ -31,10 +37,24 @@ fn answer(answer: Answer) {
             word(b"ok");
             number(secret);
         }
-        Answer::Refused(why) => {
-            word(b"refused");
-            number(lamp::refusal_number(why) as u16);
-        }
+        Answer::Refused(why) => refused(lamp::refusal_number(why) as u16),
+    }
+}
+
+// What the desk answered.
+pub(crate) fn dealing(answer: Dealing) {
+    match answer {
+        Dealing::Written => word(b"ok"),
+        Dealing::WrongSize => refused(1),
+        Dealing::WrongLength => refused(3),
+        Dealing::NotResidue => refused(5),
+    }
+}
+
+// The numbers of a list, behind the answer.
+pub(crate) fn numbers(list: &[u16]) {
+    for k in 0..list.len() {
+        number(list[k]);
     }
 }
 
@@ -48,12 +68,9 @@ fn stage(stage: Stage) {
     }
 }
 
-// The answer, and the lamp's stage, share, happy set and report.
-pub(crate) fn line(reply: Reply) {
-    let answered = reply.answer;
-    answer(answered);
+// The end of a line: the lamp's stage, share, happy set and report.
+pub(crate) fn state(lamp: Lamp) {
     word(b" ;");
-    let lamp = reply.lamp;
     let reached = lamp.stage;
     stage(reached);
     number(lamp.share);

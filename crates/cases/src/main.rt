@@ -1,7 +1,7 @@
 // Writes the text of each record whose file its arguments name, under a line with the name.
 use libc::STDOUT_FILENO;
 
-// The text of the record in an open file. A longer file than any legal record is read past that length, and no further.
+// The text of the record in an open file, of which at most 4,096 bytes are read: more than any record has.
 fn show(fd: i32) {
     let mut buffer = io::buffer();
     let n = io::read_full(fd, &mut buffer);
@@ -10,10 +10,14 @@ fn show(fd: i32) {
     io::write_all(STDOUT_FILENO, &out[..k]);
 }
 
-// Argument i, or why its file cannot be opened.
+// The file that argument i names, or why it cannot be opened.
 fn case(i: usize) {
     let mut path = io::buffer();
     let n = os::arg(i, &mut path);
+    if os::errno() != 0 {
+        os::fail(b"cases");
+        return;
+    }
     let fd = os::open_read(&path[..n]);
     if fd < 0 {
         os::fail(&path[..n]);

@@ -49,6 +49,21 @@ module _ (t : ℕ) (xs ys column : List ℕ) (a : 1 ≤ t) (b : t ≤ 3) (l : le
   none-near ps h f n = let e = ap (λ (r : List ℕ × ℕ). r .1) (near-written ps f n) in omega arith
 
 module _ (n t : ℕ) (shares : List ℕ) (old : ℕ) (s : sizes n t ≡ true) (l : length shares ≡ n) where
+  -- What is opened is the constant of a polynomial that is near.
+  pub opened-near : opening n t shares old .1 ≡ 0 → (f : List ℕ) × Near t (points n) shares f × (opening n t shares old .0 ≡ constant f)
+  opened-near h =
+      let by = opening-by n t shares old s l in
+      let r = go (fit modulus t (n - t) (points n) shares) refl (rw by at h) in (r .0, r .1, ap (λ (q : ℕ × ℕ). q .0) by ∙ r .2)
+    where
+      go : (o : Option (List ℕ)) → fit modulus t (n - t) (points n) shares ≡ o → opened old o .1 ≡ 0
+          → (f : List ℕ) × Near t (points n) shares f × (opened old o .0 ≡ constant f)
+      go none e h = absurd (omega arith)
+      go (some f) e h =
+          let size = sizes-facts n t s in
+          let same : length (points n) ≡ n = length-points n in
+          let sound = fit-sound modulus prime t (length (points n) - t) (points n) shares f (ap (λ m. fit modulus t (m - t) (points n) shares) same ∙ e) in
+          (f, fits-iff modulus t (points n) shares (same ∙ sym l) (omega arith) f .0 sound, refl)
+
   pub near-opened : (f : List ℕ) → Near t (points n) shares f → opening n t shares old ≡ (constant f, 0)
   near-opened f h =
       let size = sizes-facts n t s in

@@ -1,4 +1,5 @@
--- What the functions for other languages do: what the lent place holds afterwards, and the answer, 0 or document 01's number of the refusal.
+-- What dealing, repair and opening for other languages do: what the lent place holds afterwards, and the answer, 0 or document 01's number
+-- of the refusal.
 --   dealing n t F out          dealing by the desk
 --   lengthsFit t m k room      m points, k values and a list of `room` coefficients are fit for a repair
 --   repairing t xs ys column   the repair of a column from the points with the coordinates xs and ys
@@ -14,6 +15,8 @@ use Rattle.field.specs.Modulus.{modulus}
 use Rattle.fit.specs.Fit.{fit}
 use Rattle.parties.specs.Parties.{sizes, points}
 use Rattle.dealer.specs.Desk.{numberOf, desk}
+use Rattle.lamp.specs.declared.Refusal.the-variants.{WrongSize, WrongLength, NoColumn, NoOpening}
+use Rattle.lamp.specs.Answer.{refusalNumber}
 use Rattle.lamp.specs.Lamp.{constant}
 use Rattle.transcript.specs.Lines.{orZero}
 
@@ -27,22 +30,22 @@ lengthsFit t m k room = eqb m k && leb (3 * t + 1) m && leb m 16 && eqb room (su
 
 -- The coefficients found over the whole list; where none are, 9 and the list as it was.
 abbrev pub repaired : List ℕ → Option (List ℕ) → List ℕ × ℕ
-repaired old none = (old, 9)
+repaired old none = (old, refusalNumber NoColumn)
 repaired old (some f) = (f, 0)
 
 -- At most t of the points differ from the column; the lowest refusal that applies: 1 for t, 3 for the lengths, 9 where nothing is found.
 unfoldable pub repairing : ℕ → List ℕ → List ℕ → List ℕ → List ℕ × ℕ
 repairing t xs ys column =
     let found = repaired column (fit modulus t (length xs - t) xs ys) in
-    cond (leb 1 t && leb t 3) (cond (lengthsFit t (length xs) (length ys) (length column)) found (column, 3)) (column, 1)
+    cond (leb 1 t && leb t 3) (cond (lengthsFit t (length xs) (length ys) (length column)) found (column, refusalNumber WrongLength)) (column, refusalNumber WrongSize)
 
 -- The constant of what is found; where nothing is, 10 and the number as it was.
 abbrev pub opened : ℕ → Option (List ℕ) → ℕ × ℕ
-opened old none = (old, 10)
+opened old none = (old, refusalNumber NoOpening)
 opened old (some f) = (constant f, 0)
 
 -- At most t of the n shares differ; the lowest refusal that applies: 1 for the sizes, 3 for the length, 10 where nothing is found.
 unfoldable pub opening : ℕ → ℕ → List ℕ → ℕ → ℕ × ℕ
 opening n t shares old =
     let found = opened old (fit modulus t (n - t) (points n) shares) in
-    cond (sizes n t) (cond (eqb (length shares) n) found (old, 3)) (old, 1)
+    cond (sizes n t) (cond (eqb (length shares) n) found (old, refusalNumber WrongLength)) (old, refusalNumber WrongSize)

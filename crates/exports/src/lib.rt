@@ -1,5 +1,5 @@
-// The library for other languages: functions on numbers and lists, marked for C. Every argument is taken. The answer is 0, or
-// document 01's number of the refusal; a lent list is written where the answer is 0 and holds what it held otherwise.
+// The library for other languages: functions on numbers and lists, marked for C. Every argument is taken. Dealing, repair and opening
+// answer 0, or document 01's number of the refusal, and write where they answer 0 alone.
 ghost use mathlib.Core.Path.{_≡_};
 ghost use Prim.Native.Nat.{_≤_};
 ghost use lib.ListN.{length, take};

@@ -3,7 +3,7 @@
 use mathlib.Core.Path.{_≡_, refl, sym, ap, ap₂, _∙_}
 use mathlib.Core.Logic.{⊎-elim}
 use mathlib.Core.Bool.{Bool, true, false, cond}
-use mathlib.Core.Option.{none, some}
+use mathlib.Core.Option.{Option, none, some}
 use mathlib.Core.List.{List, [], _∷_, _++_, append-assoc, append-nil}
 use Prim.Native.Nat.{ℕ, zero, suc, _+_, _*_, _-_, _/_, _%_, _≤_, _<_}
 use native.Mathlib.Nat.{div-div-eq-div-mul}
@@ -21,7 +21,9 @@ use Rattle.field.proofs.Primes.{prime}
 use Rattle.polynomial.specs.Polynomial.{Points}
 use Rattle.fit.specs.Fit.{fit}
 use Rattle.transcript.specs.Letters.{letters, digit, decimal, field, line}
+use Rattle.record.specs.Record.{reading, numberOf}
 use Rattle.transcript.specs.Lines.{name, names, openedLine, lastLine}
+use Rattle.transcript.specs.Transcript.{textOf, textBy, text}
 use Rattle.parties.specs.Parties.{sizes, parties, points, member}
 use Rattle.parties.proofs.Parties.{sizes-facts, length-points}
 use Rattle.lamp.specs.Lamp.{constant}
@@ -125,3 +127,13 @@ module _ (n t : ℕ) (size : sizes n t ≡ true) (shares : List ℕ) (long : len
   pub opened-none : ((f : List ℕ) → Nearest modulus t (points n) shares f → ⊥) → lastLine true n t shares ≡ line (letters "opened refused ") 10
   unfolding lastLine
   opened-none never = ap openedLine (needed ∙ near-none modulus prime t (points n) shares fine same enough .1 never)
+
+-- ---- No text is empty.
+some-text : (o : Option ℕ) (bytes : List ℕ) → 1 ≤ length (textBy o bytes)
+unfolding textBy textOf
+some-text none bytes = omega arith
+some-text (some k) bytes = omega arith
+
+pub text-some : (bytes : List ℕ) → 1 ≤ length (text bytes)
+unfolding text
+text-some bytes = some-text (numberOf (reading bytes)) bytes

@@ -1,5 +1,6 @@
 //! look: draws a record. Reads it from standard input and writes a picture, SVG, to standard output.
-//! What the picture says is what the proved library answers; only the lines of agreement are read from the record.
+//! What the picture says is what the proved library answers; only the reports are read from the record, for the lines of agreement
+//! and the happy set.
 
 mod doumbaht;
 mod facts;

@@ -15,11 +15,11 @@ array-borrow-prefix-bytes c = search needs
 slice-aggregate-take : tie.Need-slice-aggregate-take
 slice-aggregate-take c = sym (length-take-le _ _ (omega arith))
 
-slice-aggregate-take-2 : tie.Need-slice-aggregate-take-2
-slice-aggregate-take-2 c = search needs
-
 take-requires : tie.Need-take-requires
 take-requires c κs = search needs
+
+same-length : tie.Need-same-length
+same-length c = search needs
 
 returns : tie.Need-returns
 returns c = search needs
@@ -31,6 +31,6 @@ lent-spec =
     mul-end
     array-borrow-prefix-bytes
     slice-aggregate-take
-    slice-aggregate-take-2
     take-requires
+    same-length
     returns)

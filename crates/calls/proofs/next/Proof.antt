@@ -30,29 +30,44 @@ number-requires c κs = search needs
 cast-count : tie.Need-cast-count
 cast-count c = search needs
 
+takes-requires : tie.Need-takes-requires
+takes-requires c κs = search needs
+
+over-requires : tie.Need-over-requires
+over-requires c κs = search needs
+
 returns : tie.Need-returns
 returns c = search needs
+
+over-requires-2 : tie.Need-over-requires-2
+over-requires-2 c κs = search needs
 
 returns-2 : tie.Need-returns-2
 returns-2 c = search needs
 
+slice-aggregate-lent : tie.Need-slice-aggregate-lent
+slice-aggregate-lent c = search needs
+
 lent-requires : tie.Need-lent-requires
 lent-requires c κs = search needs
 
-array-share-prefix-list : tie.Need-array-share-prefix-list
-array-share-prefix-list c = omega arith
-
-slice-aggregate-call : tie.Need-slice-aggregate-call
-slice-aggregate-call c = sym (length-take-le _ _ (omega arith))
-
-call-requires : tie.Need-call-requires
-call-requires c κs = search needs
-
-line-requires : tie.Need-line-requires
-line-requires c κs = search needs
+over-requires-3 : tie.Need-over-requires-3
+over-requires-3 c κs = search needs
 
 returns-3 : tie.Need-returns-3
 returns-3 c = search needs
+
+array-share-prefix-list : tie.Need-array-share-prefix-list
+array-share-prefix-list c = search needs
+
+slice-aggregate-answered : tie.Need-slice-aggregate-answered
+slice-aggregate-answered c = sym (length-take-le _ _ (omega arith))
+
+answered-requires : tie.Need-answered-requires
+answered-requires c κs = search needs
+
+returns-4 : tie.Need-returns-4
+returns-4 c = search needs
 
 pub next-spec : {M : Type 1} → statement M
 next-spec =
@@ -66,11 +81,16 @@ next-spec =
     part-number-end
     number-requires
     cast-count
+    takes-requires
+    over-requires
     returns
+    over-requires-2
     returns-2
+    slice-aggregate-lent
     lent-requires
+    over-requires-3
+    returns-3
     array-share-prefix-list
-    slice-aggregate-call
-    call-requires
-    line-requires
-    returns-3)
+    slice-aggregate-answered
+    answered-requires
+    returns-4)
