@@ -3,6 +3,7 @@ pub mod Cases
 pub mod Choices
 pub mod InPlace
 pub mod Masks
+pub mod Overlaps
 pub mod Padded
 pub mod Selections
 pub mod Sublists
