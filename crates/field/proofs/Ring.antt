@@ -109,6 +109,15 @@ pub sub-neg : (p a b : ℕ) → sub p a b ≡ add p a (neg p b)
 unfolding sub add neg
 sub-neg p a b = sym (add-mod-mod a (p - b % p) p)
 
+pub mul-neg : (p a b : ℕ) → 0 < p → mul p (neg p a) b ≡ neg p (mul p a b)
+unfolding mul
+mul-neg zero a b positive = absurd (omega arith)
+mul-neg (suc m) a b positive = simp (neg-is, remainders) (ap (λ (n : ℕ). n % suc m) (omega arith))
+
+-- A product is taken away by the opposite of a factor.
+pub add-mul-neg : (p a b c : ℕ) → 0 < p → add p a (mul p (neg p b) c) ≡ sub p a (mul p b c)
+add-mul-neg p a b c positive = ap (add p a) (mul-neg p b c positive) ∙ sym (sub-neg p a (mul p b c))
+
 pub add-neg : (p a : ℕ) → 0 < p → add p a (neg p a) ≡ 0
 unfolding add
 add-neg zero a positive = absurd (omega arith)

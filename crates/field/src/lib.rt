@@ -29,6 +29,13 @@ pub fn mul(a: u16, b: u16) -> u16
     (a as u32 * b as u32 % MODULUS as u32) as u16
 }
 
+// c + a b by one reduction: a product of two numbers of 16 bits and a third number still fit 32.
+pub fn mul_add(a: u16, b: u16, c: u16) -> u16
+    ensures { λ r. ⌜ r ≡ add modulus c (mul modulus a b) ⌝ }
+{
+    ((a as u32 * b as u32 + c as u32) % MODULUS as u32) as u16
+}
+
 // The inverse of a, and 0 where a is a multiple of the prime. Throughout the loop a * t is d: each turn puts the
 // remainder of the prime by d, which is smaller, in the place of d.
 pub fn inv(a: u16) -> u16

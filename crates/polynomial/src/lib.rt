@@ -30,7 +30,7 @@ pub fn value(f: &[u16], x: u16) -> u16
     let mut v: u16 = 0;
     while 0 < i {
         i -= 1;
-        v = field::add(f[i], field::mul(x, v));
+        v = field::mul_add(x, v, f[i]);
     }
     v
 }
@@ -68,10 +68,10 @@ fn raise(x: u16, ys: &mut [u16])
     ensures { λ r. ⌜ now (ys .exit) ≡ raise modulus x (now (ys .entry)) ⌝ }
 {
     let n = ys.len();
+    let minus = field::neg(x);
     let mut i = 0;
     while i + 1 < n {
-        let product = field::mul(x, ys[i + 1]);
-        ys[i] = field::sub(ys[i], product);
+        ys[i] = field::mul_add(minus, ys[i + 1], ys[i]);
         i += 1;
     }
 }
@@ -145,8 +145,7 @@ fn plus_times(part: &[u16], x: u16, out: &mut [u16])
 {
     let mut i = 0;
     while i < part.len() {
-        let product = field::mul(x, out[i]);
-        out[i] = field::add(part[i], product);
+        out[i] = field::mul_add(x, out[i], part[i]);
         i += 1;
     }
 }

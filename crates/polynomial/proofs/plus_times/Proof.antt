@@ -18,23 +18,20 @@ abbrev μ-loop : tie.MeasureT-loop
 loop-holds : tie.Need-loop-holds Inv-loop μ-loop
 loop-holds c = zip-start _ _ _ (omega arith)
 
-mul-mul : tie.Need-mul-mul Inv-loop μ-loop
-mul-mul c = search needs
+mul-mul-add : tie.Need-mul-mul-add Inv-loop μ-loop
+mul-mul-add c = search needs
 
-slice-read-mul : tie.Need-slice-read-mul Inv-loop μ-loop
-slice-read-mul c = search needs
+slice-read-mul-add : tie.Need-slice-read-mul-add Inv-loop μ-loop
+slice-read-mul-add c = search needs
 
-mul-requires : tie.Need-mul-requires Inv-loop μ-loop
-mul-requires c κs = search needs
+mul-mul-add-2 : tie.Need-mul-mul-add-2 Inv-loop μ-loop
+mul-mul-add-2 c = search needs
 
-mul-add : tie.Need-mul-add Inv-loop μ-loop
-mul-add c = search needs
+shared-slice-read-mul-add : tie.Need-shared-slice-read-mul-add Inv-loop μ-loop
+shared-slice-read-mul-add c = search needs
 
-shared-slice-read-add : tie.Need-shared-slice-read-add Inv-loop μ-loop
-shared-slice-read-add c = search needs
-
-add-requires : tie.Need-add-requires Inv-loop μ-loop
-add-requires c κs = search needs
+mul-add-requires : tie.Need-mul-add-requires Inv-loop μ-loop
+mul-add-requires c κs = search needs
 
 mul-out : tie.Need-mul-out Inv-loop μ-loop
 mul-out c = search needs
@@ -50,8 +47,8 @@ loop-less c = search needs
 
 loop-again : tie.Need-loop-again Inv-loop μ-loop
 loop-again c =
-    let k = c .before .before .before .before .before .loop in
-    zip-next _ _ _ (k .out) (k .i) _ 0 0 (k .inv) (omega arith) (rw (c .add .ensures, c .before .before .mul .ensures))
+    let k = c .before .before .before .before .loop in
+    zip-next _ _ _ (k .out) (k .i) _ 0 0 (k .inv) (omega arith) (c .mul-add .ensures)
 
 same-length : tie.Need-same-length Inv-loop μ-loop
 same-length c = search needs
@@ -66,12 +63,11 @@ plus-times-spec =
     Inv-loop
     μ-loop
     loop-holds
-    mul-mul
-    slice-read-mul
-    mul-requires
-    mul-add
-    shared-slice-read-add
-    add-requires
+    mul-mul-add
+    slice-read-mul-add
+    mul-mul-add-2
+    shared-slice-read-mul-add
+    mul-add-requires
     mul-out
     slice-write-out
     add-i

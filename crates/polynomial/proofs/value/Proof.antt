@@ -23,25 +23,22 @@ loop-holds c = (omega arith, ap (λ z. value modulus z (c .before .args .x)) (sy
 sub-i : tie.Need-sub-i Inv-loop μ-loop
 sub-i c = search needs
 
-mul-add : tie.Need-mul-add Inv-loop μ-loop
-mul-add c = search needs
+mul-mul-add : tie.Need-mul-mul-add Inv-loop μ-loop
+mul-mul-add c = search needs
 
-shared-slice-read-add : tie.Need-shared-slice-read-add Inv-loop μ-loop
-shared-slice-read-add c = search needs
+shared-slice-read-mul-add : tie.Need-shared-slice-read-mul-add Inv-loop μ-loop
+shared-slice-read-mul-add c = search needs
 
-mul-requires : tie.Need-mul-requires Inv-loop μ-loop
-mul-requires c κs = search needs
-
-add-requires : tie.Need-add-requires Inv-loop μ-loop
-add-requires c κs = search needs
+mul-add-requires : tie.Need-mul-add-requires Inv-loop μ-loop
+mul-add-requires c κs = search needs
 
 loop-less : tie.Need-loop-less Inv-loop μ-loop
 loop-less c = search needs
 
 loop-again : tie.Need-loop-again Inv-loop μ-loop
 loop-again c =
-    let k = c .before .before .before .before .loop in
-    (omega arith, rw (c .add .ensures, c .before .mul .ensures) (horner modulus _ _ (k .v) (k .i) (omega arith) (omega arith) (k .inv .1)))
+    let k = c .before .before .before .loop in
+    (omega arith, rw (c .mul-add .ensures) (horner modulus _ _ (k .v) (k .i) (omega arith) (omega arith) (k .inv .1)))
 
 returns : tie.Need-returns Inv-loop μ-loop
 returns c = let z : c .before .loop .i ≡ 0 = omega arith in rw z at (c .before .loop .inv .1)
@@ -54,10 +51,9 @@ value-spec =
     μ-loop
     loop-holds
     sub-i
-    mul-add
-    shared-slice-read-add
-    mul-requires
-    add-requires
+    mul-mul-add
+    shared-slice-read-mul-add
+    mul-add-requires
     loop-less
     loop-again
     returns)

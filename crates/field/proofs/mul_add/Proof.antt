@@ -1,0 +1,36 @@
+-- `field::mul_add` meets its contract: the product need not be reduced before the sum.
+use mathlib.Core.Path.{_≡_, sym, _∙_, ap}
+use Prim.Native.Nat.{ℕ, _+_, _*_, _%_}
+use native.Mathlib.Nat.{mul-le-mul, add-mod-mod}
+use native.Mathlib.Omega.{arith}
+use Rattle.field.specs.Arithmetic.{add, mul}
+use Rattle.field.specs.Modulus.{modulus}
+use borrow.Author.Needs.{needs}
+use Rattle.field.proofs.mul_add.Statement.{statement}
+use Rattle.field.proofs.mul_add.Tie as tie
+
+mul-result : tie.Need-mul-result
+mul-result c = omega (arith, mul-le-mul {n₁ = c .args .a} {m₁ = c .args .b} {n₂ = 65535} {m₂ = 65535} (omega arith) (omega arith))
+
+add-result : tie.Need-add-result
+add-result c = omega (arith, mul-le-mul {n₁ = c .args .a} {m₁ = c .args .b} {n₂ = 65535} {m₂ = 65535} (omega arith) (omega arith))
+
+cast-result : tie.Need-cast-result
+cast-result c = search needs
+
+rem-result : tie.Need-rem-result
+rem-result c = search needs
+
+cast-result-2 : tie.Need-cast-result-2
+cast-result-2 c = search needs
+
+one-reduction : (p a b c : ℕ) → (a * b + c) % p ≡ add p c (mul p a b)
+unfolding add mul
+one-reduction p a b c = ap (λ (n : ℕ). n % p) (omega arith) ∙ sym (add-mod-mod c (a * b) p)
+
+returns : tie.Need-returns
+returns c = one-reduction modulus (c .args .a) (c .args .b) (c .args .c)
+
+pub mul-add-spec : {M : Type 1} → statement M
+mul-add-spec =
+    tie.close (tie.spec mul-result add-result cast-result rem-result cast-result-2 returns)
