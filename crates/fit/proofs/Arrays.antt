@@ -7,7 +7,6 @@ use Prim.Native.Nat.{ℕ, zero, suc, _+_, _-_, _≤_, _<_}
 use native.Mathlib.Nat.{pos-of-ne-zero}
 use native.Mathlib.Numerals.{add-one}
 use native.Mathlib.Omega.{arith}
-use borrow.Author.Tests.{le-leb, lt-leb}
 use lib.Dec.{leb}
 use lib.ListN.{length, take, drop, getD, set, replicate, length-append}
 use lib.Seq.{length-take-le, take-at, take-suc-set}
@@ -151,18 +150,18 @@ module _ (p c : ℕ) (cx cy f : List ℕ) (room : c ≤ 4) (lx : length cx ≡ 4
     abbrev tested : List ℕ → Fitted
     tested g = answer (firstFitting p need xs ys (g ∷ []))
 
-    pub test-passed : drop c cy ≡ replicate (4 - c) 0 → need ≤ hits p (take c (f ++ drop c cy)) xs ys
+    pub test-passed : drop c cy ≡ replicate (4 - c) 0 → leb need (hits p (take c (f ++ drop c cy)) xs ys) ≡ true
         → _≡_ {A = Fitted} (record { found = true; coefficients = f ++ drop c cy }) (tested (interpolate p (take c cx) (take c cy)))
     test-passed zeros h =
-        let enough : need ≤ hits p f xs ys = rw front at h in
-        let found : answer (some f) ≡ tested f = rw (le-leb need (hits p f xs ys) enough) in
+        let enough : leb need (hits p f xs ys) ≡ true = rw front at h in
+        let found : answer (some f) ≡ tested f = rw enough in
         ap (λ z. record { found = true; coefficients = f ++ z }) (zeros ∙ ap (λ k. replicate (4 - k) 0) (sym size))
         ∙ found ∙ ap tested coefficients
 
-    pub test-failed : hits p (take c (f ++ drop c cy)) xs ys < need → answer none ≡ tested (interpolate p (take c cx) (take c cy))
+    pub test-failed : leb need (hits p (take c (f ++ drop c cy)) xs ys) ≡ false → answer none ≡ tested (interpolate p (take c cx) (take c cy))
     test-failed h =
-        let few : hits p f xs ys < need = rw front at h in
-        let lost : answer none ≡ tested f = rw (lt-leb need (hits p f xs ys) few) in
+        let few : leb need (hits p f xs ys) ≡ false = rw front at h in
+        let lost : answer none ≡ tested f = rw few in
         lost ∙ ap tested coefficients
 
 -- ---- the whole: the search starts with all points, and none is taken

@@ -1,13 +1,16 @@
--- Loops that count from the end of a list: n is the number of what agrees, or was sent, from place i on, and a turn goes to i − 1.
-use mathlib.Core.Path.{_≡_, ap, ap₂, sym, _∙_}
+-- Loops that count from the end of a list, what agrees or what was sent from place i on: a turn goes to i − 1.
+--   Slack   how many of the points before i may still differ
+use mathlib.Core.Path.{_≡_, refl, ap, ap₂, sym, _∙_}
 use mathlib.Core.Bool.{Bool, true, false}
-use mathlib.Core.List.{List, _∷_}
-use Prim.Native.Nat.{ℕ, _+_, _-_, _≤_, _<_}
+use mathlib.Core.Logic.{⊎-elim}
+use mathlib.Core.List.{List, [], _∷_}
+use Prim.Native.Nat.{ℕ, zero, suc, _+_, _-_, _≤_, _<_}
 use native.Mathlib.Omega.{arith}
-use borrow.Author.Tests.{lt-ltb, le-ltb, eq-eqb, ne-eqb}
-use lib.Dec.{ltb}
+use borrow.Author.Tests.{lt-ltb, le-ltb, le-leb, lt-leb, eq-eqb, ne-eqb}
+use lib.Dec.{leb, ltb}
 use lib.ListN.{length, getD, drop}
 use lib.Seq.{drop-length}
+use Rattle.lists.proofs.Cases.{true-or-false}
 use Rattle.lists.proofs.InPlace.{drop-next}
 use Rattle.polynomial.specs.Polynomial.{value}
 use Rattle.lists.specs.Choices.{count}
@@ -19,6 +22,9 @@ drop-back : (xs : List ℕ) (i : ℕ) → 0 < i → i ≤ length xs → drop (i 
 drop-back xs i h l =
     let e : i - 1 + 1 ≡ i = omega arith in
     drop-next xs (i - 1) 0 (omega arith) ∙ ap (λ k. getD xs (i - 1) 0 ∷ drop k xs) e
+
+count-cons : {A : Type 0} (test : A → Bool) (x : A) (xs : List A) → count test (x ∷ xs) ≤ suc (count test xs)
+count-cons test x xs = ⊎-elim (λ e. rw e (omega arith)) (λ e. rw e (omega arith)) (true-or-false (test x))
 
 module _ {A : Type 0} (test : A → Bool) (x : A) (rest xs : List A) (n : ℕ) (next : xs ≡ x ∷ rest) (counted : n ≡ count test rest) where
   count-more : test x ≡ true → n + 1 ≡ count test xs
@@ -32,10 +38,6 @@ module _ (p : ℕ) where
   unfolding sent
   sent-start ys = rw drop-length
 
-  pub hits-start : (f xs ys : List ℕ) → 0 ≡ hits p f (drop (length xs) xs) ys
-  unfolding hits
-  hits-start f xs ys = rw drop-length
-
   module _ (ys : List ℕ) (i n : ℕ) (h : 0 < i) (l : i ≤ length ys) (counted : n ≡ sent p (drop i ys)) where
     pub sent-more : getD ys (i - 1) 0 < p → n + 1 ≡ sent p (drop (i - 1) ys)
     unfolding sent
@@ -45,15 +47,56 @@ module _ (p : ℕ) where
     unfolding sent
     sent-same e = count-same (λ y. ltb y p) _ _ _ n (drop-back ys i h l) counted (le-ltb _ p e)
 
-  module _ (f xs ys : List ℕ) (i n : ℕ) (h : 0 < i) (l : i ≤ length xs) (sizes : length xs ≡ length ys)
-      (counted : n ≡ hits p f (drop i xs) (drop i ys)) where
-    next : pointsOf (drop (i - 1) xs) (drop (i - 1) ys) ≡ (getD xs (i - 1) 0, getD ys (i - 1) 0) ∷ pointsOf (drop i xs) (drop i ys)
-    next = ap₂ pointsOf (drop-back xs i h l) (drop-back ys i h (omega arith))
+-- The loop of `enough`: of the points from i on all agree but those that have used up the slack.
+pub record Slack (p : ℕ) (f xs ys : List ℕ) (need i slack : ℕ) : Type 0 where
+  pub within : i ≤ length xs
+  pub count : slack + need ≡ i + hits p f (drop i xs) (drop i ys)
 
-    pub hits-more : value p f (getD xs (i - 1) 0) ≡ getD ys (i - 1) 0 → n + 1 ≡ hits p f (drop (i - 1) xs) (drop (i - 1) ys)
-    unfolding hits
-    hits-more e = count-more (meets p f) _ _ _ n next counted (eq-eqb _ _ e)
+module _ (p : ℕ) (f : List ℕ) where
+  -- Before place i at most i points agree.
+  hits-drop : (i : ℕ) (xs ys : List ℕ) → hits p f xs ys ≤ i + hits p f (drop i xs) (drop i ys)
+  unfolding hits
+  hits-drop zero xs ys = omega arith
+  hits-drop (suc i) [] ys = omega arith
+  hits-drop (suc i) (x ∷ xs) [] = omega arith
+  hits-drop (suc i) (x ∷ xs) (y ∷ ys) =
+      omega (arith, hits-drop i xs ys, count-cons (meets p f) (x, y) (pointsOf xs ys))
 
-    pub hits-same : (value p f (getD xs (i - 1) 0) ≡ getD ys (i - 1) 0 → ⊥) → n ≡ hits p f (drop (i - 1) xs) (drop (i - 1) ys)
-    unfolding hits
-    hits-same e = count-same (meets p f) _ _ _ n next counted (ne-eqb _ _ e)
+  hits-end : (xs ys : List ℕ) → hits p f (drop (length xs) xs) ys ≡ 0
+  unfolding hits
+  hits-end xs ys = rw drop-length
+
+  module _ (xs ys : List ℕ) (need : ℕ) where
+    pub too-few : length xs < need → false ≡ leb need (hits p f xs ys)
+    too-few h =
+        sym (lt-leb need (hits p f xs ys) (omega (arith, hits-drop (length xs) xs ys, hits-end xs (drop (length xs) ys))))
+
+    pub slack-start : need ≤ length xs → Slack p f xs ys need (length xs) (length xs - need)
+    slack-start h = record { within = omega arith; count = omega (arith, hits-end xs (drop (length xs) ys)) }
+
+    pub slack-end : (i slack : ℕ) → i ≡ 0 → Slack p f xs ys need i slack → true ≡ leb need (hits p f xs ys)
+    slack-end i slack e k =
+        let all : slack + need ≡ 0 + hits p f xs ys = rw e at (k .count) in
+        sym (le-leb need (hits p f xs ys) (omega arith))
+
+    module _ (i slack : ℕ) (h : 0 < i) (sizes : length xs ≡ length ys) (k : Slack p f xs ys need i slack) where
+      next : pointsOf (drop (i - 1) xs) (drop (i - 1) ys) ≡ (getD xs (i - 1) 0, getD ys (i - 1) 0) ∷ pointsOf (drop i xs) (drop i ys)
+      next = ap₂ pointsOf (drop-back xs i h (k .within)) (drop-back ys i h (omega (arith, k .within)))
+
+      pub slack-hit : value p f (getD xs (i - 1) 0) ≡ getD ys (i - 1) 0 → Slack p f xs ys need (i - 1) slack
+      unfolding hits
+      slack-hit e = record {
+        within = omega (arith, k .within);
+        count = omega (arith, k .count, count-more (meets p f) _ _ _ _ next refl (eq-eqb _ _ e));
+      }
+
+      module _ (e : value p f (getD xs (i - 1) 0) ≡ getD ys (i - 1) 0 → ⊥) where
+        missed : hits p f (drop i xs) (drop i ys) ≡ hits p f (drop (i - 1) xs) (drop (i - 1) ys)
+        unfolding hits
+        missed = count-same (meets p f) _ _ _ _ next refl (ne-eqb _ _ e)
+
+        pub slack-miss : (slack ≡ 0 → ⊥) → Slack p f xs ys need (i - 1) (slack - 1)
+        slack-miss s = record { within = omega (arith, k .within); count = omega (arith, k .count, missed) }
+
+        pub slack-few : slack ≡ 0 → false ≡ leb need (hits p f xs ys)
+        slack-few s = sym (lt-leb need (hits p f xs ys) (omega (arith, k .count, missed, hits-drop (i - 1) xs ys)))

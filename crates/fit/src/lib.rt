@@ -3,6 +3,7 @@ ghost use mathlib.Core.Path.{_≡_};
 ghost use mathlib.Core.List.{[], _∷_};
 ghost use mathlib.Core.Option.{none};
 ghost use Prim.Native.Nat.{_-_, _≤_};
+ghost use lib.Dec.{leb};
 ghost use lib.ListN.{length, take, drop, replicate};
 ghost use Rattle.field.specs.Modulus.{modulus};
 ghost use Rattle.polynomial.specs.Interpolation.{interpolate};
@@ -24,23 +25,30 @@ fn nothing() -> Fitted
     }
 }
 
-// How many of the points agree with f. The loop goes from the end: n is always the count of the points from i on.
-fn hits(f: &[u16], xs: &[u16], ys: &[u16]) -> usize
+// Whether at least `need` of the points agree with f. The loop goes from the end, and stops as soon as too many have differed:
+// with a wrong polynomial that is soon.
+fn enough(f: &[u16], xs: &[u16], ys: &[u16], need: usize) -> bool
     requires { ⌜ length (now xs) ≡ length (now ys) ⌝ }
-    ensures { λ r. ⌜ r ≡ hits modulus (now (f .entry)) (now (xs .entry)) (now (ys .entry)) ⌝ }
+    ensures { λ r. ⌜ r ≡ leb need (hits modulus (now (f .entry)) (now (xs .entry)) (now (ys .entry))) ⌝ }
 {
-    let mut n = 0;
     let mut i = xs.len();
+    if i < need {
+        return false;
+    }
+    let mut slack = i - need;
     while 0 < i {
         i -= 1;
-        if polynomial::value(f, xs[i]) == ys[i] {
-            n += 1;
+        if polynomial::value(f, xs[i]) != ys[i] {
+            if slack == 0 {
+                return false;
+            }
+            slack -= 1;
         }
     }
-    n
+    true
 }
 
-// How many values were sent, counted likewise from the end.
+// How many values were sent. The loop goes from the end: n is always the count of the values from i on.
 fn sent(ys: &[u16]) -> usize
     ensures { λ r. ⌜ r ≡ sent modulus (now (ys .entry)) ⌝ }
 {
@@ -64,8 +72,7 @@ fn test(xs: &[u16], ys: &[u16], need: usize, c: usize, cx: [u16; 4], cy: [u16; 4
 {
     let mut f = cy;
     polynomial::interpolate(&cx[..c], &mut f[..c]);
-    let n = hits(&f[..c], xs, ys);
-    if need <= n {
+    if enough(&f[..c], xs, ys, need) {
         Fitted {
             found: true,
             coefficients: f,

@@ -33,13 +33,13 @@ array-share-prefix-f c =
     let s = c .before .before .before .before .before .before in
     front-fits modulus (s .args .c) (s .args .t5) (s .args .cy) _ (omega arith) (omega arith) (omega arith) (c .before .interpolate .ensures)
 
-slice-aggregate-hits : tie.Need-slice-aggregate-hits
-slice-aggregate-hits c =
+slice-aggregate-enough : tie.Need-slice-aggregate-enough
+slice-aggregate-enough c =
     let s = c .before .before .before .before .before .before .before in
     front-size modulus (s .args .c) (s .args .t5) (s .args .cy) _ (omega arith) (omega arith) (omega arith) (c .before .before .interpolate .ensures)
 
-hits-requires : tie.Need-hits-requires
-hits-requires c κs = search needs
+enough-requires : tie.Need-enough-requires
+enough-requires c κs = search needs
 
 nothing-requires : tie.Need-nothing-requires
 nothing-requires c κs = search needs
@@ -55,7 +55,7 @@ returns c =
     let s = i .before .before .before .before .before in
     let l = sizes s in
     test-passed modulus (s .args .c) (s .args .t5) (s .args .cy) _ (omega arith) (l .0) (l .1) (i .interpolate .ensures)
-    (s .args .need) _ _ (s .pre .1 .1) (rw (h .hits .ensures) at (c .if1 .taken))
+    (s .args .need) _ _ (s .pre .1 .1) (sym (h .enough .ensures) ∙ c .if1 .taken)
 
 returns-2 : tie.Need-returns-2
 returns-2 c =
@@ -65,7 +65,7 @@ returns-2 c =
     let l = sizes s in
     c .nothing .ensures
     ∙ test-failed modulus (s .args .c) (s .args .t5) (s .args .cy) _ (omega arith) (l .0) (l .1) (i .interpolate .ensures)
-    (s .args .need) _ _ (rw (h .hits .ensures) at (c .before .if1 .left))
+    (s .args .need) _ _ (sym (h .enough .ensures) ∙ c .before .if1 .left)
 
 pub test-spec : {M : Type 1} → statement M
 test-spec =
@@ -77,8 +77,8 @@ test-spec =
     slice-aggregate-interpolate-2
     interpolate-requires
     array-share-prefix-f
-    slice-aggregate-hits
-    hits-requires
+    slice-aggregate-enough
+    enough-requires
     nothing-requires
     returns
     returns-2)

@@ -1,0 +1,92 @@
+-- `fit::enough` meets its contract. The loop goes from the end and keeps `Slack`.
+use mathlib.Core.Path.{_≡_, sym, _∙_}
+use native.Mathlib.Omega.{arith}
+use borrow.Author.Needs.{needs}
+use Rattle.field.specs.Modulus.{modulus}
+use Rattle.fit.proofs.Counting.{Slack, too-few, slack-start, slack-hit, slack-miss, slack-few, slack-end}
+use Rattle.fit.proofs.enough.Statement.{statement}
+use Rattle.fit.proofs.enough.Tie as tie
+
+abbrev Inv-loop : tie.InvT-loop
+Inv-loop f xs ys need i₀ slack₀ i slack = Slack modulus f xs ys need i slack
+
+abbrev μ-loop : tie.MeasureT-loop
+μ-loop f xs ys need i₀ slack₀ i slack = i
+
+returns : tie.Need-returns Inv-loop μ-loop
+returns c = too-few modulus _ _ _ _ (c .if1 .taken)
+
+loop-holds : tie.Need-loop-holds Inv-loop μ-loop
+loop-holds c = slack-start modulus _ _ _ _ (omega arith)
+
+sub-i : tie.Need-sub-i Inv-loop μ-loop
+sub-i c = search needs
+
+mul-value : tie.Need-mul-value Inv-loop μ-loop
+mul-value c = search needs
+
+shared-slice-read-value : tie.Need-shared-slice-read-value Inv-loop μ-loop
+shared-slice-read-value c = search needs
+
+value-requires : tie.Need-value-requires Inv-loop μ-loop
+value-requires c κs = search needs
+
+mul-if2 : tie.Need-mul-if2 Inv-loop μ-loop
+mul-if2 c = search needs
+
+shared-slice-read-if2 : tie.Need-shared-slice-read-if2 Inv-loop μ-loop
+shared-slice-read-if2 c = search needs
+
+returns-2 : tie.Need-returns-2 Inv-loop μ-loop
+returns-2 c =
+    let v = c .before .before .before in
+    let k = v .before .before .before .loop in
+    slack-few modulus _ _ _ _ (k .i) (k .slack) (omega arith) (omega arith) (k .inv)
+    (λ e. c .before .if2 .taken (v .value .ensures ∙ e)) (c .if3 .taken)
+
+sub-slack : tie.Need-sub-slack Inv-loop μ-loop
+sub-slack c = search needs
+
+loop-less : tie.Need-loop-less Inv-loop μ-loop
+loop-less c = search needs
+
+loop-again : tie.Need-loop-again Inv-loop μ-loop
+loop-again c =
+    let v = c .before .before .before in
+    let k = v .before .before .before .loop in
+    slack-miss modulus _ _ _ _ (k .i) (k .slack) (omega arith) (omega arith) (k .inv)
+    (λ e. c .before .if2 .taken (v .value .ensures ∙ e)) (c .if3 .left)
+
+loop-less-2 : tie.Need-loop-less-2 Inv-loop μ-loop
+loop-less-2 c = search needs
+
+loop-again-2 : tie.Need-loop-again-2 Inv-loop μ-loop
+loop-again-2 c =
+    let v = c .before .before in
+    let k = v .before .before .before .loop in
+    slack-hit modulus _ _ _ _ (k .i) (k .slack) (omega arith) (omega arith) (k .inv) (sym (v .value .ensures) ∙ c .if2 .left)
+
+returns-3 : tie.Need-returns-3 Inv-loop μ-loop
+returns-3 c = slack-end modulus _ _ _ _ _ _ (omega arith) (c .before .loop .inv)
+
+pub enough-spec : {M : Type 1} → statement M
+enough-spec =
+    tie.close
+    (tie.spec
+    Inv-loop
+    μ-loop
+    returns
+    loop-holds
+    sub-i
+    mul-value
+    shared-slice-read-value
+    value-requires
+    mul-if2
+    shared-slice-read-if2
+    returns-2
+    sub-slack
+    loop-less
+    loop-again
+    loop-less-2
+    loop-again-2
+    returns-3)
