@@ -1,6 +1,6 @@
 -- The search as the code does it: the points from place i on, and two arrays of four whose first c places hold the points taken.
 use mathlib.Core.Path.{_≡_, refl, sym, ap, ap₂, _∙_}
-use mathlib.Core.Bool.{true, false, true≢false, false≢true}
+use mathlib.Core.Bool.{Bool, true, false, true≢false, false≢true}
 use mathlib.Core.Option.{Option, none, some, orElse}
 use mathlib.Core.List.{List, [], _∷_, _++_, tail-eq-of-cons-eq}
 use Prim.Native.Nat.{ℕ, zero, suc, _+_, _-_, _≤_, _<_}
@@ -19,8 +19,8 @@ use Rattle.fit.specs.declared.Fitted.{Fitted}
 use Rattle.fit.specs.Fit.{hits, sent, received, through, firstFitting, fit}
 use Rattle.fit.specs.Answer.{answer, candidates, found, fitIn}
 use Rattle.lists.proofs.Choices.{first-append}
-use Rattle.fit.proofs.Answers.{fit-within}
-use Rattle.fit.proofs.Steps.{received-yes, received-no, candidates-one, candidates-none, candidates-spare, candidates-last}
+use Rattle.fit.proofs.Answers.{answer-found, fit-within}
+use Rattle.fit.proofs.Steps.{received-next, received-over, candidates-one, candidates-none, candidates-spare, candidates-last, candidates-front}
 
 -- ---- one point after the other
 module _ (p need : ℕ) (xs ys : List ℕ) where
@@ -31,6 +31,17 @@ module _ (p need : ℕ) (xs ys : List ℕ) where
   unfolding received
   found-none zero s cx cy i n h = absurd (n refl)
   found-none (suc k) s cx cy i n h = rw (drop-end xs i h) (ap (firstFitting p need xs ys) (sym (candidates-none p s cx cy k)))
+
+  -- What is found where no point may be passed over is found first in any case.
+  found-front : (k s : ℕ) (cx cy : List ℕ) (i : ℕ) (f : List ℕ) → found p need xs ys k 0 cx cy i ≡ some f → found p need xs ys k s cx cy i ≡ some f
+  unfolding orElse
+  found-front k s cx cy i f e =
+      let qs : List (ℕ × ℕ) = received p (drop i xs) (drop i ys) in
+      let test : List ℕ → Bool = λ f. leb need (hits p f xs ys) in
+      let (rest, split) = candidates-front p k s cx cy qs in
+      ap (firstFitting p need xs ys) split
+      ∙ first-append test (candidates p k 0 cx cy qs) rest
+      ∙ ap (λ o. orElse o (firstFitting p need xs ys rest)) e
 
   module _ (sizes : length xs ≡ length ys) (i : ℕ) (inside : i < length xs) (s : ℕ) (cx cy : List ℕ) where
     abbrev x : ℕ
@@ -45,21 +56,17 @@ module _ (p need : ℕ) (xs ys : List ℕ) where
     -- A value that was not sent is left out.
     pub found-unsent : (k : ℕ) → p ≤ y → found p need xs ys k s cx cy (i + 1) ≡ found p need xs ys k s cx cy i
     found-unsent k q =
-        ap (λ qs. firstFitting p need xs ys (candidates p k s cx cy qs))
-        (sym (rw (drop-next xs i 0 inside, drop-next ys i 0 (omega arith)) (received-no p x y (drop (i + 1) xs) (drop (i + 1) ys) q)))
+        ap (λ qs. firstFitting p need xs ys (candidates p k s cx cy qs)) (sym (received-over p xs ys sizes i inside q))
 
     -- Another point is taken.
     abbrev found-with-it : ℕ → Option (List ℕ)
     found-with-it k = found p need xs ys (k - 1) s (cx ++ x ∷ []) (cy ++ y ∷ []) (i + 1)
 
-    here : y < p → received p (drop i xs) (drop i ys) ≡ (x, y) ∷ later
-    here q = rw (drop-next xs i 0 inside, drop-next ys i 0 (omega arith)) (received-yes p x y (drop (i + 1) xs) (drop (i + 1) ys) q)
-
     pub found-last : (k : ℕ) → (k ≡ 0 → ⊥) → y < p → s ≡ 0 → found-with-it k ≡ found p need xs ys k s cx cy i
     found-last zero n q e = absurd (n refl)
     found-last (suc k) n q e =
         let less : suc k - 1 ≡ k = omega arith in
-        rw (here q, candidates-last p s cx cy k x y later e, less) refl
+        rw (received-next p xs ys sizes i inside q, candidates-last p s cx cy k x y later e, less) refl
 
     -- Where that finds nothing the point is passed over.
     pub found-spare : (k : ℕ) → (k ≡ 0 → ⊥) → y < p → (s ≡ 0 → ⊥)
@@ -67,7 +74,7 @@ module _ (p need : ℕ) (xs ys : List ℕ) where
     found-spare zero n q m = absurd (n refl)
     found-spare (suc k) n q m =
         let less : suc k - 1 ≡ k = omega arith in
-        rw (here q, candidates-spare p s cx cy k x y later (pos-of-ne-zero m), less)
+        rw (received-next p xs ys sizes i inside q, candidates-spare p s cx cy k x y later (pos-of-ne-zero m), less)
         (sym (first-append (λ f. leb need (hits p f xs ys)) (candidates p k s (cx ++ x ∷ []) (cy ++ y ∷ []) later) (candidates p (suc k) (s - 1) cx cy later)))
 
 -- ---- the arrays of the points taken
@@ -169,3 +176,11 @@ pub fit-search : (t need : ℕ) (xs ys : List ℕ) (n e : ℕ) → t ≤ 3 → l
     → answer (found modulus need xs ys (t + 1) e [] [] 0) ≡ fitIn t need xs ys
 unfolding fit candidates through
 fit-search t need xs ys n e h l counted spare = rw (add-one t, spare, counted) (fit-within t need xs ys h l)
+
+-- What the first points sent give is the answer.
+pub fit-first : (t need : ℕ) (xs ys : List ℕ) (r : Fitted) → t ≤ 3 → length xs ≡ length ys → r ≡ answer (found modulus need xs ys (t + 1) 0 [] [] 0)
+    → r .found ≡ true → r ≡ fitIn t need xs ys
+fit-first t need xs ys r h l e g =
+    let (f, some-f) = answer-found _ (sym (ap (λ w. w .found) e) ∙ g) in
+    let n : ℕ = sent modulus ys in
+    e ∙ ap answer (some-f ∙ sym (found-front modulus need xs ys (t + 1) (n - need) [] [] 0 f some-f)) ∙ fit-search t need xs ys n (n - need) h l refl refl

@@ -11,17 +11,11 @@ use lib.Dec.{leb, ltb}
 use lib.ListN.{length, getD, drop}
 use lib.Seq.{drop-length}
 use Rattle.lists.proofs.Cases.{true-or-false}
-use Rattle.lists.proofs.InPlace.{drop-next}
+use Rattle.lists.proofs.InPlace.{drop-back}
 use Rattle.polynomial.specs.Polynomial.{value}
 use Rattle.lists.specs.Choices.{count}
 use Rattle.fit.specs.Fit.{pointsOf, meets, hits, sent}
 use Rattle.lists.proofs.Choices.{count-yes, count-no}
-
--- The element before place i comes to those from i on.
-drop-back : (xs : List ℕ) (i : ℕ) → 0 < i → i ≤ length xs → drop (i - 1) xs ≡ getD xs (i - 1) 0 ∷ drop i xs
-drop-back xs i h l =
-    let e : i - 1 + 1 ≡ i = omega arith in
-    drop-next xs (i - 1) 0 (omega arith) ∙ ap (λ k. getD xs (i - 1) 0 ∷ drop k xs) e
 
 count-cons : {A : Type 0} (test : A → Bool) (x : A) (xs : List A) → count test (x ∷ xs) ≤ suc (count test xs)
 count-cons test x xs = ⊎-elim (λ e. rw e (omega arith)) (λ e. rw e (omega arith)) (true-or-false (test x))
@@ -41,11 +35,11 @@ module _ (p : ℕ) where
   module _ (ys : List ℕ) (i n : ℕ) (h : 0 < i) (l : i ≤ length ys) (counted : n ≡ sent p (drop i ys)) where
     pub sent-more : getD ys (i - 1) 0 < p → n + 1 ≡ sent p (drop (i - 1) ys)
     unfolding sent
-    sent-more e = count-more (λ y. ltb y p) _ _ _ n (drop-back ys i h l) counted (lt-ltb _ p e)
+    sent-more e = count-more (λ y. ltb y p) _ _ _ n (drop-back ys i 0 h l) counted (lt-ltb _ p e)
 
     pub sent-same : p ≤ getD ys (i - 1) 0 → n ≡ sent p (drop (i - 1) ys)
     unfolding sent
-    sent-same e = count-same (λ y. ltb y p) _ _ _ n (drop-back ys i h l) counted (le-ltb _ p e)
+    sent-same e = count-same (λ y. ltb y p) _ _ _ n (drop-back ys i 0 h l) counted (le-ltb _ p e)
 
 -- The loop of `enough`: of the points from i on all agree but those that have used up the slack.
 pub record Slack (p : ℕ) (f xs ys : List ℕ) (need i slack : ℕ) : Type 0 where
@@ -81,7 +75,7 @@ module _ (p : ℕ) (f : List ℕ) where
 
     module _ (i slack : ℕ) (h : 0 < i) (sizes : length xs ≡ length ys) (k : Slack p f xs ys need i slack) where
       next : pointsOf (drop (i - 1) xs) (drop (i - 1) ys) ≡ (getD xs (i - 1) 0, getD ys (i - 1) 0) ∷ pointsOf (drop i xs) (drop i ys)
-      next = ap₂ pointsOf (drop-back xs i h (k .within)) (drop-back ys i h (omega (arith, k .within)))
+      next = ap₂ pointsOf (drop-back xs i 0 h (k .within)) (drop-back ys i 0 h (omega (arith, k .within)))
 
       pub slack-hit : value p f (getD xs (i - 1) 0) ≡ getD ys (i - 1) 0 → Slack p f xs ys need (i - 1) slack
       unfolding hits

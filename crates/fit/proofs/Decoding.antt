@@ -1,26 +1,31 @@
 -- What is found fits, at most one polynomial fits, and what fits is found: for any prime p, any distinct points and every need.
 use mathlib.Core.Path.{_≡_, refl, sym, ap, ap₂, subst, _∙_}
 use mathlib.Core.Bool.{Bool, true, false, _&&_, and-eq-true-iff}
-use mathlib.Core.Logic.{_↔_}
+use mathlib.Core.Logic.{_↔_, ⊎-elim}
 use mathlib.Core.Option.{Option, none, some}
-use mathlib.Core.List.{List, [], _∷_, map, List·Memᴰ, Memᴰ·map, Memᴰ·of-map, Sublistᴰ, Sublistᴰ·slnil, Sublistᴰ·cons-cons, Sublistᴰ·nil-sublist, Sublistᴰ·refl, Sublistᴰ·trans}
-use Prim.Native.Nat.{ℕ, suc, _+_, _*_, _-_, _≤_, _<_}
+use mathlib.Core.List.{List, [], _∷_, map, List·Memᴰ, Memᴰ·map, Memᴰ·of-map, Sublistᴰ, Sublistᴰ·slnil, Sublistᴰ·cons, Sublistᴰ·cons-cons, Sublistᴰ·nil-sublist, Sublistᴰ·refl, Sublistᴰ·trans}
+use Prim.Native.Nat.{ℕ, zero, suc, _+_, _*_, _-_, _≤_, _<_}
 use native.Mathlib.Omega.{arith}
 use borrow.Author.Tests.{eqb-true, ne-eqb, ltb-true, ltb-false, leb-true, le-leb}
 use lib.Dec.{leb, ltb}
-use lib.ListN.{length, take, length-map}
+use lib.ListN.{length, take, drop, length-map}
 use Rattle.lists.specs.All.{All}
 use Rattle.lists.proofs.All.{all-of, all-at}
 use Rattle.field.specs.Arithmetic.{Prime}
 use Rattle.polynomial.specs.Polynomial.{Poly, Points, Residues, value}
 use Rattle.polynomial.proofs.Division.{value-lt}
 use Rattle.polynomial.proofs.Interpolation.{interpolate-poly, interpolate-only}
-use Rattle.lists.specs.Choices.{count, first, choices}
-use Rattle.fit.specs.Fit.{pointsOf, xsOf, ysOf, meets, hits, sent, received, Fits, through, fit}
+use Rattle.lists.specs.Choices.{count, choices}
+use Rattle.fit.specs.Fit.{pointsOf, xsOf, ysOf, meets, hits, sent, received, Fits, through, firstFitting, fit}
 use Rattle.lists.proofs.Choices.{count-length, length-keep, count-keep, count-take, count-both, count-sublist, count-map, first-some, first-none, choices-sublist, choices-passing, keep-sublist, keep-passing}
+use Rattle.lists.proofs.Cases.{true-or-false, le-or-lt}
 use Rattle.lists.proofs.Sublists.{take-sublist, all-sublist, map-sublist, distinct-sublist}
 
 -- ---- the points received
+pub points-nil : (xs : List ℕ) → pointsOf xs [] ≡ []
+points-nil [] = refl
+points-nil (x ∷ xs) = refl
+
 points-xs : (xs ys : List ℕ) → Sublistᴰ (xsOf (pointsOf xs ys)) xs
 points-xs [] ys = Sublistᴰ·slnil
 points-xs (x ∷ xs) [] = Sublistᴰ·nil-sublist (x ∷ xs)
@@ -34,10 +39,30 @@ points-ys (x ∷ xs) (y ∷ ys) = Sublistᴰ·cons-cons refl (points-ys xs ys)
 pub points-sublist : (p : ℕ) {xs ys : List ℕ} → Sublistᴰ xs ys → Points p ys → Points p xs
 points-sublist p s h = (all-sublist (λ c. c < p) s (h .0), distinct-sublist s (h .1))
 
+-- From place i on no others are received.
+pub received-part : (p i : ℕ) (xs ys : List ℕ) → Sublistᴰ (received p (drop i xs) (drop i ys)) (received p xs ys)
+unfolding received
+received-part p zero xs ys = Sublistᴰ·refl (received p xs ys)
+received-part p (suc i) [] ys = Sublistᴰ·slnil
+received-part p (suc i) (x ∷ xs) [] = rw (points-nil (drop i xs)) Sublistᴰ·slnil
+received-part p (suc i) (x ∷ xs) (y ∷ ys) =
+    let rest = received-part p i xs ys in
+    ⊎-elim (λ e. rw e (Sublistᴰ·cons rest)) (λ e. rw e rest) (true-or-false (ltb y p))
+
 module _ (p : ℕ) where
   -- The test by which points are received.
   abbrev taken : ℕ × ℕ → Bool
   taken q = ltb (q .1) p
+
+  -- As many points are received as values were sent.
+  pub received-all : (xs ys : List ℕ) → length xs ≡ length ys → length (received p xs ys) ≡ sent p ys
+  unfolding received sent
+  received-all [] [] l = refl
+  received-all [] (y ∷ ys) l = absurd (omega arith)
+  received-all (x ∷ xs) [] l = absurd (omega arith)
+  received-all (x ∷ xs) (y ∷ ys) l =
+      let rest = received-all xs ys (omega arith) in
+      ⊎-elim (λ e. rw e (ap suc rest)) (λ e. rw e rest) (true-or-false (ltb y p))
 
   -- No more points are received than values were sent.
   pub received-sent : (xs ys : List ℕ) → length (received p xs ys) ≤ sent p ys
@@ -105,6 +130,33 @@ module _ (p : ℕ) (P : Prime p) (xs ys : List ℕ) (k : ℕ) (qs : List (ℕ ×
       (subst (λ n. Poly p n f) (sym chosen-size) hf)
       (values p f c h)
 
+-- ---- the choices of t + 1 of some of the points received, tried one after the other
+module _ (p : ℕ) (P : Prime p) (t need : ℕ) (xs ys : List ℕ) (qs : List (ℕ × ℕ)) (part : Sublistᴰ qs (received p xs ys)) where
+  abbrev tried : Option (List ℕ)
+  tried = firstFitting p need xs ys (map (through p) (choices (suc t) qs))
+
+  -- What is found fits.
+  pub tried-fits : (f : List ℕ) → tried ≡ some f → Fits p t need xs ys f
+  tried-fits f e =
+      let (among, passed) = first-some (λ f. leb need (hits p f xs ys)) (map (through p) (choices (suc t) qs)) f e in
+      let (c, chosen, same) = Memᴰ·of-map (through p) (choices (suc t) qs) among in
+      record {
+        poly = subst (Poly p (suc t)) same (through-poly p P xs ys (suc t) qs part c chosen);
+        enough = leb-true need (hits p f xs ys) passed;
+      }
+
+  -- Where nothing is found, what fits agrees with no t + 1 of these points.
+  pub tried-none : Points p xs → tried ≡ none → (f : List ℕ) → Fits p t need xs ys f → count (meets p f) qs ≤ t
+  tried-none ps e f F = ⊎-elim (λ few. few) (λ many. absurd (found-it many)) (le-or-lt (count (meets p f) qs) t)
+    where
+      found-it : t < count (meets p f) qs → ⊥
+      found-it many =
+          let (c, chosen, right) = choices-passing (meets p f) (suc t) qs many in
+          let same : f ≡ through p c = through-only p P xs ys (suc t) qs part c chosen ps f (F .poly) right in
+          first-none (λ f. leb need (hits p f xs ys)) (map (through p) (choices (suc t) qs)) e f
+          (subst (λ z. List·Memᴰ z (map (through p) (choices (suc t) qs))) (sym same) (Memᴰ·map (through p) chosen))
+          (le-leb need (hits p f xs ys) (F .enough))
+
 -- ---- the laws
 module _ (p : ℕ) (P : Prime p) (t need : ℕ) (xs ys : List ℕ) where
   -- The first points received: where f fits, t + 1 of them agree with it.
@@ -117,13 +169,7 @@ module _ (p : ℕ) (P : Prime p) (t need : ℕ) (xs ys : List ℕ) where
   -- What is found fits.
   pub fit-sound : (f : List ℕ) → fit p t need xs ys ≡ some f → Fits p t need xs ys f
   unfolding fit
-  fit-sound f e =
-      let (tried, passed) = first-some (λ f. leb need (hits p f xs ys)) (map (through p) (choices (suc t) window)) f e in
-      let (c, chosen, same) = Memᴰ·of-map (through p) (choices (suc t) window) tried in
-      record {
-        poly = subst (Poly p (suc t)) same (through-poly p P xs ys (suc t) window window-part c chosen);
-        enough = leb-true need (hits p f xs ys) passed;
-      }
+  fit-sound = tried-fits p P t need xs ys window window-part
 
   -- At most one fits: two that fit agree with t + 1 of the points, and there with each other.
   pub fit-unique : Points p xs → sent p ys + t + 1 ≤ 2 * need → (f g : List ℕ) → Fits p t need xs ys f → Fits p t need xs ys g → f ≡ g
@@ -144,15 +190,15 @@ module _ (p : ℕ) (P : Prime p) (t need : ℕ) (xs ys : List ℕ) where
   pub fit-none : Points p xs → t < need → fit p t need xs ys ≡ none → (f : List ℕ) → Fits p t need xs ys f → ⊥
   unfolding fit
   fit-none ps n e f F =
-      let r : List (ℕ × ℕ) = received p xs ys in
-      let hf : hits p f xs ys ≡ count (meets p f) r = hits-received p f xs ys (omega arith) in
-      let many : suc t ≤ count (meets p f) window =
-      omega (arith, F .enough, received-sent p xs ys, hits-sent p f xs ys (omega arith), count-take (meets p f) (suc t + (sent p ys - need)) r) in
-      let (c, chosen, right) = choices-passing (meets p f) (suc t) window many in
-      let same : f ≡ through p c = through-only p P xs ys (suc t) window window-part c chosen ps f (F .poly) right in
-      first-none (λ f. leb need (hits p f xs ys)) (map (through p) (choices (suc t) window)) e f
-      (subst (λ z. List·Memᴰ z (map (through p) (choices (suc t) window))) (sym same) (Memᴰ·map (through p) chosen))
-      (le-leb need (hits p f xs ys) (F .enough))
+      omega (
+        arith,
+        F .enough,
+        received-sent p xs ys,
+        hits-received p f xs ys (omega arith),
+        hits-sent p f xs ys (omega arith),
+        count-take (meets p f) (suc t + (sent p ys - need)) (received p xs ys),
+        tried-none p P t need xs ys window window-part ps e f F,
+      )
 
   -- Where nothing fits nothing is found.
   pub fit-nothing : ((f : List ℕ) → Fits p t need xs ys f → ⊥) → fit p t need xs ys ≡ none

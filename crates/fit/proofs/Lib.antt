@@ -5,4 +5,5 @@ pub mod Answers
 pub mod Counting
 pub mod Steps
 pub mod Arrays
+pub mod Grouping
 pub mod Examples

@@ -14,15 +14,11 @@ use Rattle.lists.specs.Choices.{count, first, choices, marked, select, hide}
 use Rattle.fit.specs.Fit.{pointsOf, meets, hits, sent, received, through, fit}
 use Rattle.lists.proofs.Choices.{count-yes, count-sublist}
 use Rattle.lists.proofs.Selections.{length-select, select-sublist}
-use Rattle.fit.proofs.Decoding.{points-sublist, hits-received, fit-found}
+use Rattle.fit.proofs.Decoding.{points-nil, points-sublist, hits-received, fit-found}
 use Rattle.fit.proofs.Rule.{sent-length}
 
 pub points-select : (p : ℕ) (ms : List Bool) (xs : List ℕ) → Points p xs → Points p (select ms xs)
 points-select p ms xs = points-sublist p (select-sublist ms xs)
-
-points-nil : (xs : List ℕ) → pointsOf xs [] ≡ []
-points-nil [] = refl
-points-nil (x ∷ xs) = refl
 
 -- ---- what is hidden was not sent
 module _ (p mark : ℕ) (unsent : p ≤ mark) where

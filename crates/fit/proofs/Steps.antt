@@ -4,24 +4,35 @@ use mathlib.Core.List.{List, [], _∷_, _++_, map, map-append, append-assoc, app
 use Prim.Native.Nat.{ℕ, zero, suc, _+_, _-_, _≤_, _<_}
 use native.Mathlib.Omega.{arith}
 use borrow.Author.Tests.{lt-ltb, le-ltb}
-use lib.ListN.{take, length-take}
+use lib.ListN.{length, take, drop, getD, length-take}
 use lib.Seq.{take-nil}
 use Rattle.lists.proofs.All.{map-map}
+use Rattle.lists.proofs.InPlace.{drop-next}
+use Rattle.lists.proofs.Sublists.{take-take}
 use Rattle.polynomial.specs.Interpolation.{interpolate}
 use Rattle.lists.specs.Choices.{choices}
 use Rattle.fit.specs.Fit.{xsOf, ysOf, received}
 use Rattle.fit.specs.Answer.{candidates}
-use Rattle.lists.proofs.Choices.{choices-few}
+use Rattle.lists.proofs.Choices.{choices-few, choices-front}
 
 -- ---- the points received
 module _ (p x y : ℕ) (xs ys : List ℕ) where
-  pub received-yes : y < p → received p (x ∷ xs) (y ∷ ys) ≡ (x, y) ∷ received p xs ys
+  received-yes : y < p → received p (x ∷ xs) (y ∷ ys) ≡ (x, y) ∷ received p xs ys
   unfolding received
   received-yes h = rw (lt-ltb y p h)
 
-  pub received-no : p ≤ y → received p (x ∷ xs) (y ∷ ys) ≡ received p xs ys
+  received-no : p ≤ y → received p (x ∷ xs) (y ∷ ys) ≡ received p xs ys
   unfolding received
   received-no h = rw (le-ltb y p h)
+
+-- The points received from place i on.
+module _ (p : ℕ) (xs ys : List ℕ) (sizes : length xs ≡ length ys) (i : ℕ) (inside : i < length xs) where
+  pub received-next : getD ys i 0 < p
+      → received p (drop i xs) (drop i ys) ≡ (getD xs i 0, getD ys i 0) ∷ received p (drop (i + 1) xs) (drop (i + 1) ys)
+  received-next h = rw (drop-next xs i 0 inside, drop-next ys i 0 (omega arith)) (received-yes p (getD xs i 0) (getD ys i 0) (drop (i + 1) xs) (drop (i + 1) ys) h)
+
+  pub received-over : p ≤ getD ys i 0 → received p (drop i xs) (drop i ys) ≡ received p (drop (i + 1) xs) (drop (i + 1) ys)
+  received-over h = rw (drop-next xs i 0 inside, drop-next ys i 0 (omega arith)) (received-no p (getD xs i 0) (getD ys i 0) (drop (i + 1) xs) (drop (i + 1) ys) h)
 
 -- ---- the polynomials still to be tried
 module _ (p s : ℕ) (cx cy : List ℕ) where
@@ -65,3 +76,17 @@ module _ (p s : ℕ) (cx cy : List ℕ) where
     candidates-last e =
         let few : choices (suc k) (take (k + s) qs) ≡ [] = choices-few (suc k) (take (k + s) qs) (omega (arith, length-take (k + s) qs)) in
         split ∙ ap (λ cs. with-it ++ map (λ c. interpolate p (cx ++ xsOf c) (cy ++ ysOf c)) cs) few ∙ append-nil with-it
+
+-- ---- what is tried where no point may be passed over is tried first in any case
+pub candidates-front : (p k s : ℕ) (cx cy : List ℕ) (qs : List (ℕ × ℕ))
+    → (rest : List (List ℕ)) × (candidates p k s cx cy qs ≡ candidates p k 0 cx cy qs ++ rest)
+unfolding candidates
+candidates-front p k s cx cy qs =
+    let polynomial : List (ℕ × ℕ) → List ℕ = λ c. interpolate p (cx ++ xsOf c) (cy ++ ysOf c) in
+    let (others, e) = choices-front k (take (k + s) qs) in
+    let none : k ≡ k + 0 = omega arith in
+    let front : take k (take (k + s) qs) ≡ take (k + 0) qs = take-take k s qs ∙ ap (λ n. take n qs) none in (
+      map polynomial others,
+      ap (map polynomial) e ∙ map-append polynomial (choices k (take k (take (k + s) qs))) others
+          ∙ ap (λ l. map polynomial (choices k l) ++ map polynomial others) front,
+    )

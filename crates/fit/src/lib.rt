@@ -2,13 +2,16 @@
 ghost use mathlib.Core.Path.{_≡_};
 ghost use mathlib.Core.List.{[], _∷_};
 ghost use mathlib.Core.Option.{none};
-ghost use Prim.Native.Nat.{_-_, _≤_};
-ghost use lib.Dec.{leb};
+ghost use mathlib.Core.Bool.{_&&_};
+ghost use Prim.Native.Nat.{_+_, _-_, _≤_};
+ghost use lib.Dec.{leb, ltb};
 ghost use lib.ListN.{length, take, drop, replicate};
 ghost use Rattle.field.specs.Modulus.{modulus};
+ghost use Rattle.polynomial.specs.Polynomial.{points};
 ghost use Rattle.polynomial.specs.Interpolation.{interpolate};
-ghost use Rattle.fit.specs.Fit.{hits, sent, firstFitting};
+ghost use Rattle.fit.specs.Fit.{hits, sent, firstFitting, fit};
 ghost use Rattle.fit.specs.Answer.{answer, found, Searching, fitIn};
+ghost use Rattle.fit.specs.Grouping.{Behind, Grouping};
 
 // Whether a polynomial was found, and its coefficients, the constant first, with 0 behind them.
 pub struct Fitted {
@@ -130,6 +133,64 @@ fn surplus(n: usize, need: usize) -> usize
     if need < n { n - need } else { 0 }
 }
 
+// Whether at most one polynomial can fit, and something is left to try: distinct points, of which more than half must agree.
+fn at_most_one(t: usize, need: usize, spare: usize, xs: &[u16]) -> bool
+    requires { ⌜ (t ≤ 3) × (spare ≤ length (now xs)) ⌝ }
+    ensures { λ r. ⌜ r ≡ ltb 0 spare && ltb (spare + t) need && points modulus (now (xs .entry)) ⌝ }
+{
+    if spare == 0 {
+        return false;
+    }
+    if need <= spare + t {
+        return false;
+    }
+    polynomial::points(xs)
+}
+
+// The place behind the next k values sent from place i on.
+fn behind(ys: &[u16], i: usize, k: usize) -> usize
+    requires { ⌜ i ≤ length (now ys) ⌝ }
+    ensures { λ r. ⌜ Behind modulus k (now (ys .entry)) i r ⌝ }
+{
+    let mut j = i;
+    let mut more = k;
+    while j < ys.len() {
+        if more == 0 {
+            return j;
+        }
+        let y = ys[j];
+        j += 1;
+        if y < field::MODULUS {
+            more -= 1;
+        }
+    }
+    j
+}
+
+// The search where at most one polynomial can fit, and none goes through the first t + 1 points sent. So one of them is wrong, and
+// behind them one fewer: the next t + 1 are tried alone, and so on while enough points are left, and only then those that are left.
+fn groups(t: usize, need: usize, xs: &[u16], ys: &[u16], sent: usize, spare: usize) -> Fitted
+    requires { ⌜ Grouping modulus t need (now xs) (now ys) 0 sent spare ⌝ }
+    ensures { λ r. ⌜ r ≡ answer (fit modulus t need (now (xs .entry)) (now (ys .entry))) ⌝ }
+{
+    let mut i = 0;
+    let mut left = sent;
+    let mut wrong = spare;
+    while 2 * t + 1 + wrong <= left {
+        if wrong == 0 {
+            return nothing();
+        }
+        i = behind(ys, i, t + 1);
+        left -= t + 1;
+        wrong -= 1;
+        let group = search(xs, ys, need, i, t + 1, 0, 0, [0; 4], [0; 4]);
+        if group.found {
+            return group;
+        }
+    }
+    search(xs, ys, need, i, t + 1, wrong, 0, [0; 4], [0; 4])
+}
+
 // The polynomial of degree at most t that agrees with at least `need` of the points (xs[i], ys[i]), if one is found.
 // For t above 3, or lists of two lengths, none is.
 pub fn fit(t: usize, need: usize, xs: &[u16], ys: &[u16]) -> Fitted
@@ -141,6 +202,14 @@ pub fn fit(t: usize, need: usize, xs: &[u16], ys: &[u16]) -> Fitted
     if xs.len() != ys.len() {
         return nothing();
     }
-    let spare = surplus(sent(ys), need);
+    let n = sent(ys);
+    let spare = surplus(n, need);
+    let first = search(xs, ys, need, 0, t + 1, 0, 0, [0; 4], [0; 4]);
+    if first.found {
+        return first;
+    }
+    if at_most_one(t, need, spare, xs) {
+        return groups(t, need, xs, ys, n, spare);
+    }
     search(xs, ys, need, 0, t + 1, spare, 0, [0; 4], [0; 4])
 }

@@ -3,10 +3,10 @@ use mathlib.Core.Path.{_≡_, refl, sym, ap, subst, _∙_}
 use mathlib.Core.Bool.{Bool, true, false, cond, not, _&&_}
 use mathlib.Core.Logic.{_⊎_, inl, inr, ⊎-elim}
 use mathlib.Core.Option.{none, some, orElse}
-use mathlib.Core.List.{List, [], _∷_, _++_, map, List·Memᴰ, List·Memᴰ·head, List·Memᴰ·tail, List·Memᴰ·append-cases, List·Memᴰ·eq-of-singleton, List·Memᴰ·not-nil, Memᴰ·append-left, Memᴰ·append-right, Memᴰ·map, Memᴰ·of-map, Sublistᴰ, Sublistᴰ·slnil, Sublistᴰ·cons, Sublistᴰ·cons-cons, Sublistᴰ·nil-sublist}
+use mathlib.Core.List.{List, [], _∷_, _++_, map, map-append, append-assoc, append-nil, List·Memᴰ, List·Memᴰ·head, List·Memᴰ·tail, List·Memᴰ·append-cases, List·Memᴰ·eq-of-singleton, List·Memᴰ·not-nil, Memᴰ·append-left, Memᴰ·append-right, Memᴰ·map, Memᴰ·of-map, Sublistᴰ, Sublistᴰ·slnil, Sublistᴰ·cons, Sublistᴰ·cons-cons, Sublistᴰ·nil-sublist}
 use Prim.Native.Nat.{ℕ, zero, suc, _+_, _-_, _≤_, _<_}
 use native.Mathlib.Omega.{arith}
-use lib.ListN.{length, take}
+use lib.ListN.{length, take, length-take}
 use Rattle.lists.specs.All.{All}
 use Rattle.lists.proofs.Cases.{true-or-false}
 use Rattle.lists.specs.Choices.{count, keep, first, choices}
@@ -155,3 +155,20 @@ module _ {A : Type 0} where
   choices-few zero xs h = absurd (omega arith)
   choices-few (suc k) [] h = refl
   choices-few (suc k) (x ∷ xs) h = rw (choices-few k xs (omega arith)) (choices-few (suc k) xs (omega arith))
+
+  -- The choice of the first k elements, if there are so many, comes first.
+  pub choices-front : (k : ℕ) (xs : List A) → (rest : List (List A)) × (choices k xs ≡ choices k (take k xs) ++ rest)
+  choices-front zero xs = ([], refl)
+  choices-front (suc k) [] = ([], refl)
+  choices-front (suc k) (x ∷ xs) =
+      let (rest, e) = choices-front k xs in
+      let others : List (List A) = map (λ c. x ∷ c) rest ++ choices (suc k) xs in
+      let few : choices (suc k) (take k xs) ≡ [] = choices-few (suc k) (take k xs) (omega (arith, length-take k xs)) in
+      let front : List (List A) = map (λ c. x ∷ c) (choices k (take k xs)) in (
+        others,
+        ap (λ cs. map (λ c. x ∷ c) cs ++ choices (suc k) xs) e
+            ∙ ap (λ cs. cs ++ choices (suc k) xs) (map-append (λ c. x ∷ c) (choices k (take k xs)) rest)
+            ∙ append-assoc front (map (λ c. x ∷ c) rest) (choices (suc k) xs)
+            ∙ ap (λ cs. cs ++ others) (sym (append-nil front))
+            ∙ ap (λ cs. (front ++ cs) ++ others) (sym few),
+      )

@@ -1,7 +1,8 @@
 -- Sublists: what is left of a list after some of its elements are dropped. What holds of the list holds of them.
 use mathlib.Core.Path.{_≡_, refl, sym, ap, subst}
 use mathlib.Core.List.{List, [], _∷_, map, Sublistᴰ, Sublistᴰ·slnil, Sublistᴰ·cons, Sublistᴰ·cons-cons, Sublistᴰ·nil-sublist}
-use Prim.Native.Nat.{ℕ, zero, suc}
+use Prim.Native.Nat.{ℕ, zero, suc, _+_}
+use native.Mathlib.Omega.{arith}
 use lib.ListN.{take}
 use Rattle.lists.specs.All.{All, Distinct}
 
@@ -10,6 +11,11 @@ module _ {A : Type 0} where
   take-sublist zero xs = Sublistᴰ·nil-sublist xs
   take-sublist (suc n) [] = Sublistᴰ·slnil
   take-sublist (suc n) (x ∷ xs) = Sublistᴰ·cons-cons refl (take-sublist n xs)
+
+  pub take-take : (k s : ℕ) (xs : List A) → take k (take (k + s) xs) ≡ take k xs
+  take-take zero s xs = refl
+  take-take (suc k) s [] = let e : suc k + s ≡ suc (k + s) = omega arith in rw e refl
+  take-take (suc k) s (x ∷ xs) = let e : suc k + s ≡ suc (k + s) = omega arith in rw e (ap (λ l. x ∷ l) (take-take k s xs))
 
   pub all-sublist : (P : A → Type 0) {xs ys : List A} → Sublistᴰ xs ys → All P ys → All P xs
   all-sublist P Sublistᴰ·slnil h = tt

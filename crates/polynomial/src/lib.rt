@@ -4,7 +4,7 @@ ghost use lib.ListN.{length, replicate};
 ghost use lib.Dec.{eqb};
 ghost use Prim.Native.Nat.{_*_};
 ghost use Rattle.field.specs.Modulus.{modulus};
-ghost use Rattle.polynomial.specs.Polynomial.{residues, value};
+ghost use Rattle.polynomial.specs.Polynomial.{residues, absent, points, value};
 ghost use Rattle.polynomial.specs.Interpolation.{slopes, newton, raise, expand, interpolateIn};
 ghost use Rattle.polynomial.specs.Bivariate.{plusTimes, rowIn, columnIn};
 
@@ -16,6 +16,39 @@ pub fn residues(list: &[u16]) -> bool
     while 0 < i {
         i -= 1;
         if field::MODULUS <= list[i] {
+            return false;
+        }
+    }
+    true
+}
+
+// Whether x is none of the numbers of the list.
+fn absent(x: u16, list: &[u16]) -> bool
+    ensures { λ r. ⌜ r ≡ absent x (now (list .entry)) ⌝ }
+{
+    let mut i = list.len();
+    while 0 < i {
+        i -= 1;
+        if list[i] == x {
+            return false;
+        }
+    }
+    true
+}
+
+// Whether the numbers of the list are distinct residues.
+pub fn points(list: &[u16]) -> bool
+    ensures { λ r. ⌜ r ≡ points modulus (now (list .entry)) ⌝ }
+{
+    let mut i = list.len();
+    while 0 < i {
+        let behind = i;
+        i -= 1;
+        let x = list[i];
+        if field::MODULUS <= x {
+            return false;
+        }
+        if !absent(x, &list[behind..]) {
             return false;
         }
     }

@@ -1,8 +1,12 @@
--- `fit::fit` meets its contract: nothing is found outside the sizes, and otherwise what the search finds from the first point on.
-use mathlib.Core.Path.{refl, _∙_}
+-- `fit::fit` meets its contract: nothing is found outside the sizes; otherwise what the first points sent give, what the groups give where
+-- at most one polynomial fits, and elsewhere what the search finds from the first point on.
+use mathlib.Core.Path.{refl, sym, _∙_}
 use native.Mathlib.Omega.{arith}
-use Rattle.fit.proofs.Answers.{fit-wide, fit-uneven}
-use Rattle.fit.proofs.Arrays.{fit-search}
+use Rattle.field.specs.Modulus.{modulus}
+use Rattle.fit.proofs.Answers.{fit-wide, fit-uneven, fit-within}
+use Rattle.fit.proofs.Rule.{sent-length}
+use Rattle.fit.proofs.Arrays.{fit-search, fit-first}
+use Rattle.fit.proofs.Grouping.{groups-start}
 use borrow.Author.Needs.{needs}
 use Rattle.fit.proofs.fit.Statement.{statement}
 use Rattle.fit.proofs.fit.Tie as tie
@@ -33,9 +37,39 @@ search-requires c κs = record { sizes = omega arith; inside = omega arith; room
 
 returns-3 : tie.Need-returns-3
 returns-3 c =
-    let counted = c .before .before in
-    c .search .ensures
-    ∙ fit-search _ _ _ _ _ _ (counted .before .before .if1 .left) (counted .before .if2 .left) (counted .sent .ensures) (c .before .surplus .ensures)
+    let sized = c .before .before .before .before in
+    fit-first _ _ _ _ _ (sized .before .if1 .left) (sized .if2 .left) (c .before .search .ensures) (c .if3 .taken)
+
+at-most-one-requires : tie.Need-at-most-one-requires
+at-most-one-requires c κs =
+    let counted = c .before .before .before in
+    (omega arith, omega (arith, c .before .before .surplus .ensures, counted .sent .ensures, sent-length modulus (counted .before .before .before .before .before .args .ys .now)))
+
+groups-requires : tie.Need-groups-requires
+groups-requires c κs =
+    let searched = c .before .before .before in
+    let counted = searched .before .before in
+    groups-start modulus (omega arith) _ _ _ _ _ _ _ (counted .before .if2 .left) (counted .before .before .if1 .left)
+    (counted .sent .ensures) (searched .before .surplus .ensures) (searched .search .ensures) (c .before .before .if3 .left)
+    (sym (c .before .at-most-one .ensures) ∙ c .if4 .taken)
+
+returns-4 : tie.Need-returns-4
+returns-4 c =
+    let sized = c .before .before .before .before .before .before .before in
+    c .groups .ensures ∙ fit-within _ _ _ _ (sized .before .if1 .left) (sized .if2 .left)
+
+add-search-2 : tie.Need-add-search-2
+add-search-2 c = search needs
+
+search-requires-2 : tie.Need-search-requires-2
+search-requires-2 c κs = record { sizes = omega arith; inside = omega arith; room = omega arith; zeros = refl }
+
+returns-5 : tie.Need-returns-5
+returns-5 c =
+    let counted = c .before .before .before .before .before .before in
+    c .search2 .ensures
+    ∙ fit-search _ _ _ _ _ _ (counted .before .before .if1 .left) (counted .before .if2 .left) (counted .sent .ensures)
+    (c .before .before .before .before .before .surplus .ensures)
 
 pub fit-spec : {M : Type 1} → statement M
 fit-spec =
@@ -49,4 +83,10 @@ fit-spec =
     surplus-requires
     add-search
     search-requires
-    returns-3)
+    returns-3
+    at-most-one-requires
+    groups-requires
+    returns-4
+    add-search-2
+    search-requires-2
+    returns-5)

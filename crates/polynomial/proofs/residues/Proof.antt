@@ -1,25 +1,30 @@
 -- `polynomial::residues` meets its contract. The loop goes from the end: the numbers from i on are residues.
 use borrow.Author.Needs.{needs}
 use native.Mathlib.Omega.{arith}
-use mathlib.Core.Path.{_≡_, sym, ap}
-use mathlib.Core.Bool.{true}
-use Prim.Native.Nat.{_≤_, _-_}
-use lib.ListN.{length, drop}
-use lib.Seq.{drop-length}
+use mathlib.Core.Path.{refl}
+use mathlib.Core.Bool.{Bool}
+use mathlib.Core.List.{List}
+use Prim.Native.Nat.{ℕ}
+use lib.Dec.{ltb}
+use borrow.Author.Tests.{lt-ltb, le-ltb}
+use Rattle.lists.proofs.FromEnd.{Passed, passed-start, passed-next, passed-not, passed-end}
 use Rattle.field.specs.Modulus.{modulus}
 use Rattle.polynomial.specs.Polynomial.{residues}
-use Rattle.polynomial.proofs.Below.{residues-false, residues-more}
 use Rattle.polynomial.proofs.residues.Statement.{statement}
 use Rattle.polynomial.proofs.residues.Tie as tie
 
+-- What is asked of one number.
+abbrev fine : ℕ → List ℕ → Bool
+fine a rest = ltb a modulus
+
 abbrev Inv-loop : tie.InvT-loop
-Inv-loop list i₀ i = (i ≤ length list) × (residues modulus (drop i list) ≡ true)
+Inv-loop list i₀ i = Passed (residues modulus) list i
 
 abbrev μ-loop : tie.MeasureT-loop
 μ-loop list i₀ i = i
 
 loop-holds : tie.Need-loop-holds Inv-loop μ-loop
-loop-holds c = (omega arith, ap (residues modulus) (drop-length (c .args .list .now)))
+loop-holds c = passed-start fine (residues modulus) refl (λ a xs. refl) (c .args .list .now)
 
 sub-i : tie.Need-sub-i Inv-loop μ-loop
 sub-i c = search needs
@@ -31,7 +36,10 @@ shared-slice-read-if1 : tie.Need-shared-slice-read-if1 Inv-loop μ-loop
 shared-slice-read-if1 c = search needs
 
 returns : tie.Need-returns Inv-loop μ-loop
-returns c = let k = c .before .before .before .loop in sym (residues-false modulus (c .before .before .before .before .args .list .now) (k .i - 1) (omega arith) (omega arith))
+returns c =
+    let k = c .before .before .before .loop in
+    passed-not fine (residues modulus) refl (λ a xs. refl) (c .before .before .before .before .args .list .now) (k .i) (omega arith) (k .inv .within)
+    (le-ltb _ _ (c .if1 .taken))
 
 loop-less : tie.Need-loop-less Inv-loop μ-loop
 loop-less c = search needs
@@ -39,10 +47,10 @@ loop-less c = search needs
 loop-again : tie.Need-loop-again Inv-loop μ-loop
 loop-again c =
     let k = c .before .before .before .loop in
-    (omega arith, residues-more modulus _ (k .i) (omega arith) (omega arith) (omega arith) (k .inv .1))
+    passed-next fine (residues modulus) refl (λ a xs. refl) _ (k .i) (omega arith) (k .inv .within) (k .inv .rest) (lt-ltb _ _ (c .if1 .left))
 
 returns-2 : tie.Need-returns-2 Inv-loop μ-loop
-returns-2 c = let z : c .before .loop .i ≡ 0 = omega arith in sym (rw z at (c .before .loop .inv .1))
+returns-2 c = let k = c .before .loop in passed-end fine (residues modulus) refl (λ a xs. refl) _ (k .i) (omega arith) (k .inv)
 
 pub residues-spec : {M : Type 1} → statement M
 residues-spec =
