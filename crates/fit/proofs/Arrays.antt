@@ -8,8 +8,10 @@ use native.Mathlib.Nat.{pos-of-ne-zero}
 use native.Mathlib.Numerals.{add-one}
 use native.Mathlib.Omega.{arith}
 use lib.Dec.{leb}
-use lib.ListN.{length, take, drop, getD, set, replicate, length-append}
-use lib.Seq.{length-take-le, take-at, take-suc-set}
+use lib.ListN.{length, take, drop, getD, set, replicate, length-set, length-append, length-drop}
+use lib.Seq.{length-take-le, take-suc-set}
+use Rattle.lists.specs.Tabulate.{pad}
+use Rattle.lists.proofs.Padded.{pad-pad, four}
 use Rattle.lists.proofs.InPlace.{drop-end, drop-next, rest-kept}
 use Rattle.field.specs.Modulus.{modulus}
 use Rattle.polynomial.specs.Interpolation.{newton, interpolate, interpolateIn}
@@ -17,9 +19,10 @@ use Rattle.polynomial.proofs.Interpolation.{length-newton, length-expand}
 use Rattle.polynomial.proofs.Lent.{interpolate-in}
 use Rattle.fit.specs.declared.Fitted.{Fitted}
 use Rattle.fit.specs.Fit.{hits, sent, received, through, firstFitting, fit}
-use Rattle.fit.specs.Answer.{answer, candidates, found, fitIn}
+use Rattle.fit.specs.Answer.{answer, candidates, found, Searching, fitIn}
 use Rattle.lists.proofs.Choices.{first-append}
-use Rattle.fit.proofs.Answers.{answer-found, fit-within}
+use Rattle.fit.proofs.Counting.{hits-zeros}
+use Rattle.fit.proofs.Answers.{answer-found, answer-again, fit-within}
 use Rattle.fit.proofs.Steps.{received-next, received-over, candidates-one, candidates-none, candidates-spare, candidates-last, candidates-front}
 
 -- ---- one point after the other
@@ -89,6 +92,44 @@ zeros-next c v cs h l e =
     let n : 4 - c ≡ suc (4 - (c + 1)) = omega arith in
     rest-kept cs c v ∙ tail-eq-of-cons-eq (sym (drop-next cs c 0 (omega arith)) ∙ e ∙ ap (λ k. replicate k 0) n)
 
+-- ---- the loop of `straight`: with the points taken so far the search finds what it finds from its start on
+pub record Straight (p need : ℕ) (xs ys : List ℕ) (goal : Option (List ℕ)) (j left d : ℕ) (dx dy : List ℕ) : Type 0 where
+  pub searching : Searching xs ys j left d dy
+  pub width-x : length dx ≡ 4
+  pub width-y : length dy ≡ 4
+  pub finds : found p need xs ys left 0 (take d dx) (take d dy) j ≡ goal
+
+module _ (p need : ℕ) (xs ys : List ℕ) (goal : Option (List ℕ)) (j left d : ℕ) (dx dy : List ℕ)
+    (k : Straight p need xs ys goal j left d dx dy) (inside : j < length xs) where
+  abbrev s : Searching xs ys j left d dy
+  s = k .searching
+
+  pub straight-unsent : p ≤ getD ys j 0 → Straight p need xs ys goal (j + 1) left d dx dy
+  straight-unsent q = record {
+    searching = record { sizes = s .sizes; inside = omega arith; room = s .room; zeros = s .zeros };
+    width-x = k .width-x;
+    width-y = k .width-y;
+    finds = found-unsent p need xs ys (s .sizes) j inside 0 (take d dx) (take d dy) left q ∙ k .finds;
+  }
+
+  pub straight-sent : 0 < left → getD ys j 0 < p
+      → Straight p need xs ys goal (j + 1) (left - 1) (d + 1) (set dx d (getD xs j 0)) (set dy d (getD ys j 0))
+  straight-sent h q = record {
+    searching = record {
+      sizes = s .sizes;
+      inside = omega arith;
+      room = omega (arith, s .room);
+      zeros = zeros-next d _ dy (omega (arith, s .room)) (k .width-y) (s .zeros);
+    };
+    width-x = length-set dx d _ ∙ k .width-x;
+    width-y = length-set dy d _ ∙ k .width-y;
+    finds =
+        ap₂ (λ u v. found p need xs ys (left - 1) 0 u v (j + 1))
+        (take-next d (getD xs j 0) dx (omega (arith, s .room, k .width-x))) (take-next d (getD ys j 0) dy (omega (arith, s .room, k .width-y)))
+        ∙ found-last p need xs ys (s .sizes) j inside 0 (take d dx) (take d dy) left (λ z. omega arith) q refl
+        ∙ k .finds;
+  }
+
 -- The first of two answers, where it has found something, is the answer of both; and otherwise the second is.
 or-found : (a b : Option (List ℕ)) → answer a .found ≡ true → answer a ≡ answer (orElse a b)
 unfolding orElse
@@ -100,28 +141,25 @@ unfolding orElse
 or-not-found none b h = refl
 or-not-found (some f) b h = absurd (true≢false h)
 
--- Where r is the answer of the call that takes the point at i: what is answered if no point may be passed over, if r has found
--- something, and if it has not.
+-- Where r is the answer of the call that takes the point at i: what is answered if r has found something, and if it has not.
 pub record Branches (p need : ℕ) (xs ys : List ℕ) (i c : ℕ) (cx cy : List ℕ) (k s : ℕ) (r : Fitted) : Type 0 where
-  pub last : s ≡ 0 → r ≡ answer (found p need xs ys k s (take c cx) (take c cy) i)
-  pub with-it : (s ≡ 0 → ⊥) → r .found ≡ true → r ≡ answer (found p need xs ys k s (take c cx) (take c cy) i)
-  pub without-it : (s ≡ 0 → ⊥) → r .found ≡ false
+  pub with-it : r .found ≡ true → answer (some (r .coefficients)) ≡ answer (found p need xs ys k s (take c cx) (take c cy) i)
+  pub without-it : r .found ≡ false
       → answer (found p need xs ys k (s - 1) (take c cx) (take c cy) (i + 1)) ≡ answer (found p need xs ys k s (take c cx) (take c cy) i)
 
 pub branches : (p need : ℕ) (xs ys : List ℕ) (i c : ℕ) (cx cy : List ℕ) (k s : ℕ) (r : Fitted)
-    → length xs ≡ length ys → i < length xs → c < 4 → length cx ≡ 4 → length cy ≡ 4 → (k ≡ 0 → ⊥) → getD ys i 0 < p
+    → length xs ≡ length ys → i < length xs → c < 4 → length cx ≡ 4 → length cy ≡ 4 → (k ≡ 0 → ⊥) → (s ≡ 0 → ⊥) → getD ys i 0 < p
     → r ≡ answer (found p need xs ys (k - 1) s (take (c + 1) (set cx c (getD xs i 0))) (take (c + 1) (set cy c (getD ys i 0))) (i + 1))
     → Branches p need xs ys i c cx cy k s r
-branches p need xs ys i c cx cy k s r sizes inside room lx ly n q e =
+branches p need xs ys i c cx cy k s r sizes inside room lx ly n m q e =
     let a : Option (List ℕ) = found-with-it p need xs ys sizes i inside s (take c cx) (take c cy) k in
     let taken : r ≡ answer a =
     e ∙ ap₂ (λ u v. answer (found p need xs ys (k - 1) s u v (i + 1)))
     (take-next c (getD xs i 0) cx (omega arith)) (take-next c (getD ys i 0) cy (omega arith)) in
     let same : r .found ≡ answer a .found = ap (λ w. w .found) taken in
     record {
-      last = λ z. taken ∙ ap answer (found-last p need xs ys sizes i inside s (take c cx) (take c cy) k n q z);
-      with-it = λ m h. taken ∙ or-found a _ (sym same ∙ h) ∙ ap answer (found-spare p need xs ys sizes i inside s (take c cx) (take c cy) k n q m);
-      without-it = λ m h. or-not-found a _ (sym same ∙ h) ∙ ap answer (found-spare p need xs ys sizes i inside s (take c cx) (take c cy) k n q m);
+      with-it = λ h. answer-again a r taken h ∙ or-found a _ (sym same ∙ h) ∙ ap answer (found-spare p need xs ys sizes i inside s (take c cx) (take c cy) k n q m);
+      without-it = λ h. or-not-found a _ (sym same ∙ h) ∙ ap answer (found-spare p need xs ys sizes i inside s (take c cx) (take c cy) k n q m);
     }
 
 -- ---- the array of coefficients: the polynomial in its first c places, 0 behind
@@ -129,6 +167,10 @@ length-interpolate : (p : ℕ) (xs ys : List ℕ) → length xs ≡ length ys �
 unfolding interpolate
 length-interpolate p xs ys l =
     length-expand p xs (newton p xs ys) (l ∙ sym (length-newton p xs ys l)) ∙ length-newton p xs ys l ∙ sym l
+
+-- The four numbers of an array.
+abbrev numbers : List ℕ → List ℕ
+numbers g = getD g 0 0 ∷ getD g 1 0 ∷ getD g 2 0 ∷ getD g 3 0 ∷ []
 
 module _ (p c : ℕ) (cx cy f : List ℕ) (room : c ≤ 4) (lx : length cx ≡ 4) (ly : length cy ≡ 4)
     (e : f ≡ interpolateIn p (take c cx) (take c cy)) where
@@ -144,30 +186,30 @@ module _ (p c : ℕ) (cx cy f : List ℕ) (room : c ≤ 4) (lx : length cx ≡ 4
   size : length f ≡ c
   size = ap length coefficients ∙ length-interpolate p (take c cx) (take c cy) same-size ∙ length-x
 
-  front : take c (f ++ drop c cy) ≡ f
-  front = take-at f (drop c cy) c size
-
-  pub front-fits : c ≤ length (f ++ drop c cy)
-  front-fits = omega (arith, length-append f (drop c cy), size)
-
-  pub front-size : c ≡ length (take c (f ++ drop c cy))
-  front-size = sym (ap length front ∙ size)
-
   module _ (need : ℕ) (xs ys : List ℕ) where
     abbrev tested : List ℕ → Fitted
     tested g = answer (firstFitting p need xs ys (g ∷ []))
 
-    pub test-passed : drop c cy ≡ replicate (4 - c) 0 → leb need (hits p (take c (f ++ drop c cy)) xs ys) ≡ true
-        → _≡_ {A = Fitted} (record { found = true; coefficients = f ++ drop c cy }) (tested (interpolate p (take c cx) (take c cy)))
+    -- The four numbers of the array are the polynomial with 0 behind it, which changes no value.
+    whole : drop c cy ≡ replicate (4 - c) 0 → hits p (numbers (f ++ drop c cy)) xs ys ≡ hits p f xs ys
+    whole zeros =
+        let l : length (f ++ drop c cy) ≡ 4 = omega (arith, length-append f (drop c cy), length-drop c cy, size) in
+        ap (λ g. hits p g xs ys) (four (f ++ drop c cy) l ∙ ap (λ z. f ++ z) zeros) ∙ hits-zeros p f (4 - c) xs ys
+
+    pub test-passed : drop c cy ≡ replicate (4 - c) 0 → leb need (hits p (numbers (f ++ drop c cy)) xs ys) ≡ true
+        → answer (some (f ++ drop c cy)) ≡ tested (interpolate p (take c cx) (take c cy))
     test-passed zeros h =
-        let enough : leb need (hits p f xs ys) ≡ true = rw front at h in
+        let enough : leb need (hits p f xs ys) ≡ true = sym (ap (leb need) (whole zeros)) ∙ h in
         let found : answer (some f) ≡ tested f = rw enough in
-        ap (λ z. record { found = true; coefficients = f ++ z }) (zeros ∙ ap (λ k. replicate (4 - k) 0) (sym size))
+        let padded : f ++ drop c cy ≡ pad 4 f = ap (λ z. f ++ z) (zeros ∙ ap (λ k. replicate (4 - k) 0) (sym size)) in
+        ap (λ g. answer (some g)) padded
+        ∙ ap (λ l. record { found = true; coefficients = l }) (pad-pad 4 f)
         ∙ found ∙ ap tested coefficients
 
-    pub test-failed : leb need (hits p (take c (f ++ drop c cy)) xs ys) ≡ false → answer none ≡ tested (interpolate p (take c cx) (take c cy))
-    test-failed h =
-        let few : leb need (hits p f xs ys) ≡ false = rw front at h in
+    pub test-failed : drop c cy ≡ replicate (4 - c) 0 → leb need (hits p (numbers (f ++ drop c cy)) xs ys) ≡ false
+        → answer none ≡ tested (interpolate p (take c cx) (take c cy))
+    test-failed zeros h =
+        let few : leb need (hits p f xs ys) ≡ false = sym (ap (leb need) (whole zeros)) ∙ h in
         let lost : answer none ≡ tested f = rw few in
         lost ∙ ap tested coefficients
 
@@ -179,8 +221,8 @@ fit-search t need xs ys n e h l counted spare = rw (add-one t, spare, counted) (
 
 -- What the first points sent give is the answer.
 pub fit-first : (t need : ℕ) (xs ys : List ℕ) (r : Fitted) → t ≤ 3 → length xs ≡ length ys → r ≡ answer (found modulus need xs ys (t + 1) 0 [] [] 0)
-    → r .found ≡ true → r ≡ fitIn t need xs ys
+    → r .found ≡ true → answer (some (r .coefficients)) ≡ fitIn t need xs ys
 fit-first t need xs ys r h l e g =
     let (f, some-f) = answer-found _ (sym (ap (λ w. w .found) e) ∙ g) in
     let n : ℕ = sent modulus ys in
-    e ∙ ap answer (some-f ∙ sym (found-front modulus need xs ys (t + 1) (n - need) [] [] 0 f some-f)) ∙ fit-search t need xs ys n (n - need) h l refl refl
+    answer-again (found modulus need xs ys (t + 1) 0 [] [] 0) r e g ∙ ap answer (some-f ∙ sym (found-front modulus need xs ys (t + 1) (n - need) [] [] 0 f some-f)) ∙ fit-search t need xs ys n (n - need) h l refl refl

@@ -1,24 +1,20 @@
 -- Loops that count from the end of a list, what agrees or what was sent from place i on: a turn goes to i − 1.
 --   Slack   how many of the points before i may still differ
-use mathlib.Core.Path.{_≡_, refl, ap, ap₂, sym, _∙_}
+use mathlib.Core.Path.{_≡_, refl, ap, ap₂, sym, fun-ext, _∙_}
 use mathlib.Core.Bool.{Bool, true, false}
-use mathlib.Core.Logic.{⊎-elim}
-use mathlib.Core.List.{List, [], _∷_}
+use mathlib.Core.List.{List, [], _∷_, _++_}
 use Prim.Native.Nat.{ℕ, zero, suc, _+_, _-_, _≤_, _<_}
 use native.Mathlib.Omega.{arith}
 use borrow.Author.Tests.{lt-ltb, le-ltb, le-leb, lt-leb, eq-eqb, ne-eqb}
-use lib.Dec.{leb, ltb}
-use lib.ListN.{length, getD, drop}
+use lib.Dec.{leb, ltb, eqb}
+use lib.ListN.{length, getD, drop, replicate}
 use lib.Seq.{drop-length}
-use Rattle.lists.proofs.Cases.{true-or-false}
 use Rattle.lists.proofs.InPlace.{drop-back}
 use Rattle.polynomial.specs.Polynomial.{value}
+use Rattle.polynomial.proofs.Division.{value-zeros}
 use Rattle.lists.specs.Choices.{count}
 use Rattle.fit.specs.Fit.{pointsOf, meets, hits, sent}
-use Rattle.lists.proofs.Choices.{count-yes, count-no}
-
-count-cons : {A : Type 0} (test : A → Bool) (x : A) (xs : List A) → count test (x ∷ xs) ≤ suc (count test xs)
-count-cons test x xs = ⊎-elim (λ e. rw e (omega arith)) (λ e. rw e (omega arith)) (true-or-false (test x))
+use Rattle.lists.proofs.Choices.{count-yes, count-no, count-cons}
 
 module _ {A : Type 0} (test : A → Bool) (x : A) (rest xs : List A) (n : ℕ) (next : xs ≡ x ∷ rest) (counted : n ≡ count test rest) where
   count-more : test x ≡ true → n + 1 ≡ count test xs
@@ -55,6 +51,11 @@ module _ (p : ℕ) (f : List ℕ) where
   hits-drop (suc i) (x ∷ xs) [] = omega arith
   hits-drop (suc i) (x ∷ xs) (y ∷ ys) =
       omega (arith, hits-drop i xs ys, count-cons (meets p f) (x, y) (pointsOf xs ys))
+
+  -- Zeros behind the coefficients change nothing.
+  pub hits-zeros : (n : ℕ) (xs ys : List ℕ) → hits p (f ++ replicate n 0) xs ys ≡ hits p f xs ys
+  unfolding hits
+  hits-zeros n xs ys = ap (λ test. count test (pointsOf xs ys)) (fun-ext (λ q. ap (λ v. eqb v (q .1)) (value-zeros p f n (q .0))))
 
   hits-end : (xs ys : List ℕ) → hits p f (drop (length xs) xs) ys ≡ 0
   unfolding hits

@@ -1,9 +1,9 @@
 // Decoding by trial: the polynomial of degree at most t that agrees with at least `need` of the points.
 ghost use mathlib.Core.Path.{_≡_};
 ghost use mathlib.Core.List.{[], _∷_};
-ghost use mathlib.Core.Option.{none};
+ghost use mathlib.Core.Option.{none, some};
 ghost use mathlib.Core.Bool.{_&&_};
-ghost use Prim.Native.Nat.{_+_, _-_, _≤_};
+ghost use Prim.Native.Nat.{_+_, _-_, _≤_, _<_};
 ghost use lib.Dec.{leb, ltb};
 ghost use lib.ListN.{length, take, drop, replicate};
 ghost use Rattle.field.specs.Modulus.{modulus};
@@ -28,11 +28,21 @@ fn nothing() -> Fitted
     }
 }
 
-// Whether at least `need` of the points agree with f. The loop goes from the end, and stops as soon as too many have differed:
-// with a wrong polynomial that is soon.
-fn enough(f: &[u16], xs: &[u16], ys: &[u16], need: usize) -> bool
+// What was found is handed on by its coefficients: to copy the struct is slower.
+fn something(f: [u16; 4]) -> Fitted
+    ensures { λ r. ⌜ r ≡ answer (some f) ⌝ }
+{
+    Fitted {
+        found: true,
+        coefficients: f,
+    }
+}
+
+// Whether at least `need` of the points agree with a + b X + c X² + d X³. The loop goes from the end, and stops as soon as too many
+// have differed: with a wrong polynomial that is soon.
+fn enough(a: u16, b: u16, c: u16, d: u16, xs: &[u16], ys: &[u16], need: usize) -> bool
     requires { ⌜ length (now xs) ≡ length (now ys) ⌝ }
-    ensures { λ r. ⌜ r ≡ leb need (hits modulus (now (f .entry)) (now (xs .entry)) (now (ys .entry))) ⌝ }
+    ensures { λ r. ⌜ r ≡ leb need (hits modulus (a ∷ b ∷ c ∷ d ∷ []) (now (xs .entry)) (now (ys .entry))) ⌝ }
 {
     let mut i = xs.len();
     if i < need {
@@ -41,7 +51,7 @@ fn enough(f: &[u16], xs: &[u16], ys: &[u16], need: usize) -> bool
     let mut slack = i - need;
     while 0 < i {
         i -= 1;
-        if polynomial::value(f, xs[i]) != ys[i] {
+        if polynomial::cubic(a, b, c, d, xs[i]) != ys[i] {
             if slack == 0 {
                 return false;
             }
@@ -75,18 +85,52 @@ fn test(xs: &[u16], ys: &[u16], need: usize, c: usize, cx: [u16; 4], cy: [u16; 4
 {
     let mut f = cy;
     polynomial::interpolate(&cx[..c], &mut f[..c]);
-    if enough(&f[..c], xs, ys, need) {
-        Fitted {
-            found: true,
-            coefficients: f,
-        }
+    if enough(f[0], f[1], f[2], f[3], xs, ys, need) {
+        something(f)
     } else {
         nothing()
     }
 }
 
+// The search from place i on where no point may be passed over: the next `more` points sent are taken. The first c places of cx and
+// cy hold the points taken before. A value that was not sent is no point.
+fn straight(
+    xs: &[u16],
+    ys: &[u16],
+    need: usize,
+    i: usize,
+    more: usize,
+    c: usize,
+    cx: [u16; 4],
+    cy: [u16; 4],
+) -> Fitted
+    requires { ⌜ Searching (now xs) (now ys) i more c cy ⌝ }
+    ensures { λ r. ⌜ r ≡ answer (found modulus need (now (xs .entry)) (now (ys .entry)) more 0 (take c cx) (take c cy) i) ⌝ }
+{
+    let mut j = i;
+    let mut left = more;
+    let mut d = c;
+    let mut dx = cx;
+    let mut dy = cy;
+    while 0 < left {
+        if xs.len() <= j {
+            return nothing();
+        }
+        let x = xs[j];
+        let y = ys[j];
+        j += 1;
+        if y < field::MODULUS {
+            dx[d] = x;
+            dy[d] = y;
+            d += 1;
+            left -= 1;
+        }
+    }
+    test(xs, ys, need, d, dx, dy)
+}
+
 // The search from place i on: `more` points are still to be taken, and `spare` of those sent may be passed over.
-// The first c places of cx and cy hold the points taken; a call has its own copy, so that nothing is to be undone.
+// A call has its own copy of the points taken, so that nothing is to be undone.
 // A value that was not sent is passed over at no cost: it is no point, and never counts as wrong.
 fn search(
     xs: &[u16],
@@ -102,8 +146,11 @@ fn search(
     requires { ⌜ Searching (now xs) (now ys) i more c cy ⌝ }
     ensures { λ r. ⌜ r ≡ answer (found modulus need (now (xs .entry)) (now (ys .entry)) more spare (take c cx) (take c cy) i) ⌝ }
 {
+    if spare == 0 {
+        return straight(xs, ys, need, i, more, c, cx, cy);
+    }
     if more == 0 {
-        return test(xs, ys, need, c, cx, cy);
+        return straight(xs, ys, need, i, 0, c, cx, cy);
     }
     if xs.len() <= i {
         return nothing();
@@ -117,11 +164,9 @@ fn search(
     dx[c] = xs[i];
     dy[c] = y;
     let with_it = search(xs, ys, need, i + 1, more - 1, spare, c + 1, dx, dy);
-    if spare == 0 {
-        return with_it;
-    }
     if with_it.found {
-        return with_it;
+        let f = with_it.coefficients;
+        return something(f);
     }
     search(xs, ys, need, i + 1, more, spare - 1, c, cx, cy)
 }
@@ -133,15 +178,15 @@ fn surplus(n: usize, need: usize) -> usize
     if need < n { n - need } else { 0 }
 }
 
-// Whether at most one polynomial can fit, and something is left to try: distinct points, of which more than half must agree.
-fn at_most_one(t: usize, need: usize, spare: usize, xs: &[u16]) -> bool
-    requires { ⌜ (t ≤ 3) × (spare ≤ length (now xs)) ⌝ }
-    ensures { λ r. ⌜ r ≡ ltb 0 spare && ltb (spare + t) need && points modulus (now (xs .entry)) ⌝ }
+// Whether some values may be wrong, but so few, and at distinct points, that at most one polynomial can fit.
+fn at_most_one(t: usize, need: usize, wrong: usize, xs: &[u16]) -> bool
+    requires { ⌜ (t ≤ 3) × (wrong ≤ length (now xs)) ⌝ }
+    ensures { λ r. ⌜ r ≡ ltb 0 wrong && ltb (wrong + t) need && points modulus (now (xs .entry)) ⌝ }
 {
-    if spare == 0 {
+    if wrong == 0 {
         return false;
     }
-    if need <= spare + t {
+    if need <= wrong + t {
         return false;
     }
     polynomial::points(xs)
@@ -170,22 +215,23 @@ fn behind(ys: &[u16], i: usize, k: usize) -> usize
 // The search where at most one polynomial can fit, and none goes through the first t + 1 points sent. So one of them is wrong, and
 // behind them one fewer: the next t + 1 are tried alone, and so on while enough points are left, and only then those that are left.
 fn groups(t: usize, need: usize, xs: &[u16], ys: &[u16], sent: usize, spare: usize) -> Fitted
-    requires { ⌜ Grouping modulus t need (now xs) (now ys) 0 sent spare ⌝ }
+    requires { ⌜ Grouping modulus t need (now xs) (now ys) 0 sent spare × (0 < spare) ⌝ }
     ensures { λ r. ⌜ r ≡ answer (fit modulus t need (now (xs .entry)) (now (ys .entry))) ⌝ }
 {
     let mut i = 0;
     let mut left = sent;
     let mut wrong = spare;
     while 2 * t + 1 + wrong <= left {
-        if wrong == 0 {
-            return nothing();
-        }
         i = behind(ys, i, t + 1);
         left -= t + 1;
         wrong -= 1;
-        let group = search(xs, ys, need, i, t + 1, 0, 0, [0; 4], [0; 4]);
+        let group = straight(xs, ys, need, i, t + 1, 0, [0; 4], [0; 4]);
         if group.found {
-            return group;
+            let f = group.coefficients;
+            return something(f);
+        }
+        if wrong == 0 {
+            return nothing();
         }
     }
     search(xs, ys, need, i, t + 1, wrong, 0, [0; 4], [0; 4])
@@ -193,6 +239,7 @@ fn groups(t: usize, need: usize, xs: &[u16], ys: &[u16], sent: usize, spare: usi
 
 // The polynomial of degree at most t that agrees with at least `need` of the points (xs[i], ys[i]), if one is found.
 // For t above 3, or lists of two lengths, none is.
+// The first t + 1 points sent come first in any case, and mostly none of them is wrong: they are tried before anything is asked.
 pub fn fit(t: usize, need: usize, xs: &[u16], ys: &[u16]) -> Fitted
     ensures { λ r. ⌜ r ≡ fitIn t need (now (xs .entry)) (now (ys .entry)) ⌝ }
 {
@@ -204,9 +251,10 @@ pub fn fit(t: usize, need: usize, xs: &[u16], ys: &[u16]) -> Fitted
     }
     let n = sent(ys);
     let spare = surplus(n, need);
-    let first = search(xs, ys, need, 0, t + 1, 0, 0, [0; 4], [0; 4]);
+    let first = straight(xs, ys, need, 0, t + 1, 0, [0; 4], [0; 4]);
     if first.found {
-        return first;
+        let f = first.coefficients;
+        return something(f);
     }
     if at_most_one(t, need, spare, xs) {
         return groups(t, need, xs, ys, n, spare);

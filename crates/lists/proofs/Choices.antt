@@ -6,7 +6,7 @@ use mathlib.Core.Option.{none, some, orElse}
 use mathlib.Core.List.{List, [], _∷_, _++_, map, map-append, append-assoc, append-nil, List·Memᴰ, List·Memᴰ·head, List·Memᴰ·tail, List·Memᴰ·append-cases, List·Memᴰ·eq-of-singleton, List·Memᴰ·not-nil, Memᴰ·append-left, Memᴰ·append-right, Memᴰ·map, Memᴰ·of-map, Sublistᴰ, Sublistᴰ·slnil, Sublistᴰ·cons, Sublistᴰ·cons-cons, Sublistᴰ·nil-sublist}
 use Prim.Native.Nat.{ℕ, zero, suc, _+_, _-_, _≤_, _<_}
 use native.Mathlib.Omega.{arith}
-use lib.ListN.{length, take, length-take}
+use lib.ListN.{length, take, drop, length-take}
 use Rattle.lists.specs.All.{All}
 use Rattle.lists.proofs.Cases.{true-or-false}
 use Rattle.lists.specs.Choices.{count, keep, first, choices}
@@ -18,6 +18,9 @@ module _ {A : Type 0} where
 
   pub count-no : (test : A → Bool) (x : A) (xs : List A) → test x ≡ false → count test (x ∷ xs) ≡ count test xs
   count-no test x xs e = rw e
+
+  pub count-cons : (test : A → Bool) (x : A) (xs : List A) → count test (x ∷ xs) ≤ suc (count test xs)
+  count-cons test x xs = ⊎-elim (λ e. rw e (omega arith)) (λ e. rw e (omega arith)) (true-or-false (test x))
 
   pub count-length : (test : A → Bool) (xs : List A) → count test xs ≤ length xs
   count-length test [] = omega arith
@@ -49,6 +52,13 @@ module _ {A : Type 0} where
   keep-passing test (x ∷ xs) =
       let rest = keep-passing test xs in
       ⊎-elim (λ e. rw e (e, rest)) (λ e. rw e rest) (true-or-false (test x))
+
+  pub count-split : (test : A → Bool) (n : ℕ) (xs : List A) → count test xs ≡ count test (take n xs) + count test (drop n xs)
+  count-split test zero xs = omega arith
+  count-split test (suc n) [] = refl
+  count-split test (suc n) (x ∷ xs) =
+      let rest = count-split test n xs in
+      ⊎-elim (λ e. rw e (omega arith)) (λ e. rw e rest) (true-or-false (test x))
 
   -- Of the elements that pass, no more are missing from the first n than elements are.
   pub count-take : (test : A → Bool) (n : ℕ) (xs : List A) → count test xs ≤ count test (take n xs) + (length xs - n)

@@ -1,9 +1,9 @@
 -- Arrays that a loop fills from the front, as padded lists: the start, a turn and the end of the loop.
 use mathlib.Core.Path.{_≡_, refl, sym, ap, ap₂, _∙_}
-use mathlib.Core.List.{List, [], _∷_, _++_}
-use Prim.Native.Nat.{ℕ, zero, suc, _+_, _-_, _<_}
+use mathlib.Core.List.{List, [], _∷_, _++_, append-nil}
+use Prim.Native.Nat.{ℕ, zero, suc, _+_, _-_, _≤_, _<_}
 use native.Mathlib.Omega.{arith}
-use lib.ListN.{length, getD, take, set, replicate}
+use lib.ListN.{length, getD, take, set, replicate, length-append, length-replicate}
 use lib.Seq.{ext-getD, take-at}
 use Rattle.lists.specs.Tabulate.{tabulate, pad, filled}
 use Rattle.lists.proofs.Tabulate.{length-tabulate, getD-tabulate, fill-more}
@@ -37,3 +37,21 @@ getD-zeros [] (suc m) zero = refl
 getD-zeros [] (suc m) (suc i) = getD-zeros [] m i
 getD-zeros (x ∷ xs) m zero = refl
 getD-zeros (x ∷ xs) m (suc i) = getD-zeros xs m i
+
+-- A list that fills the array needs no zeros.
+pub pad-full : (w : ℕ) (xs : List ℕ) → w ≤ length xs → pad w xs ≡ xs
+pad-full w xs h = let e : w - length xs ≡ 0 = omega arith in rw e (append-nil xs)
+
+pub pad-pad : (w : ℕ) (xs : List ℕ) → pad w (pad w xs) ≡ pad w xs
+pad-pad w xs =
+    let n : ℕ = w - length xs in
+    pad-full w (pad w xs) (omega (arith, length-append xs (replicate n 0), length-replicate {A = ℕ} n 0))
+
+-- The numbers of a list of four.
+pub four : (xs : List ℕ) → length xs ≡ 4 → getD xs 0 0 ∷ getD xs 1 0 ∷ getD xs 2 0 ∷ getD xs 3 0 ∷ [] ≡ xs
+four [] l = absurd (omega arith)
+four (a ∷ []) l = absurd (omega arith)
+four (a ∷ b ∷ []) l = absurd (omega arith)
+four (a ∷ b ∷ c ∷ []) l = absurd (omega arith)
+four (a ∷ b ∷ c ∷ d ∷ []) l = refl
+four (a ∷ b ∷ c ∷ d ∷ e ∷ xs) l = absurd (omega arith)

@@ -1,5 +1,6 @@
 // Polynomials modulo the field's prime: lists of coefficients, the constant first.
 ghost use mathlib.Core.Path.{_≡_};
+ghost use mathlib.Core.List.{[], _∷_};
 ghost use lib.ListN.{length, replicate};
 ghost use lib.Dec.{eqb};
 ghost use Prim.Native.Nat.{_*_};
@@ -66,6 +67,15 @@ pub fn value(f: &[u16], x: u16) -> u16
         v = field::mul_add(x, v, f[i]);
     }
     v
+}
+
+// a + b x + c x² + d x³: Horner's rule for four coefficients, without a loop.
+pub fn cubic(a: u16, b: u16, c: u16, d: u16, x: u16) -> u16
+    ensures { λ r. ⌜ r ≡ value modulus (a ∷ b ∷ c ∷ d ∷ []) x ⌝ }
+{
+    let high = field::mul_add(x, d, c);
+    let middle = field::mul_add(x, high, b);
+    field::mul_add(x, middle, a)
 }
 
 // The slopes from (x, y) to the points, in the place of their values.

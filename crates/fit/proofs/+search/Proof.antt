@@ -1,12 +1,12 @@
 -- `fit::search` meets its contract. Its measure is the number of points from place i on; each answer is one law of proofs/Arrays.
-use mathlib.Core.Path.{_≡_, ap, _∙_}
+use mathlib.Core.Path.{_≡_, refl, sym, ap, _∙_}
 use Prim.Native.Nat.{ℕ, _-_, _<_}
 use native.Mathlib.Nat.{pos-of-ne-zero}
 use native.Mathlib.Omega.{arith}
 use borrow.Author.Needs.{needs}
-use lib.ListN.{length}
+use lib.ListN.{length, take}
 use Rattle.field.specs.Modulus.{modulus}
-use Rattle.fit.specs.Answer.{answer}
+use Rattle.fit.specs.Answer.{answer, found}
 use Rattle.fit.proofs.Arrays.{found-one, found-none, found-unsent, Branches, branches, zeros-next}
 use borrow.Fn.Kinds.{In}
 use borrow.Fn.PlainCycle.{Measures, is, falls, and}
@@ -14,7 +14,8 @@ use Rattle.fit.proofs.search.Reads as search′
 use Rattle.fit.proofs.search.Kinds as search-kinds
 use Rattle.fit.proofs.+search.Lts-search as search-lts
 use Rattle.fit.proofs.nothing.Reads as nothing-reads
-use Rattle.fit.proofs.test.Reads as test-reads
+use Rattle.fit.proofs.straight.Reads as straight-reads
+use Rattle.fit.proofs.something.Reads as something-reads
 use Rattle.fit.proofs.+search.{statement}
 use Rattle.fit.proofs.+search.Tie.{close}
 
@@ -29,7 +30,8 @@ search-below t = and 2 search-kinds.ps (falls 2 search-kinds.ps _<_ μ-search t)
 
 -- What the callees are known by.
 abbrev claims : ℕ → search-lts.Claims
-claims t = (test-reads.Asked, test-reads.Learnt, nothing-reads.Asked, nothing-reads.Learnt, search-below t, search′.Post)
+claims t =
+    (straight-reads.Asked, straight-reads.Learnt, nothing-reads.Asked, nothing-reads.Learnt, search-below t, search′.Post, something-reads.Asked, something-reads.Learnt)
 
 -- The arrays hold four numbers each.
 sizes : (t : ℕ) (s : search-lts.Start (claims t) (search-at t) search′.Post) → (length (s .args .cx) ≡ 4) × (length (s .args .cy) ≡ 4)
@@ -37,32 +39,46 @@ sizes t s = (omega arith, omega arith)
 
 -- The call that takes the point has answered.
 taken : (t : ℕ) (a : search-lts.After-search2 (claims t) (search-at t) search′.Post)
-    → let s = a .before .before .before .before .before .before .before .before .args in
+    → let s = a .before .before .before .before .before .before .before .before .before .args in
     Branches modulus (s .need) (s .xs .now) (s .ys .now) (s .i) (s .c) (s .cx) (s .cy) (s .more) (s .spare) (a .search2 .result)
 taken t a =
-    let s = a .before .before .before .before .before .before .before .before in
+    let tested = a .before .before .before .before in
+    let s = tested .before .before .before .before .before in
     let l = sizes t s in
-    let more = a .before .before .before .before .before .if1 .left in
+    let more = tested .before .if2 .left in
     branches modulus (s .args .need) (s .args .xs .now) (s .args .ys .now) (s .args .i) (s .args .c) (s .args .cx) (s .args .cy)
-    (s .args .more) (s .args .spare) _ (s .pre .1 .sizes) (a .before .before .before .before .if2 .left)
-    (omega (arith, s .pre .1 .room, pos-of-ne-zero more)) (l .0) (l .1) more (a .before .before .if3 .left) (a .search2 .ensures)
+    (s .args .more) (s .args .spare) _ (s .pre .1 .sizes) (tested .if3 .left) (omega (arith, s .pre .1 .room, pos-of-ne-zero more))
+    (l .0) (l .1) more (tested .before .before .if1 .left) (a .before .before .if4 .left) (a .search2 .ensures)
 
 module _ (t : ℕ) where
-  test-requires : search-lts.Need-test-requires (claims t) (search-at t) search′.Post
-  test-requires c κs = search needs
+  straight-requires : search-lts.Need-straight-requires (claims t) (search-at t) search′.Post
+  straight-requires c κs = c .before .before .before .pre .1
 
   returns : search-lts.Need-returns (claims t) (search-at t) search′.Post
   returns c =
-      let s = c .before .before .before .before in
-      c .test .ensures ∙ ap answer (found-one modulus _ _ _ _ _ _ _ (s .args .i) (c .before .if1 .taken))
+      let s = c .before .before .before .before .args in
+      c .straight .ensures
+      ∙ ap (λ n. answer (found modulus (s .need) (s .xs .now) (s .ys .now) (s .more) n (take (s .c) (s .cx)) (take (s .c) (s .cy)) (s .i)))
+      (sym (c .before .if1 .taken))
+
+  straight-requires-2 : search-lts.Need-straight-requires-2 (claims t) (search-at t) search′.Post
+  straight-requires-2 c κs =
+      let k = c .before .before .before .before .pre .1 in
+      record { sizes = k .sizes; inside = k .inside; room = omega (arith, k .room); zeros = k .zeros }
+
+  returns-2 : search-lts.Need-returns-2 (claims t) (search-at t) search′.Post
+  returns-2 c =
+      let s = c .before .before .before .before .before .args in
+      c .straight2 .ensures
+      ∙ ap answer (sym (found-one modulus _ _ _ 0 0 _ _ (s .i) refl) ∙ found-one modulus _ _ _ _ _ _ _ (s .i) (c .before .if2 .taken))
 
   nothing-requires : search-lts.Need-nothing-requires (claims t) (search-at t) search′.Post
   nothing-requires c κs = search needs
 
-  returns-2 : search-lts.Need-returns-2 (claims t) (search-at t) search′.Post
-  returns-2 c =
-      let s = c .before .before .before .before .before in
-      c .nothing .ensures ∙ ap answer (found-none modulus _ _ _ _ _ _ _ (s .args .i) (c .before .before .if1 .left) (c .before .if2 .taken))
+  returns-3 : search-lts.Need-returns-3 (claims t) (search-at t) search′.Post
+  returns-3 c =
+      let s = c .before .before .before .before .before .before in
+      c .nothing .ensures ∙ ap answer (found-none modulus _ _ _ _ _ _ _ (s .args .i) (c .before .before .if2 .left) (c .before .if3 .taken))
 
   mul-y : search-lts.Need-mul-y (claims t) (search-at t) search′.Post
   mul-y c = search needs
@@ -75,13 +91,13 @@ module _ (t : ℕ) where
 
   search-requires : search-lts.Need-search-requires (claims t) (search-at t) search′.Post
   search-requires c κs =
-      let s = c .before .before .before .before .before .before in
+      let s = c .before .before .before .before .before .before .before in
       (omega arith, record { sizes = s .pre .1 .sizes; inside = omega arith; room = omega arith; zeros = s .pre .1 .zeros })
 
-  returns-3 : search-lts.Need-returns-3 (claims t) (search-at t) search′.Post
-  returns-3 c =
-      let s = c .before .before .before .before .before .before .before in
-      c .search .ensures ∙ ap answer (found-unsent modulus _ _ _ (omega arith) (s .args .i) (omega arith) _ _ _ _ (c .before .if3 .taken))
+  returns-4 : search-lts.Need-returns-4 (claims t) (search-at t) search′.Post
+  returns-4 c =
+      let s = c .before .before .before .before .before .before .before .before in
+      c .search .ensures ∙ ap answer (found-unsent modulus _ _ _ (omega arith) (s .args .i) (omega arith) _ _ _ _ (c .before .if4 .taken))
 
   mul-dx : search-lts.Need-mul-dx (claims t) (search-at t) search′.Post
   mul-dx c = search needs
@@ -112,15 +128,17 @@ module _ (t : ℕ) where
 
   search-requires-2 : search-lts.Need-search-requires-2 (claims t) (search-at t) search′.Post
   search-requires-2 c κs =
-      let s = c .before .before .before .before .before .before .before in
+      let s = c .before .before .before .before .before .before .before .before in
       let zeros = zeros-next (s .args .c) _ (s .args .cy) (omega arith) (sizes t s .1) (s .pre .1 .zeros) in
       (omega arith, record { sizes = s .pre .1 .sizes; inside = omega arith; room = omega arith; zeros = zeros })
 
-  returns-4 : search-lts.Need-returns-4 (claims t) (search-at t) search′.Post
-  returns-4 c = taken t (c .before) .last (c .if4 .taken)
+  something-requires : search-lts.Need-something-requires (claims t) (search-at t) search′.Post
+  something-requires c κs = search needs
 
   returns-5 : search-lts.Need-returns-5 (claims t) (search-at t) search′.Post
-  returns-5 c = taken t (c .before .before) .with-it (c .before .if4 .left) (c .if5 .taken)
+  returns-5 c =
+      let a = c .before .before .before in
+      c .something .ensures ∙ taken t a .with-it (c .before .before .if5 .taken)
 
   add-search-4 : search-lts.Need-add-search-4 (claims t) (search-at t) search′.Post
   add-search-4 c = search needs
@@ -134,21 +152,23 @@ module _ (t : ℕ) where
       (omega arith, record { sizes = s .pre .1 .sizes; inside = omega arith; room = omega arith; zeros = s .pre .1 .zeros })
 
   returns-6 : search-lts.Need-returns-6 (claims t) (search-at t) search′.Post
-  returns-6 c = c .search3 .ensures ∙ taken t (c .before .before .before) .without-it (c .before .before .if4 .left) (c .before .if5 .left)
+  returns-6 c = c .search3 .ensures ∙ taken t (c .before .before) .without-it (c .before .if5 .left)
 
 pub +search-spec : {M : Type 1} → statement M
 +search-spec = close μ-search λ t. search-lts.spec (claims t)
     (search-at t)
     search′.Post
-    (test-requires t)
+    (straight-requires t)
     (returns t)
-    (nothing-requires t)
+    (straight-requires-2 t)
     (returns-2 t)
+    (nothing-requires t)
+    (returns-3 t)
     (mul-y t)
     (shared-slice-read-y t)
     (add-search t)
     (search-requires t)
-    (returns-3 t)
+    (returns-4 t)
     (mul-dx t)
     (shared-slice-read-dx t)
     (mul-dx-2 t)
@@ -159,7 +179,7 @@ pub +search-spec : {M : Type 1} → statement M
     (sub-search t)
     (add-search-3 t)
     (search-requires-2 t)
-    (returns-4 t)
+    (something-requires t)
     (returns-5 t)
     (add-search-4 t)
     (sub-search-2 t)

@@ -1,5 +1,6 @@
 -- `fit::enough` meets its contract. The loop goes from the end and keeps `Slack`.
-use mathlib.Core.Path.{_≡_, sym, _∙_}
+use mathlib.Core.Path.{sym, _∙_}
+use mathlib.Core.List.{[], _∷_}
 use native.Mathlib.Omega.{arith}
 use borrow.Author.Needs.{needs}
 use Rattle.field.specs.Modulus.{modulus}
@@ -8,10 +9,10 @@ use Rattle.fit.proofs.enough.Statement.{statement}
 use Rattle.fit.proofs.enough.Tie as tie
 
 abbrev Inv-loop : tie.InvT-loop
-Inv-loop f xs ys need i₀ slack₀ i slack = Slack modulus f xs ys need i slack
+Inv-loop a b c d xs ys need i₀ slack₀ i slack = Slack modulus (a ∷ b ∷ c ∷ d ∷ []) xs ys need i slack
 
 abbrev μ-loop : tie.MeasureT-loop
-μ-loop f xs ys need i₀ slack₀ i slack = i
+μ-loop a b c d xs ys need i₀ slack₀ i slack = i
 
 returns : tie.Need-returns Inv-loop μ-loop
 returns c = too-few modulus _ _ _ _ (c .if1 .taken)
@@ -22,14 +23,14 @@ loop-holds c = slack-start modulus _ _ _ _ (omega arith)
 sub-i : tie.Need-sub-i Inv-loop μ-loop
 sub-i c = search needs
 
-mul-value : tie.Need-mul-value Inv-loop μ-loop
-mul-value c = search needs
+mul-cubic : tie.Need-mul-cubic Inv-loop μ-loop
+mul-cubic c = search needs
 
-shared-slice-read-value : tie.Need-shared-slice-read-value Inv-loop μ-loop
-shared-slice-read-value c = search needs
+shared-slice-read-cubic : tie.Need-shared-slice-read-cubic Inv-loop μ-loop
+shared-slice-read-cubic c = search needs
 
-value-requires : tie.Need-value-requires Inv-loop μ-loop
-value-requires c κs = search needs
+cubic-requires : tie.Need-cubic-requires Inv-loop μ-loop
+cubic-requires c κs = search needs
 
 mul-if2 : tie.Need-mul-if2 Inv-loop μ-loop
 mul-if2 c = search needs
@@ -42,7 +43,7 @@ returns-2 c =
     let v = c .before .before .before in
     let k = v .before .before .before .loop in
     slack-few modulus _ _ _ _ (k .i) (k .slack) (omega arith) (omega arith) (k .inv)
-    (λ e. c .before .if2 .taken (v .value .ensures ∙ e)) (c .if3 .taken)
+    (λ e. c .before .if2 .taken (v .cubic .ensures ∙ e)) (c .if3 .taken)
 
 sub-slack : tie.Need-sub-slack Inv-loop μ-loop
 sub-slack c = search needs
@@ -55,7 +56,7 @@ loop-again c =
     let v = c .before .before .before in
     let k = v .before .before .before .loop in
     slack-miss modulus _ _ _ _ (k .i) (k .slack) (omega arith) (omega arith) (k .inv)
-    (λ e. c .before .if2 .taken (v .value .ensures ∙ e)) (c .if3 .left)
+    (λ e. c .before .if2 .taken (v .cubic .ensures ∙ e)) (c .if3 .left)
 
 loop-less-2 : tie.Need-loop-less-2 Inv-loop μ-loop
 loop-less-2 c = search needs
@@ -64,7 +65,7 @@ loop-again-2 : tie.Need-loop-again-2 Inv-loop μ-loop
 loop-again-2 c =
     let v = c .before .before in
     let k = v .before .before .before .loop in
-    slack-hit modulus _ _ _ _ (k .i) (k .slack) (omega arith) (omega arith) (k .inv) (sym (v .value .ensures) ∙ c .if2 .left)
+    slack-hit modulus _ _ _ _ (k .i) (k .slack) (omega arith) (omega arith) (k .inv) (sym (v .cubic .ensures) ∙ c .if2 .left)
 
 returns-3 : tie.Need-returns-3 Inv-loop μ-loop
 returns-3 c = slack-end modulus _ _ _ _ _ _ (omega arith) (c .before .loop .inv)
@@ -78,9 +79,9 @@ enough-spec =
     returns
     loop-holds
     sub-i
-    mul-value
-    shared-slice-read-value
-    value-requires
+    mul-cubic
+    shared-slice-read-cubic
+    cubic-requires
     mul-if2
     shared-slice-read-if2
     returns-2

@@ -29,16 +29,20 @@ sent-requires c κs = search needs
 surplus-requires : tie.Need-surplus-requires
 surplus-requires c κs = search needs
 
-add-search : tie.Need-add-search
-add-search c = search needs
+add-straight : tie.Need-add-straight
+add-straight c = search needs
 
-search-requires : tie.Need-search-requires
-search-requires c κs = record { sizes = omega arith; inside = omega arith; room = omega arith; zeros = refl }
+straight-requires : tie.Need-straight-requires
+straight-requires c κs = record { sizes = omega arith; inside = omega arith; room = omega arith; zeros = refl }
+
+something-requires : tie.Need-something-requires
+something-requires c κs = search needs
 
 returns-3 : tie.Need-returns-3
 returns-3 c =
-    let sized = c .before .before .before .before in
-    fit-first _ _ _ _ _ (sized .before .if1 .left) (sized .if2 .left) (c .before .search .ensures) (c .if3 .taken)
+    let tried = c .before .before .before in
+    let sized = tried .before .before .before in
+    c .something .ensures ∙ fit-first _ _ _ _ _ (sized .before .if1 .left) (sized .if2 .left) (tried .straight .ensures) (c .before .before .if3 .taken)
 
 at-most-one-requires : tie.Need-at-most-one-requires
 at-most-one-requires c κs =
@@ -47,10 +51,10 @@ at-most-one-requires c κs =
 
 groups-requires : tie.Need-groups-requires
 groups-requires c κs =
-    let searched = c .before .before .before in
-    let counted = searched .before .before in
+    let tried = c .before .before .before in
+    let counted = tried .before .before in
     groups-start modulus (omega arith) _ _ _ _ _ _ _ (counted .before .if2 .left) (counted .before .before .if1 .left)
-    (counted .sent .ensures) (searched .before .surplus .ensures) (searched .search .ensures) (c .before .before .if3 .left)
+    (counted .sent .ensures) (tried .before .surplus .ensures) (tried .straight .ensures) (c .before .before .if3 .left)
     (sym (c .before .at-most-one .ensures) ∙ c .if4 .taken)
 
 returns-4 : tie.Need-returns-4
@@ -58,16 +62,16 @@ returns-4 c =
     let sized = c .before .before .before .before .before .before .before in
     c .groups .ensures ∙ fit-within _ _ _ _ (sized .before .if1 .left) (sized .if2 .left)
 
-add-search-2 : tie.Need-add-search-2
-add-search-2 c = search needs
+add-search : tie.Need-add-search
+add-search c = search needs
 
-search-requires-2 : tie.Need-search-requires-2
-search-requires-2 c κs = record { sizes = omega arith; inside = omega arith; room = omega arith; zeros = refl }
+search-requires : tie.Need-search-requires
+search-requires c κs = record { sizes = omega arith; inside = omega arith; room = omega arith; zeros = refl }
 
 returns-5 : tie.Need-returns-5
 returns-5 c =
     let counted = c .before .before .before .before .before .before in
-    c .search2 .ensures
+    c .search .ensures
     ∙ fit-search _ _ _ _ _ _ (counted .before .before .if1 .left) (counted .before .if2 .left) (counted .sent .ensures)
     (c .before .before .before .before .before .surplus .ensures)
 
@@ -81,12 +85,13 @@ fit-spec =
     returns-2
     sent-requires
     surplus-requires
-    add-search
-    search-requires
+    add-straight
+    straight-requires
+    something-requires
     returns-3
     at-most-one-requires
     groups-requires
     returns-4
-    add-search-2
-    search-requires-2
+    add-search
+    search-requires
     returns-5)

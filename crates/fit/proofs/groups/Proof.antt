@@ -1,5 +1,7 @@
 -- `fit::groups` meets its contract. The loop keeps `Grouping`; each answer is one law of proofs/Grouping.
-use mathlib.Core.Path.{refl, _∙_}
+use mathlib.Core.Path.{_≡_, refl, _∙_}
+use mathlib.Core.Bool.{false}
+use Prim.Native.Nat.{_+_, _-_, _<_}
 use native.Mathlib.Omega.{arith}
 use borrow.Author.Needs.{needs}
 use Rattle.field.specs.Modulus.{modulus}
@@ -10,10 +12,20 @@ use Rattle.fit.proofs.groups.Statement.{statement}
 use Rattle.fit.proofs.groups.Tie as tie
 
 abbrev Inv-loop : tie.InvT-loop
-Inv-loop t need xs ys sent spare i₀ left₀ wrong₀ i left wrong = Grouping modulus t need xs ys i left wrong
+Inv-loop t need xs ys sent spare i₀ left₀ wrong₀ i left wrong = Grouping modulus t need xs ys i left wrong × (0 < wrong)
 
 abbrev μ-loop : tie.MeasureT-loop
 μ-loop t need xs ys sent spare i₀ left₀ wrong₀ i left wrong = left
+
+-- A group has failed: behind it one point fewer is wrong.
+failed : (g : tie.After-straight Inv-loop μ-loop) → g .straight .result .found ≡ false
+    → let k = g .before .before .before .loop in
+    let s = g .before .before .before .before .before .before .args in
+    Grouping modulus (s .t) (s .need) (s .xs .now) (s .ys .now) (g .before .behind .result) (k .left - (s .t + 1)) (k .wrong - 1)
+failed g lost =
+    let k = g .before .before .before .loop in
+    groups-next modulus prime _ _ _ _ (k .i) (k .left) (k .wrong) (k .inv .0) _ _ (λ z. omega arith) (omega arith)
+    (g .before .behind .ensures) (g .straight .ensures) lost
 
 loop-holds : tie.Need-loop-holds Inv-loop μ-loop
 loop-holds c = c .before .before .pre
@@ -26,14 +38,6 @@ add-loop c = search needs
 
 add-loop-2 : tie.Need-add-loop-2 Inv-loop μ-loop
 add-loop-2 c = search needs
-
-nothing-requires : tie.Need-nothing-requires Inv-loop μ-loop
-nothing-requires c κs = search needs
-
-returns : tie.Need-returns Inv-loop μ-loop
-returns c =
-    let k = c .before .before .before .loop in
-    c .nothing .ensures ∙ groups-none modulus prime _ _ _ _ (k .i) (k .left) (k .wrong) (k .inv) (c .before .if1 .taken)
 
 add-behind : tie.Need-add-behind Inv-loop μ-loop
 add-behind c = search needs
@@ -50,44 +54,51 @@ sub-left c = search needs
 sub-wrong : tie.Need-sub-wrong Inv-loop μ-loop
 sub-wrong c = search needs
 
-add-search : tie.Need-add-search Inv-loop μ-loop
-add-search c = search needs
+add-straight : tie.Need-add-straight Inv-loop μ-loop
+add-straight c = search needs
 
-search-requires : tie.Need-search-requires Inv-loop μ-loop
-search-requires c κs =
-    record {
-      sizes = c .before .before .before .loop .inv .sizes;
-      inside = omega (arith, c .behind .ensures .within, c .before .before .before .loop .inv .sizes);
-      room = omega arith;
-      zeros = refl;
-    }
+straight-requires : tie.Need-straight-requires Inv-loop μ-loop
+straight-requires c κs =
+    let k = c .before .before .loop .inv .0 in
+    record { sizes = k .sizes; inside = omega (arith, c .behind .ensures .within, k .sizes); room = omega arith; zeros = refl }
+
+something-requires : tie.Need-something-requires Inv-loop μ-loop
+something-requires c κs = search needs
+
+returns : tie.Need-returns Inv-loop μ-loop
+returns c =
+    let group = c .before .before .before in
+    let k = group .before .before .before .loop in
+    c .something .ensures
+    ∙ groups-found modulus prime _ _ _ _ (k .i) (k .left) (k .wrong) (k .inv .0) 0 (group .before .behind .result) _ (group .straight .ensures)
+    (c .before .before .if1 .taken)
+
+nothing-requires : tie.Need-nothing-requires Inv-loop μ-loop
+nothing-requires c κs = search needs
 
 returns-2 : tie.Need-returns-2 Inv-loop μ-loop
 returns-2 c =
-    let k = c .before .before .before .before .before .loop in
-    groups-found modulus prime _ _ _ _ (k .i) (k .left) (k .wrong) (k .inv) 0 (c .before .before .behind .result) _ (c .before .search .ensures) (c .if2 .taken)
+    let group = c .before .before .before in
+    c .nothing .ensures ∙ groups-none modulus prime _ _ _ _ _ _ _ (failed group (c .before .before .if1 .left)) (c .before .if2 .taken)
 
 loop-less : tie.Need-loop-less Inv-loop μ-loop
 loop-less c = search needs
 
 loop-again : tie.Need-loop-again Inv-loop μ-loop
-loop-again c =
-    let k = c .before .before .before .before .before .loop in
-    groups-next modulus prime _ _ _ _ (k .i) (k .left) (k .wrong) (k .inv) _ _ (c .before .before .before .if1 .left) (omega arith)
-    (c .before .before .behind .ensures) (c .before .search .ensures) (c .if2 .left)
+loop-again c = (failed (c .before .before) (c .before .if1 .left), omega arith)
 
-add-search-2 : tie.Need-add-search-2 Inv-loop μ-loop
-add-search-2 c = search needs
+add-search : tie.Need-add-search Inv-loop μ-loop
+add-search c = search needs
 
-search-requires-2 : tie.Need-search-requires-2 Inv-loop μ-loop
-search-requires-2 c κs =
-    let k = c .before .loop in
-    record { sizes = k .inv .sizes; inside = k .inv .inside; room = omega arith; zeros = refl }
+search-requires : tie.Need-search-requires Inv-loop μ-loop
+search-requires c κs =
+    let k = c .before .loop .inv .0 in
+    record { sizes = k .sizes; inside = k .inside; room = omega arith; zeros = refl }
 
 returns-3 : tie.Need-returns-3 Inv-loop μ-loop
 returns-3 c =
     let k = c .before .before .loop in
-    c .search2 .ensures ∙ groups-last modulus prime _ _ _ _ (k .i) (k .left) (k .wrong) (k .inv)
+    c .search .ensures ∙ groups-last modulus prime _ _ _ _ (k .i) (k .left) (k .wrong) (k .inv .0)
 
 pub groups-spec : {M : Type 1} → statement M
 groups-spec =
@@ -99,18 +110,19 @@ groups-spec =
     mul-loop
     add-loop
     add-loop-2
-    nothing-requires
-    returns
     add-behind
     behind-requires
     add-left
     sub-left
     sub-wrong
-    add-search
-    search-requires
+    add-straight
+    straight-requires
+    something-requires
+    returns
+    nothing-requires
     returns-2
     loop-less
     loop-again
-    add-search-2
-    search-requires-2
+    add-search
+    search-requires
     returns-3)

@@ -4,10 +4,14 @@ use native.Mathlib.Omega.{arith}
 use lib.ListN.{length}
 use lib.Seq.{length-take-le}
 use Rattle.field.specs.Modulus.{modulus}
-use Rattle.fit.proofs.Arrays.{front-fits, front-size, test-passed, test-failed}
+use Rattle.fit.proofs.Arrays.{test-passed, test-failed}
 use borrow.Author.Needs.{needs}
 use Rattle.fit.proofs.test.Statement.{statement}
 use Rattle.fit.proofs.test.Tie as tie
+
+-- The arrays hold four numbers each.
+sizes : (s : tie.Start) → (length (s .args .t5) ≡ 4) × (length (s .args .cy) ≡ 4)
+sizes s = (omega arith, omega arith)
 
 array-share-prefix-cx : tie.Need-array-share-prefix-cx
 array-share-prefix-cx c = search needs
@@ -28,44 +32,44 @@ slice-aggregate-interpolate-2 c =
 interpolate-requires : tie.Need-interpolate-requires
 interpolate-requires c κs = search needs
 
-array-share-prefix-f : tie.Need-array-share-prefix-f
-array-share-prefix-f c =
-    let s = c .before .before .before .before .before .before in
-    front-fits modulus (s .args .c) (s .args .t5) (s .args .cy) _ (omega arith) (omega arith) (omega arith) (c .before .interpolate .ensures)
+array-read-enough : tie.Need-array-read-enough
+array-read-enough c = search needs
 
-slice-aggregate-enough : tie.Need-slice-aggregate-enough
-slice-aggregate-enough c =
-    let s = c .before .before .before .before .before .before .before in
-    front-size modulus (s .args .c) (s .args .t5) (s .args .cy) _ (omega arith) (omega arith) (omega arith) (c .before .before .interpolate .ensures)
+array-read-enough-2 : tie.Need-array-read-enough-2
+array-read-enough-2 c = search needs
+
+array-read-enough-3 : tie.Need-array-read-enough-3
+array-read-enough-3 c = search needs
+
+array-read-enough-4 : tie.Need-array-read-enough-4
+array-read-enough-4 c = search needs
 
 enough-requires : tie.Need-enough-requires
 enough-requires c κs = search needs
 
+something-requires : tie.Need-something-requires
+something-requires c κs = search needs
+
 nothing-requires : tie.Need-nothing-requires
 nothing-requires c κs = search needs
 
--- The arrays hold four numbers each.
-sizes : (s : tie.Start) → (length (s .args .t5) ≡ 4) × (length (s .args .cy) ≡ 4)
-sizes s = (omega arith, omega arith)
-
 returns : tie.Need-returns
 returns c =
-    let h = c .before in
-    let i = h .before .before .before in
+    let i = c .before .before .before .before in
     let s = i .before .before .before .before .before in
     let l = sizes s in
-    test-passed modulus (s .args .c) (s .args .t5) (s .args .cy) _ (omega arith) (l .0) (l .1) (i .interpolate .ensures)
-    (s .args .need) _ _ (s .pre .1 .1) (sym (h .enough .ensures) ∙ c .if1 .taken)
+    c .something .ensures
+    ∙ test-passed modulus (s .args .c) (s .args .t5) (s .args .cy) _ (omega arith) (l .0) (l .1) (i .interpolate .ensures)
+    (s .args .need) _ _ (s .pre .1 .1) (sym (c .before .before .enough .ensures) ∙ c .before .if1 .taken)
 
 returns-2 : tie.Need-returns-2
 returns-2 c =
-    let h = c .before .before in
-    let i = h .before .before .before in
+    let i = c .before .before .before .before in
     let s = i .before .before .before .before .before in
     let l = sizes s in
     c .nothing .ensures
     ∙ test-failed modulus (s .args .c) (s .args .t5) (s .args .cy) _ (omega arith) (l .0) (l .1) (i .interpolate .ensures)
-    (s .args .need) _ _ (sym (h .enough .ensures) ∙ c .before .if1 .left)
+    (s .args .need) _ _ (s .pre .1 .1) (sym (c .before .before .enough .ensures) ∙ c .before .if1 .left)
 
 pub test-spec : {M : Type 1} → statement M
 test-spec =
@@ -76,9 +80,12 @@ test-spec =
     array-borrow-prefix-f
     slice-aggregate-interpolate-2
     interpolate-requires
-    array-share-prefix-f
-    slice-aggregate-enough
+    array-read-enough
+    array-read-enough-2
+    array-read-enough-3
+    array-read-enough-4
     enough-requires
+    something-requires
     nothing-requires
     returns
     returns-2)
