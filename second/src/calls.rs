@@ -1,6 +1,9 @@
-//! Random lists of calls to one party, with the answer and the state after
-//! each call. The README says how a line is written.
+//! Random lists of calls to one party, and to the desk in between, with the
+//! answer and the state after each call. The README says how a line is
+//! written.
 
+use crate::dealer;
+use crate::desk_calls::random_desk;
 use crate::field::NOT_SENT;
 use crate::party::{Party, Stage};
 use crate::poly::value;
@@ -11,8 +14,8 @@ use crate::scenario::{
     Scenario, HONEST,
 };
 
-/// A lent list of a random call is never longer: more than three times the
-/// longest that is ever right, and little enough for a reader to hold.
+/// No call has more numbers, and no lent list is longer: more than any right
+/// call needs, and little enough for a reader to hold.
 pub const LENT_LIMIT: usize = 200;
 
 #[derive(Clone, PartialEq, Eq, Debug)]
@@ -24,10 +27,28 @@ pub enum Call {
     Hear(Vec<u16>),
     Settle(Vec<u16>),
     Open(Vec<u16>),
+    Desk(Desk),
 }
 
-/// What a call answers: the number of a refusal, or its values.
-pub type Answer = Result<Vec<u16>, u8>;
+/// A call to the dealing desk, which concerns no party.
+#[derive(Clone, PartialEq, Eq, Debug)]
+pub struct Desk {
+    pub n: usize,
+    pub t: usize,
+    /// How many numbers the list lent for the deals has.
+    pub room: usize,
+    /// The dealer's list.
+    pub coefs: Vec<u16>,
+}
+
+/// What a call answers: the number of a refusal, or its values. With either
+/// comes what the list lent for writing holds afterwards. Only the desk is
+/// lent one.
+#[derive(Clone, PartialEq, Eq, Debug)]
+pub struct Answer {
+    pub result: Result<Vec<u16>, u8>,
+    pub written: Vec<u16>,
+}
 
 /// One line of a list: what was called, answered, and held afterwards.
 pub struct Step {
@@ -37,9 +58,10 @@ pub struct Step {
     pub after: Party,
 }
 
-/// Makes the call.
+/// Makes the call. The desk leaves the party alone.
 pub fn apply(party: &mut Party, call: &Call) -> Answer {
-    match call {
+    let mut written = Vec::new();
+    let result = match call {
         Call::Make(n, t, number) => {
             let (made, answer) = Party::make(*n, *t, *number);
             *party = made;
@@ -50,7 +72,12 @@ pub fn apply(party: &mut Party, call: &Call) -> Answer {
         Call::Hear(list) => party.hear(list).map(|report| vec![report]),
         Call::Settle(list) => party.settle(list).map(|()| vec![]),
         Call::Open(list) => party.open(list).map(|number| vec![number]),
-    }
+        Call::Desk(desk) => {
+            written = vec![NOT_SENT; desk.room];
+            dealer::deal(desk.n, desk.t, &desk.coefs, &mut written).map(|()| vec![])
+        }
+    };
+    Answer { result, written }
 }
 
 // ---- text ----
@@ -68,6 +95,10 @@ pub fn call_text(call: &Call) -> String {
         Call::Hear(list) => format!("hear{}", joined(list)),
         Call::Settle(list) => format!("settle{}", joined(list)),
         Call::Open(list) => format!("open{}", joined(list)),
+        Call::Desk(desk) => {
+            let Desk { n, t, room, coefs } = desk;
+            format!("desk {n} {t} {room}{}", joined(coefs))
+        }
     }
 }
 
@@ -80,17 +111,19 @@ pub fn call_name(call: &Call) -> &'static str {
         Call::Hear(_) => "hear",
         Call::Settle(_) => "settle",
         Call::Open(_) => "open",
+        Call::Desk(_) => "desk",
     }
 }
 
 /// What a call answered and left: `ANSWER ; STAGE SHARE HAPPY`.
 pub fn answer_text(answer: &Answer, party: &Party) -> String {
-    let words = match answer {
+    let words = match &answer.result {
         Ok(values) => format!("ok{}", joined(values)),
         Err(refusal) => format!("refused {refusal}"),
     };
+    let written = joined(&answer.written);
     let stage = party.stage as u8;
-    format!("{words} ; {stage} {} {}", party.share, party.happy)
+    format!("{words}{written} ; {stage} {} {}", party.share, party.happy)
 }
 
 /// The line of a step.
@@ -102,7 +135,7 @@ pub fn line(step: &Step) -> String {
 // ---- random lists ----
 
 /// Makes the call and notes what came of it.
-fn step(party: &mut Party, call: Call) -> Step {
+pub fn step(party: &mut Party, call: Call) -> Step {
     let before = party.clone();
     let answer = apply(party, &call);
     Step {
@@ -133,7 +166,7 @@ pub fn random_list(rng: &mut Rng) -> Vec<Step> {
     steps
 }
 
-/// Size and number, mostly legal. None is above 255.
+/// Size and number, mostly legal.
 fn made_for(rng: &mut Rng) -> (usize, usize, usize) {
     let (n, t) = match rng.below(12) {
         0 => bad_size(rng),
@@ -146,8 +179,12 @@ fn made_for(rng: &mut Rng) -> (usize, usize, usize) {
     (n, t, number)
 }
 
-fn bad_size(rng: &mut Rng) -> (usize, usize) {
+/// A size that is none, or by chance is one. Some are legal to a reader that
+/// keeps only a number's low byte.
+pub fn bad_size(rng: &mut Rng) -> (usize, usize) {
     let any = (rng.below(20), rng.below(6));
+    let large = (rng.between(256, 65_535), rng.between(256, 65_535));
+    let (n, t) = legal_size(rng);
     rng.pick(&[
         (4, 1),
         (8, 2),
@@ -159,16 +196,30 @@ fn bad_size(rng: &mut Rng) -> (usize, usize) {
         (255, 3),
         (16, 255),
         any,
+        large,
+        (n + 256, t),
+        (n, t + 256),
+        (n + 256, t + 256),
+        (65_535, 65_535),
     ])
 }
 
+/// A party that is none. Some are parties to a reader that keeps only a
+/// number's low byte.
 fn bad_number(rng: &mut Rng, n: usize) -> usize {
-    rng.pick(&[0, (n + 1).min(255), 17, 255])
+    let large = rng.between(256, 65_535);
+    let low_byte = 256 + rng.between(1, n.clamp(1, 16));
+    let next = (n + 1).min(65_535);
+    rng.pick(&[0, next, next, 17, 255, large, low_byte, low_byte, 65_535])
 }
 
-/// Mostly the call that comes next; else any, at any stage. A party badly
-/// made has no next call, so it gets any.
+/// Some go to the desk: of all calls, makes among them, about one in ten. The
+/// others are mostly the call that comes next; else any, at any stage. A party
+/// badly made has no next call, so it gets any.
 fn random_call(rng: &mut Rng, party: &Party, world: &Scenario) -> Call {
+    if rng.chance(11) {
+        return Call::Desk(random_desk(rng));
+    }
     let kind = match party.stage {
         _ if party.check_made().is_err() || rng.chance(40) => rng.below(5),
         Stage::Waiting => 0,
@@ -198,20 +249,25 @@ fn said_for(rng: &mut Rng, party: &Party) -> usize {
     }
 }
 
-/// One number too few or too many, none at all, twice as many, or any
-/// length up to the limit.
+/// A length that is not this one, or by chance is: one too few or too many,
+/// none at all, twice as many, or any up to the limit.
+pub fn other_length(rng: &mut Rng, length: usize, limit: usize) -> usize {
+    let other = match rng.below(5) {
+        0 => length.saturating_sub(1),
+        1 => length + 1,
+        2 => 0,
+        3 => 2 * length,
+        _ => rng.below(limit + 1),
+    };
+    other.min(limit)
+}
+
 fn spoil_length(rng: &mut Rng, call: &mut Call) {
     let (Call::Deal(list) | Call::Hear(list) | Call::Settle(list) | Call::Open(list)) = call else {
         return;
     };
-    let length = match rng.below(5) {
-        0 => list.len() - 1,
-        1 => list.len() + 1,
-        2 => 0,
-        3 => 2 * list.len(),
-        _ => rng.below(LENT_LIMIT + 1),
-    };
-    list.resize(length.min(LENT_LIMIT), NOT_SENT);
+    let length = other_length(rng, list.len(), LENT_LIMIT);
+    list.resize(length, NOT_SENT);
 }
 
 /// The number of the party within the world; a bad one stands for party 1.
@@ -341,11 +397,17 @@ fn share_list(rng: &mut Rng, world: &Scenario) -> Vec<u16> {
     list
 }
 
+/// COUNT lists. Whoever shows, writes or sends them takes them from here, so
+/// that they are the same for all.
+pub fn random_lists(seed: u64, count: usize) -> impl Iterator<Item = Vec<Step>> {
+    let mut rng = Rng::new(seed);
+    (0..count).map(move |_| random_list(&mut rng))
+}
+
 /// COUNT lists as text.
 pub fn text(seed: u64, count: usize) -> String {
-    let mut rng = Rng::new(seed);
-    (0..count)
-        .flat_map(|_| random_list(&mut rng))
+    random_lists(seed, count)
+        .flatten()
         .map(|step| line(&step))
         .collect()
 }

@@ -4,7 +4,7 @@
 use crate::bench;
 use crate::make::random_record;
 use crate::outcome::{self, Counts};
-use crate::program::{self, Ran};
+use crate::program::compare;
 use crate::record::write;
 use crate::rng::Rng;
 use crate::scenario::{build, legal_size, HONEST};
@@ -14,9 +14,6 @@ use std::thread;
 
 /// Records are run by so many threads at a time.
 const THREADS: usize = 2;
-
-/// How much of a long input a message shows.
-const SHOWN: usize = 64;
 
 /// The records still to be run. They come from one generator, in the order
 /// of their numbers, so that they are those of `make`.
@@ -38,11 +35,19 @@ pub fn cross(seed: u64, count: usize, program: &Path) -> Result<String, String> 
     let inputs = long_inputs(seed);
     let number = inputs.len();
     for (name, bytes) in inputs {
-        compare(program, &bytes).map_err(|what| format!("seed {seed}, {name}: {what}"))?;
+        compare(program, &bytes, &bench::run(&bytes))
+            .map_err(|what| format!("seed {seed}, {name}: {what}"))?;
     }
-    let table = outcome::table(&counts);
+    success(seed, count, number, &counts)
+}
+
+/// The text of success, unless some kind of outcome should have come.
+pub fn success(seed: u64, count: usize, long: usize, counts: &Counts) -> Result<String, String> {
+    outcome::all_met(count, "records", &outcome::never_met(counts))
+        .map_err(|what| format!("seed {seed}, {what}"))?;
+    let table = outcome::table(counts);
     Ok(format!(
-        "bench: {count} records and {number} long inputs of seed {seed}, all alike\n{table}"
+        "bench: {count} records and {long} long inputs of seed {seed}, all alike\n{table}"
     ))
 }
 
@@ -90,8 +95,9 @@ fn take(queue: &Mutex<Queue>) -> Option<(usize, Vec<u8>)> {
 fn work(queue: &Mutex<Queue>, program: &Path) -> Result<Counts, Mismatch> {
     let mut counts = Counts::default();
     while let Some((number, bytes)) = take(queue) {
-        match compare(program, &bytes) {
-            Ok(text) => outcome::count(&mut counts, &text),
+        let text = bench::run(&bytes);
+        match compare(program, &bytes, &text) {
+            Ok(()) => outcome::count(&mut counts, &text),
             Err(what) => {
                 queue.lock().expect("no panic while it is held").end = 0;
                 return Err((number, what));
@@ -99,42 +105,6 @@ fn work(queue: &Mutex<Queue>, program: &Path) -> Result<Counts, Mismatch> {
         }
     }
     Ok(counts)
-}
-
-/// Runs both on the bytes: the text if they print the same, else what is
-/// wrong.
-fn compare(program: &Path, bytes: &[u8]) -> Result<String, String> {
-    let ours = bench::run(bytes);
-    let ran = program::feed(program, bytes.to_vec(), program::TIME_LIMIT)
-        .map_err(|e| format!("{} does not run: {e}", program.display()))?;
-    if ran.bad_end.is_none() && ran.output == ours.as_bytes() {
-        return Ok(ours);
-    }
-    Err(difference(bytes, &ours, &ran))
-}
-
-fn difference(bytes: &[u8], ours: &str, ran: &Ran) -> String {
-    let what = match &ran.bad_end {
-        Some(end) => format!("the program {end}"),
-        None => "the texts differ".to_string(),
-    };
-    let theirs = String::from_utf8_lossy(&ran.output);
-    format!(
-        "{what}\n{} bytes: {}\n--- second prints\n{ours}--- the program prints\n{theirs}---",
-        bytes.len(),
-        hex(bytes)
-    )
-}
-
-/// The bytes in hex; of what is too long to be a record, the start.
-fn hex(bytes: &[u8]) -> String {
-    let (shown, rest) = if bytes.len() < 1 << 16 {
-        (bytes, "")
-    } else {
-        (&bytes[..SHOWN], "...")
-    };
-    let digits: String = shown.iter().map(|byte| format!("{byte:02x}")).collect();
-    digits + rest
 }
 
 // ---- long inputs ----

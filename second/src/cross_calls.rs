@@ -1,9 +1,11 @@
 //! The proved program `calls` against ours: random lists of calls, many to
-//! a run. The two must print the same lines.
+//! a run, then short inputs, most of them with a call that ends them. The two
+//! must print the same lines.
 
-use crate::calls::{call_name, call_text, random_list, Step};
+use crate::calls::{call_name, call_text, random_lists, Step};
+use crate::outcome::all_met;
 use crate::program::{self, Ran};
-use crate::rng::Rng;
+use crate::short_inputs::short_inputs;
 use crate::wire;
 use std::collections::BTreeMap;
 use std::path::Path;
@@ -12,17 +14,18 @@ use std::path::Path;
 const BATCH_LIMIT: usize = 60_000;
 
 /// Every kind of answer there is, by call; 0 stands for "ok".
-const ANSWERS: [(&str, &[u8]); 6] = [
+pub const ANSWERS: [(&str, &[u8]); 7] = [
     ("make", &[0, 1, 2]),
     ("deal", &[0, 1, 2, 3, 4]),
     ("say", &[0, 1, 2, 4]),
     ("hear", &[0, 1, 2, 3, 4]),
     ("settle", &[0, 1, 2, 3, 4, 7, 8, 9]),
     ("open", &[0, 1, 2, 3, 4, 10]),
+    ("desk", &[0, 1, 3, 5]),
 ];
 
 /// How often each call had each answer.
-type Counts = BTreeMap<(&'static str, u8), usize>;
+pub type Counts = BTreeMap<(&'static str, u8), usize>;
 
 /// Lists that go into one run of the program.
 #[derive(Default)]
@@ -33,19 +36,47 @@ struct Batch {
     stream: Vec<u8>,
 }
 
+/// What came of all lists.
+#[derive(Default)]
+pub struct Done {
+    pub lists: usize,
+    pub runs: usize,
+    pub counts: Counts,
+}
+
 /// The whole comparison: the text of success, or that of a mismatch.
 pub fn cross_calls(seed: u64, count: usize, program: &Path) -> Result<String, String> {
-    let mut rng = Rng::new(seed);
-    let mut counts = Counts::new();
+    let seeded = |what: String| format!("seed {seed}, {what}");
+    let done = cross_lists(seed, count, program).map_err(seeded)?;
+    let inputs = short_inputs(seed);
+    for (name, bytes) in &inputs {
+        program::compare(program, bytes, &wire::answers(bytes))
+            .map_err(|what| seeded(format!("short input \"{name}\": {what}")))?;
+    }
+    success(seed, &done, inputs.len()).map_err(seeded)
+}
+
+/// The text of success, unless some kind of answer should have come.
+pub fn success(seed: u64, done: &Done, short: usize) -> Result<String, String> {
+    all_met(done.lists, "lists", &never_met(&done.counts))?;
+    let calls: usize = done.counts.values().sum();
+    let answers = counts_text(&done.counts);
+    Ok(format!(
+        "calls: {} lists of {calls} calls in {} runs of seed {seed}, all alike; {answers}; and {short} short inputs\n",
+        done.lists, done.runs
+    ))
+}
+
+/// All lists, as many to a run as its input holds.
+fn cross_lists(seed: u64, count: usize, program: &Path) -> Result<Done, String> {
+    let mut done = Done::default();
     let mut batch = Batch::default();
-    let mut runs = 0;
-    for number in 0..count {
-        let list = random_list(&mut rng);
-        count_answers(&mut counts, &list);
+    for (number, list) in random_lists(seed, count).enumerate() {
+        count_answers(&mut done.counts, &list);
         let bytes: Vec<u8> = list.iter().flat_map(|s| wire::write(&s.call)).collect();
         if batch.stream.len() + bytes.len() > BATCH_LIMIT {
-            run_batch(&batch, program).map_err(|what| format!("seed {seed}, {what}"))?;
-            runs += 1;
+            run_batch(&batch, program)?;
+            done.runs += 1;
             batch = Batch {
                 first: number,
                 ..Batch::default()
@@ -54,21 +85,29 @@ pub fn cross_calls(seed: u64, count: usize, program: &Path) -> Result<String, St
         batch.stream.extend(bytes);
         batch.lists.push(list);
     }
-    run_batch(&batch, program).map_err(|what| format!("seed {seed}, {what}"))?;
-    let calls: usize = counts.values().sum();
-    Ok(format!(
-        "calls: {count} lists of {calls} calls in {} runs of seed {seed}, all alike; {}\n",
-        runs + 1,
-        counts_text(&counts)
-    ))
+    run_batch(&batch, program)?;
+    done.runs += 1;
+    done.lists = count;
+    Ok(done)
 }
 
 // ---- counts ----
 
-fn count_answers(counts: &mut Counts, list: &[Step]) {
+pub fn count_answers(counts: &mut Counts, list: &[Step]) {
     for step in list {
-        let answer = step.answer.as_ref().err().copied().unwrap_or(0);
+        let answer = step.answer.result.as_ref().err().copied().unwrap_or(0);
         *counts.entry((call_name(&step.call), answer)).or_default() += 1;
+    }
+}
+
+fn times(counts: &Counts, name: &'static str, answer: u8) -> usize {
+    counts.get(&(name, answer)).copied().unwrap_or(0)
+}
+
+fn answer_word(answer: u8) -> String {
+    match answer {
+        0 => "ok".to_string(),
+        _ => format!("refused-{answer}"),
     }
 }
 
@@ -77,17 +116,21 @@ fn counts_text(counts: &Counts) -> String {
     let calls = ANSWERS.map(|(name, answers)| {
         let words: Vec<String> = answers
             .iter()
-            .map(|&answer| {
-                let times = counts.get(&(name, answer)).copied().unwrap_or(0);
-                match answer {
-                    0 => format!("ok {times}"),
-                    _ => format!("refused-{answer} {times}"),
-                }
-            })
+            .map(|&answer| format!("{} {}", answer_word(answer), times(counts, name, answer)))
             .collect();
         format!("{name}: {}", words.join(", "))
     });
     calls.join("; ")
+}
+
+/// The answers that can come, by call, and never did.
+pub fn never_met(counts: &Counts) -> Vec<String> {
+    ANSWERS
+        .iter()
+        .flat_map(|&(name, answers)| answers.iter().map(move |&answer| (name, answer)))
+        .filter(|&(name, answer)| times(counts, name, answer) == 0)
+        .map(|(name, answer)| format!("{name} {}", answer_word(answer)))
+        .collect()
 }
 
 // ---- a run ----

@@ -8,8 +8,11 @@ mod clique;
 mod cross;
 mod cross_calls;
 mod dealer;
+mod desk_calls;
 mod field;
 mod fit;
+#[cfg(test)]
+mod lists_tests;
 mod make;
 mod named;
 mod outcome;
@@ -19,6 +22,7 @@ mod program;
 mod record;
 mod rng;
 mod scenario;
+mod short_inputs;
 mod store;
 #[cfg(test)]
 mod store_tests;
@@ -40,14 +44,14 @@ const USAGE: &str = "usage: second run < RECORD
        second store DIR
        second check SEED COUNT
        second calls SEED COUNT
+       second stream SEED COUNT
        second cross SEED COUNT BENCH
        second cross-calls SEED COUNT CALLS";
 
 fn main() -> ExitCode {
     let done = arguments().and_then(|args| {
         let words: Vec<&str> = args.iter().map(String::as_str).collect();
-        let text = command(&words)?;
-        io::stdout().write_all(text.as_bytes()).map_err(told)
+        io::stdout().write_all(&command(&words)?).map_err(told)
     });
     match done {
         Ok(()) => ExitCode::SUCCESS,
@@ -70,11 +74,19 @@ fn told(error: io::Error) -> String {
 }
 
 /// What the command prints, or why it fails.
-fn command(words: &[&str]) -> Result<String, String> {
+fn command(words: &[&str]) -> Result<Vec<u8>, String> {
+    match *words {
+        // The only one that prints no text.
+        ["stream", seed, count] => Ok(wire::stream(number(seed)?, size(count)?)),
+        _ => text_command(words).map(String::into_bytes),
+    }
+}
+
+fn text_command(words: &[&str]) -> Result<String, String> {
     match *words {
         ["run"] => Ok(bench::run(&input()?)),
         ["cases", ref files @ ..] => cases(files),
-        ["answer"] => wire::answers(&input()?),
+        ["answer"] => Ok(wire::answers(&input()?)),
         ["make", seed, count, folder] => {
             make::make_files(number(seed)?, size(count)?, Path::new(folder)).map_err(told)?;
             Ok(String::new())

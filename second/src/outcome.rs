@@ -56,3 +56,28 @@ pub fn table(counts: &Counts) -> String {
         .map(|(name, times)| format!("{times:8} {name}\n"))
         .collect()
 }
+
+/// The kinds that were never met.
+pub fn never_met(counts: &Counts) -> Vec<String> {
+    OUTCOMES
+        .iter()
+        .zip(counts)
+        .filter(|(_, &times)| times == 0)
+        .map(|(name, _)| name.to_string())
+        .collect()
+}
+
+/// From so many records or lists on every kind must have been met.
+pub const MANY: usize = 1_000;
+
+/// That two programs are alike says nothing of what neither was asked. So
+/// many records or lists without one of the kinds are a fault of ours.
+pub fn all_met(count: usize, what: &str, never: &[String]) -> Result<(), String> {
+    if count < MANY || never.is_empty() {
+        return Ok(());
+    }
+    let kinds = never.join("; ");
+    Err(format!(
+        "{count} {what} are all alike, but among them never came: {kinds}"
+    ))
+}

@@ -1,4 +1,5 @@
-//! Another program, run on some bytes as its standard input.
+//! Another program, run on some bytes as its standard input, and its text
+//! held against ours.
 
 use std::io::{self, Read, Write};
 use std::path::Path;
@@ -13,6 +14,9 @@ pub const TIME_LIMIT: Duration = Duration::from_secs(10);
 /// More than any right program prints; one that prints without end is cut
 /// off here and then found wrong.
 const OUTPUT_LIMIT: u64 = 16 << 20;
+
+/// How much of a long input a message shows.
+const SHOWN: usize = 64;
 
 /// What a program printed, and how it ended if not well.
 #[derive(PartialEq, Eq, Debug)]
@@ -82,4 +86,40 @@ fn stop(child: &mut Child, what: &str) -> io::Result<String> {
     child.kill()?;
     child.wait()?;
     Ok(what.to_string())
+}
+
+// ---- comparison ----
+
+/// Runs the program on the bytes; what is wrong if it does not print our text.
+pub fn compare(program: &Path, bytes: &[u8], ours: &str) -> Result<(), String> {
+    let ran = feed(program, bytes.to_vec(), TIME_LIMIT)
+        .map_err(|e| format!("{} does not run: {e}", program.display()))?;
+    if ran.bad_end.is_none() && ran.output == ours.as_bytes() {
+        return Ok(());
+    }
+    Err(difference(bytes, ours, &ran))
+}
+
+fn difference(bytes: &[u8], ours: &str, ran: &Ran) -> String {
+    let what = match &ran.bad_end {
+        Some(end) => format!("the program {end}"),
+        None => "the texts differ".to_string(),
+    };
+    let theirs = String::from_utf8_lossy(&ran.output);
+    format!(
+        "{what}\n{} bytes: {}\n--- second prints\n{ours}--- the program prints\n{theirs}---",
+        bytes.len(),
+        hex(bytes)
+    )
+}
+
+/// The bytes in hex; of what is too long to be a record, the start.
+fn hex(bytes: &[u8]) -> String {
+    let (shown, rest) = if bytes.len() < 1 << 16 {
+        (bytes, "")
+    } else {
+        (&bytes[..SHOWN], "...")
+    };
+    let digits: String = shown.iter().map(|byte| format!("{byte:02x}")).collect();
+    digits + rest
 }

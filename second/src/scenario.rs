@@ -166,10 +166,16 @@ pub fn build(rng: &mut Rng, n: usize, t: usize, plan: Plan) -> Scenario {
 
 // ---- the honest steps ----
 
-/// A dealer's list: mostly random, sometimes at the edges of the field.
+/// A dealer's list for t.
 pub fn polynomial(rng: &mut Rng, t: usize) -> Vec<u16> {
+    coefficients(rng, (t + 1) * (t + 1))
+}
+
+/// At least one coefficient: mostly random, sometimes at the edges of the
+/// field.
+pub fn coefficients(rng: &mut Rng, length: usize) -> Vec<u16> {
     let style = rng.below(10);
-    let mut coefs: Vec<u16> = (0..(t + 1) * (t + 1))
+    let mut coefs: Vec<u16> = (0..length)
         .map(|_| match style {
             0 => 0,
             1 => (P - 1) as u16,

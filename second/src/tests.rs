@@ -1,7 +1,7 @@
 //! The example, the cases M1 to M12 and the traps, by their numbers.
 
 use crate::bench::run;
-use crate::calls::{apply, Call};
+use crate::calls::{apply, line, step, Call, Desk};
 use crate::clique::{agreements, happy_set, members, verdict};
 use crate::dealer::{deal, legal_size};
 use crate::field::{inverse, mul, NOT_SENT, P};
@@ -10,6 +10,7 @@ use crate::named::{example, honest, F};
 use crate::party::{Party, Stage};
 use crate::record::{read, write, Record, HEAD};
 use crate::scenario::honest_deals;
+use crate::short_inputs::example_calls;
 
 fn honest_record() -> Record {
     honest(5, 1, &F)
@@ -293,9 +294,27 @@ fn the_calls_of_the_readme() {
         (Call::Open(vec![0, 13, 999, 19, 22]), vec![7], (3, 10, 31)),
     ];
     for (call, values, state) in calls {
-        assert_eq!(apply(&mut party, &call), Ok(values));
+        assert_eq!(apply(&mut party, &call).result, Ok(values));
         assert_eq!((party.stage as u8, party.share, party.happy), state);
     }
+}
+
+/// The example of the README, line by line as it stands there.
+#[test]
+fn the_lines_of_the_readme() {
+    let mut calls = example_calls();
+    calls.push(Call::Desk(Desk {
+        n: 5,
+        t: 1,
+        room: 2,
+        coefs: vec![65_521],
+    }));
+    let mut party = Party::make(0, 0, 0).0;
+    let mut text = String::new();
+    for call in calls {
+        text += &format!("    {}", line(&step(&mut party, call)));
+    }
+    assert!(include_str!("../README.md").contains(&format!("\n\n{text}\n")));
 }
 
 #[test]

@@ -1,38 +1,65 @@
 //! Calls as bytes, for a program that reads them from its standard input.
 //!
 //! A call is one byte for its kind, a 16-bit count, and that many 16-bit
-//! numbers, high byte first. A list starts with its make; nothing stands
-//! between two lists.
+//! numbers, high byte first; nothing stands between two calls. What is no
+//! call ends the input. The README has the rules.
 
-use crate::calls::{answer_text, apply, Answer, Call};
+use crate::calls::{answer_text, apply, random_lists, Answer, Call, Desk, LENT_LIMIT};
 use crate::party::Party;
+
+/// A number as it goes into the stream. All are made to fit 16 bits; cutting
+/// one that does not would send another call than the one shown.
+fn word(number: usize) -> u16 {
+    u16::try_from(number).expect("a number of 16 bits")
+}
 
 /// The kind's byte and the numbers.
 fn parts(call: &Call) -> (u8, Vec<u16>) {
-    let small = |number: &usize| *number as u16;
     match call {
-        Call::Make(n, t, number) => (0, vec![small(n), small(t), small(number)]),
+        Call::Make(n, t, number) => (0, vec![word(*n), word(*t), word(*number)]),
         Call::Deal(list) => (1, list.clone()),
-        Call::Say(j) => (2, vec![small(j)]),
+        Call::Say(j) => (2, vec![word(*j)]),
         Call::Hear(list) => (3, list.clone()),
         Call::Settle(list) => (4, list.clone()),
         Call::Open(list) => (5, list.clone()),
+        Call::Desk(desk) => {
+            let mut numbers = vec![word(desk.n), word(desk.t), word(desk.room)];
+            numbers.extend(&desk.coefs);
+            (6, numbers)
+        }
     }
 }
 
 /// The call's bytes.
 pub fn write(call: &Call) -> Vec<u8> {
     let (kind, numbers) = parts(call);
+    raw(kind, &numbers)
+}
+
+/// The bytes of a kind and its numbers, whether or not that is a call.
+pub fn raw(kind: u8, numbers: &[u16]) -> Vec<u8> {
     let mut bytes = vec![kind];
-    bytes.extend((numbers.len() as u16).to_be_bytes());
+    bytes.extend(word(numbers.len()).to_be_bytes());
     for number in numbers {
         bytes.extend(number.to_be_bytes());
     }
     bytes
 }
 
-/// The call of a kind and its numbers, if there is one.
+/// The lists of `calls SEED COUNT`, one after the other.
+pub fn stream(seed: u64, count: usize) -> Vec<u8> {
+    random_lists(seed, count)
+        .flatten()
+        .flat_map(|step| write(&step.call))
+        .collect()
+}
+
+/// The call of a kind and its numbers, if it is one: a known kind, as many
+/// numbers as it takes, and room within the limit.
 fn call_of(kind: u8, numbers: Vec<u16>) -> Option<Call> {
+    if numbers.len() > LENT_LIMIT {
+        return None;
+    }
     match (kind, &numbers[..]) {
         (0, &[n, t, number]) => Some(Call::Make(n.into(), t.into(), number.into())),
         (1, _) => Some(Call::Deal(numbers)),
@@ -40,32 +67,43 @@ fn call_of(kind: u8, numbers: Vec<u16>) -> Option<Call> {
         (3, _) => Some(Call::Hear(numbers)),
         (4, _) => Some(Call::Settle(numbers)),
         (5, _) => Some(Call::Open(numbers)),
+        (6, &[n, t, room, ref coefs @ ..]) if usize::from(room) <= LENT_LIMIT => {
+            Some(Call::Desk(Desk {
+                n: n.into(),
+                t: t.into(),
+                room: room.into(),
+                coefs: coefs.to_vec(),
+            }))
+        }
         _ => None,
     }
 }
 
-/// All calls of a stream. It must end with a call's end.
-pub fn read(stream: &[u8]) -> Result<Vec<Call>, String> {
+/// The first call of the bytes and what is behind it; none if they do not
+/// start with a whole call.
+fn first_call(bytes: &[u8]) -> Option<(Call, &[u8])> {
+    let (head, body) = bytes.split_first_chunk::<3>()?;
+    let count = usize::from(u16::from_be_bytes([head[1], head[2]]));
+    if body.len() < 2 * count {
+        return None;
+    }
+    let (list, behind) = body.split_at(2 * count);
+    let numbers = list
+        .chunks(2)
+        .map(|b| u16::from_be_bytes([b[0], b[1]]))
+        .collect();
+    Some((call_of(head[0], numbers)?, behind))
+}
+
+/// The calls of a stream, up to the first that is none.
+pub fn read(stream: &[u8]) -> Vec<Call> {
     let mut calls = Vec::new();
     let mut rest = stream;
-    while let Some((head, body)) = rest.split_first_chunk::<3>() {
-        let count = usize::from(u16::from_be_bytes([head[1], head[2]]));
-        if body.len() < 2 * count {
-            break;
-        }
-        let numbers = body[..2 * count]
-            .chunks(2)
-            .map(|b| u16::from_be_bytes([b[0], b[1]]))
-            .collect();
-        let call = call_of(head[0], numbers);
-        calls.push(call.ok_or(format!("call {}: no such call", calls.len()))?);
-        rest = &body[2 * count..];
+    while let Some((call, behind)) = first_call(rest) {
+        calls.push(call);
+        rest = behind;
     }
-    if rest.is_empty() {
-        Ok(calls)
-    } else {
-        Err(format!("call {}: cut short", calls.len()))
-    }
+    calls
 }
 
 /// The line for a call: `ANSWER ; STAGE SHARE HAPPY REPORT`.
@@ -73,17 +111,14 @@ pub fn line(answer: &Answer, party: &Party) -> String {
     format!("{} {}\n", answer_text(answer, party), party.report)
 }
 
-/// A line for each call of a stream, which starts with a make.
-pub fn answers(stream: &[u8]) -> Result<String, String> {
-    let mut party: Option<Party> = None;
+/// A line for each call of a stream. Before any make the party is the one
+/// made for 0, 0, 0.
+pub fn answers(stream: &[u8]) -> String {
+    let mut party = Party::make(0, 0, 0).0;
     let mut text = String::new();
-    for call in read(stream)? {
-        if let Call::Make(n, t, number) = call {
-            party = Some(Party::make(n, t, number).0);
-        }
-        let party = party.as_mut().ok_or("call 0: no party is made")?;
-        let answer = apply(party, &call);
-        text += &line(&answer, party);
+    for call in read(stream) {
+        let answer = apply(&mut party, &call);
+        text += &line(&answer, &party);
     }
-    Ok(text)
+    text
 }

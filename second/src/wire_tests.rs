@@ -1,34 +1,33 @@
-//! Calls as bytes, and other programs run on bytes.
+//! Calls as bytes, the rules that end an input, and other programs run on
+//! bytes.
 
-use crate::calls::{random_list, Call, Step, LENT_LIMIT};
+use crate::calls::{random_lists, Call, Desk, Step, LENT_LIMIT};
 use crate::program::{feed, Ran, TIME_LIMIT};
-use crate::rng::Rng;
+use crate::short_inputs::{example_calls, no_calls, short_inputs, RANDOM};
 use crate::wire;
+use std::collections::BTreeSet;
 use std::fs;
 use std::os::unix::fs::PermissionsExt;
 use std::path::PathBuf;
 use std::sync::Mutex;
 use std::time::{Duration, Instant};
 
-/// The list of calls of the README.
-fn readme_calls() -> Vec<Call> {
-    vec![
-        Call::Make(5, 1, 1),
-        Call::Deal(vec![9, 7, 10, 6]),
-        Call::Say(2),
-        Call::Hear(vec![0, 0, 22, 23, 28, 30, 34, 37, 40, 44]),
-        Call::Settle(vec![30, 29, 27, 23, 15]),
-        Call::Open(vec![0, 13, 999, 19, 22]),
-    ]
-}
-
 fn stream(calls: &[Call]) -> Vec<u8> {
     calls.iter().flat_map(wire::write).collect()
 }
 
+fn desk(n: usize, t: usize, room: usize, coefs: &[u16]) -> Call {
+    Call::Desk(Desk {
+        n,
+        t,
+        room,
+        coefs: coefs.to_vec(),
+    })
+}
+
 #[test]
 fn calls_as_bytes() {
-    let bytes = stream(&readme_calls());
+    let bytes = stream(&example_calls());
     assert_eq!(bytes[..9], [0, 0, 3, 0, 5, 0, 1, 0, 1]);
     assert_eq!(bytes[9..20], [1, 0, 4, 0, 9, 0, 7, 0, 10, 0, 6]);
     assert_eq!(bytes[20..25], [2, 0, 1, 0, 2]);
@@ -36,31 +35,37 @@ fn calls_as_bytes() {
     assert_eq!(bytes[48..51], [4, 0, 5]);
     assert_eq!(bytes[61..68], [5, 0, 5, 0, 0, 0, 13]);
     assert_eq!(bytes[68..70], [3, 231]);
+    assert_eq!(bytes[74..83], [6, 0, 7, 0, 5, 0, 1, 0, 20]);
+    assert_eq!(bytes[83..], [0, 7, 0, 2, 0, 3, 0, 4]);
     assert_eq!(wire::write(&Call::Deal(vec![])), [1, 0, 0]);
     assert_eq!(wire::write(&Call::Open(vec![0; 200]))[..3], [5, 0, 200]);
+    let wide = Call::Make(261, 65_535, 257);
+    assert_eq!(wire::write(&wide), [0, 0, 3, 1, 5, 255, 255, 1, 1]);
 }
 
-#[test]
-fn answers_with_the_report() {
-    let text = "ok ; 0 0 0 0
+const EXAMPLE_LINES: &str = "ok ; 0 0 0 0
 ok ; 1 0 0 0
 ok 23 22 ; 1 0 0 0
 ok 30 ; 2 0 0 30
 ok ; 3 10 31 30
 ok 7 ; 3 10 31 30
+ok 9 7 10 6 11 11 13 10 13 15 16 14 15 19 19 18 17 23 22 22 ; 3 10 31 30
 ";
-    assert_eq!(wire::answers(&stream(&readme_calls())).unwrap(), text);
+
+#[test]
+fn answers_with_the_report() {
+    assert_eq!(wire::answers(&stream(&example_calls())), EXAMPLE_LINES);
 }
 
 /// Closed by 8 a party keeps its report; the next make begins anew.
 #[test]
 fn the_report_stays_and_a_make_begins_anew() {
-    let mut calls = readme_calls();
+    let mut calls = example_calls();
     calls.truncate(4);
     calls.push(Call::Settle(vec![30, 0, 0, 0, 0]));
     calls.push(Call::Make(4, 1, 1));
     calls.push(Call::Say(2));
-    let text = wire::answers(&stream(&calls)).unwrap();
+    let text = wire::answers(&stream(&calls));
     let lines: Vec<&str> = text.lines().skip(4).collect();
     let wanted = [
         "refused 8 ; 4 0 0 30",
@@ -70,35 +75,225 @@ fn the_report_stays_and_a_make_begins_anew() {
     assert_eq!(lines, wanted);
 }
 
+// ---- the desk ----
+
+/// The answer to one call after the example's, without the state.
+fn answer_after_example(call: Call) -> String {
+    let mut calls = example_calls();
+    calls.push(call);
+    let text = wire::answers(&stream(&calls));
+    assert!(text.starts_with(EXAMPLE_LINES));
+    let last = text.lines().last().unwrap();
+    // The desk does not touch the party that the call before left.
+    let (answer, state) = last.split_once(" ; ").unwrap();
+    assert_eq!(state, "3 10 31 30");
+    answer.to_string()
+}
+
+/// The lowest refusal, and the room as it was.
 #[test]
-fn streams_that_are_none() {
-    assert_eq!(wire::answers(&[]), Ok(String::new()));
-    let bytes = stream(&readme_calls()[..1]);
-    for kept in 1..bytes.len() {
-        assert!(wire::answers(&bytes[..kept]).is_err());
-    }
-    for wrong in [&[6, 0, 0][..], &[0, 0, 0], &[2, 0, 0], &[1, 0, 0]] {
-        assert!(wire::answers(wrong).is_err());
+fn the_desk_refuses() {
+    let f = [7, 2, 3, 4];
+    let large = [65_521, 2, 3, 4];
+    for (refusal, n, t, room, coefs) in [
+        (1, 4, 1, 16, &f[..]),
+        (1, 17, 1, 68, &f),
+        (1, 261, 1, 20, &f),
+        (1, 5, 257, 20, &f),
+        (1, 5, 0, 10, &[7]),
+        (1, 0, 0, 0, &[]),
+        (1, 4, 1, 2, &[65_535]),
+        (3, 5, 1, 19, &f),
+        (3, 5, 1, 21, &f),
+        (3, 5, 1, 0, &f),
+        (3, 5, 1, 200, &f),
+        (3, 5, 1, 20, &f[..3]),
+        (3, 5, 1, 20, &[7, 2, 3, 4, 0]),
+        (3, 5, 1, 20, &[]),
+        (3, 5, 1, 20, &[65_535; 197]),
+        (3, 5, 1, 19, &large),
+        (5, 5, 1, 20, &large),
+        (5, 5, 1, 20, &[7, 2, 3, 65_535]),
+    ] {
+        let answer = answer_after_example(desk(n, t, room, coefs));
+        let wanted = format!("refused {refusal}{}", " 65535".repeat(room));
+        assert_eq!(answer, wanted, "{n} {t} {room} {coefs:?}");
     }
 }
+
+#[test]
+fn the_desk_deals() {
+    // All is -1: at i the row's and the column's numbers are -(1+i).
+    let answer = answer_after_example(desk(5, 1, 20, &[65_520; 4]));
+    let numbers = [65_519, 65_518, 65_517, 65_516, 65_515];
+    let deals: String = numbers.iter().map(|c| format!(" {c}").repeat(4)).collect();
+    assert_eq!(answer, format!("ok{deals}"));
+    let answer = answer_after_example(desk(16, 3, 128, &[0; 16]));
+    assert_eq!(answer, format!("ok{}", " 0".repeat(128)));
+}
+
+/// At every stage the same answer, and the party goes on as if nothing had
+/// been between.
+#[test]
+fn the_desk_between_all_calls() {
+    let calls = example_calls();
+    let mixed: Vec<Call> = calls
+        .iter()
+        .flat_map(|call| [call.clone(), calls[6].clone()])
+        .collect();
+    let text = wire::answers(&stream(&mixed));
+    let lines: Vec<&str> = text.lines().collect();
+    let without: Vec<&str> = lines.iter().step_by(2).copied().collect();
+    assert_eq!(without.join("\n") + "\n", EXAMPLE_LINES);
+    for pair in lines.chunks(2) {
+        let (answer, state) = pair[1].split_once(" ; ").unwrap();
+        assert!(answer.starts_with("ok 9 7 10 6 ") && answer.ends_with(" 17 23 22 22"));
+        assert!(pair[0].ends_with(&format!(" ; {state}")));
+    }
+}
+
+// ---- the rules ----
+
+/// Before any make the party is the one made for 0, 0, 0.
+#[test]
+fn calls_without_a_make() {
+    let mut calls = example_calls().split_off(1);
+    calls.push(desk(5, 1, 2, &[7, 2, 3, 4]));
+    let text = wire::answers(&stream(&calls));
+    let lines: Vec<&str> = text.lines().collect();
+    assert_eq!(lines[..5], ["refused 1 ; 0 0 0 0"; 5]);
+    assert!(lines[5].starts_with("ok 9 7 10 6 ") && lines[5].ends_with(" 22 22 ; 0 0 0 0"));
+    assert_eq!(lines[6], "refused 3 65535 65535 ; 0 0 0 0");
+}
+
+/// Numbers have 16 bits, whatever their low byte is.
+#[test]
+fn wide_numbers() {
+    let calls = [
+        Call::Make(261, 1, 1),
+        Call::Make(5, 257, 1),
+        Call::Make(5, 1, 257),
+        Call::Say(1),
+        Call::Make(5, 1, 1),
+        Call::Deal(vec![9, 7, 10, 6]),
+        Call::Say(258),
+        Call::Say(65_535),
+        Call::Say(2),
+    ];
+    let text = wire::answers(&stream(&calls));
+    let answers: Vec<&str> = text
+        .lines()
+        .map(|line| line.split_once(" ; ").unwrap().0)
+        .collect();
+    let wanted = [
+        "refused 1",
+        "refused 1",
+        "refused 2",
+        "refused 2",
+        "ok",
+        "ok",
+        "refused 2",
+        "refused 2",
+        "ok 23 22",
+    ];
+    assert_eq!(answers, wanted);
+}
+
+/// Every kind with every count up to beyond what a byte can hold.
+#[test]
+fn which_counts_are_calls() {
+    for kind in 0..=255 {
+        for count in 0..=270 {
+            let is_call = match kind {
+                0 => count == 3,
+                2 => count == 1,
+                1 | 3 | 4 | 5 => count <= 200,
+                6 => (3..=200).contains(&count),
+                _ => false,
+            };
+            let calls = wire::read(&wire::raw(kind, &vec![1; count]));
+            assert_eq!(calls.len(), usize::from(is_call), "{kind} {count}");
+        }
+        let largest = wire::raw(kind, &[1; 65_535]);
+        assert!(wire::read(&largest).is_empty());
+    }
+    for room in 0..=65_535 {
+        let calls = wire::read(&wire::raw(6, &[5, 1, room, 7, 2, 3, 4]));
+        assert_eq!(calls.len(), usize::from(room <= 200), "{room}");
+    }
+}
+
+/// The lines before stand; neither what is no call nor what is behind it is
+/// answered.
+#[test]
+fn what_is_no_call_ends_the_input() {
+    let calls = example_calls();
+    for (kind, numbers) in no_calls() {
+        let no_call = wire::raw(kind, &numbers);
+        for before in 0..=calls.len() {
+            let bytes = [stream(&calls[..before]), no_call.clone(), stream(&calls)].concat();
+            let lines = EXAMPLE_LINES.split_inclusive('\n').take(before);
+            assert_eq!(wire::answers(&bytes), lines.collect::<String>());
+        }
+    }
+}
+
+/// As many lines as there are whole calls.
+#[test]
+fn a_cut_ends_the_input() {
+    let calls = example_calls();
+    let bytes = stream(&calls);
+    for kept in 0..=bytes.len() {
+        let whole = (0..=calls.len())
+            .rev()
+            .find(|&count| stream(&calls[..count]).len() <= kept)
+            .unwrap();
+        let lines = EXAMPLE_LINES.split_inclusive('\n').take(whole);
+        assert_eq!(wire::answers(&bytes[..kept]), lines.collect::<String>());
+    }
+}
+
+/// Of each sort some, all different, and the random ones of use: some are
+/// answered, and some end before their bytes do.
+#[test]
+fn short_inputs_of_every_sort() {
+    let inputs = short_inputs(3);
+    let names: BTreeSet<&str> = inputs.iter().map(|input| input.0.as_str()).collect();
+    let bytes: BTreeSet<&[u8]> = inputs.iter().map(|input| &input.1[..]).collect();
+    assert!(names.len() > 200 && bytes.len() > 200);
+    assert!(names.contains("nothing") && names.contains("kind 6 without a make"));
+    assert!(names.contains("kind 0 of 259 numbers after calls"));
+    assert!(names.contains("cut after 90 bytes") && !names.contains("cut after 91 bytes"));
+    let random = &inputs[inputs.len() - RANDOM..];
+    let ends_early = |bytes: &[u8]| stream(&wire::read(bytes)).len() < bytes.len();
+    let early = random.iter().filter(|input| ends_early(&input.1)).count();
+    let lines = random.iter().map(|input| wire::read(&input.1).len());
+    assert!((RANDOM / 2..RANDOM).contains(&early), "{early}");
+    assert!(lines.sum::<usize>() > 2 * RANDOM);
+    assert!(inputs.iter().all(|input| input.1.len() < 6000));
+    assert_ne!(short_inputs(4), inputs);
+}
+
+// ---- the random lists ----
 
 /// What is written is read again, and gives the lines of the list.
 #[test]
 fn random_lists_as_bytes() {
-    let mut rng = Rng::new(5);
-    for _ in 0..100 {
-        let list: Vec<Step> = random_list(&mut rng);
+    let lists: Vec<Vec<Step>> = random_lists(5, 100).collect();
+    for list in &lists {
         let calls: Vec<Call> = list.iter().map(|step| step.call.clone()).collect();
         let bytes = stream(&calls);
-        assert_eq!(wire::read(&bytes).as_ref(), Ok(&calls));
+        assert_eq!(wire::read(&bytes), calls);
         let lines = list
             .iter()
             .map(|step| wire::line(&step.answer, &step.after));
-        assert_eq!(wire::answers(&bytes), Ok(lines.collect::<String>()));
+        assert_eq!(wire::answers(&bytes), lines.collect::<String>());
         for call in calls {
             assert!(wire::write(&call).len() <= 3 + 2 * LENT_LIMIT);
         }
     }
+    let calls: Vec<Call> = lists.into_iter().flatten().map(|step| step.call).collect();
+    assert_eq!(wire::stream(5, 100), stream(&calls));
 }
 
 // ---- programs ----

@@ -2,6 +2,7 @@
 //! folder of their own; most of them use this program itself.
 
 use std::fs;
+use std::io::Write;
 use std::os::unix::fs::PermissionsExt;
 use std::path::{Path, PathBuf};
 use std::process::{Command, Output, Stdio};
@@ -62,6 +63,20 @@ fn run(file: &Path) -> String {
     String::from_utf8(output.unwrap().stdout).unwrap()
 }
 
+/// `answer` on some bytes.
+fn answer(bytes: &[u8]) -> Output {
+    let mut child = Command::new(SECOND)
+        .arg("answer")
+        .stdin(Stdio::piped())
+        .stdout(Stdio::piped())
+        .stderr(Stdio::piped())
+        .spawn()
+        .unwrap();
+    // Written at once: the program reads all before it prints.
+    child.stdin.take().unwrap().write_all(bytes).unwrap();
+    child.wait_with_output().unwrap()
+}
+
 fn out(output: &Output) -> String {
     String::from_utf8_lossy(&output.stdout).to_string()
 }
@@ -112,6 +127,91 @@ fn cases_prints_names_and_texts() {
     let output = second_in(&folder.path, &["cases", "example.rec", "none.rec"]);
     assert!(complaint(&output).starts_with("none.rec: "));
     assert_eq!(out(&second_in(&folder.path, &["cases"])), "");
+}
+
+// ---- calls, stream and answer ----
+
+/// The bytes are those of the lists shown, in their order.
+#[test]
+fn stream_writes_the_lists_of_calls() {
+    let folder = Folder::new("stream");
+    let stream = second_in(&folder.path, &["stream", "3", "40"]);
+    let calls = out(&second_in(&folder.path, &["calls", "3", "40"]));
+    assert!(stream.status.success() && stream.stderr.is_empty());
+    let bytes = &stream.stdout;
+    assert_eq!(bytes[..3], [0, 0, 3]);
+    let answered = answer(bytes);
+    assert!(answered.status.success() && answered.stderr.is_empty());
+    // The lines of `calls` have the call before, and no report behind.
+    let text = out(&answered);
+    let without_report: Vec<&str> = text
+        .lines()
+        .map(|line| line.rsplit_once(' ').unwrap().0)
+        .collect();
+    let shown: Vec<&str> = calls
+        .lines()
+        .map(|line| line.split_once(" = ").unwrap().1)
+        .collect();
+    assert!(shown.len() > 200);
+    assert_eq!(without_report, shown);
+    assert_eq!(words_of(bytes), calls_words(&calls));
+    let again = second_in(&folder.path, &["stream", "3", "40"]);
+    assert!(again.stdout == *bytes);
+    assert!(second_in(&folder.path, &["stream", "4", "40"]).stdout != *bytes);
+    assert!(second_in(&folder.path, &["stream", "3", "0"])
+        .stdout
+        .is_empty());
+}
+
+/// The calls of a stream as text, read here once more.
+fn words_of(mut bytes: &[u8]) -> Vec<String> {
+    let names = ["make", "deal", "say", "hear", "settle", "open", "desk"];
+    let number = |pair: &[u8]| 256 * usize::from(pair[0]) + usize::from(pair[1]);
+    let mut calls = Vec::new();
+    while !bytes.is_empty() {
+        let end = 3 + 2 * number(&bytes[1..3]);
+        let numbers = bytes[3..end]
+            .chunks(2)
+            .map(|pair| format!(" {}", number(pair)));
+        let name = names[usize::from(bytes[0])];
+        calls.push(format!("{name}{}", numbers.collect::<String>()));
+        bytes = &bytes[end..];
+    }
+    calls
+}
+
+fn calls_words(calls: &str) -> Vec<String> {
+    calls
+        .lines()
+        .map(|line| line.split_once(" = ").unwrap().0.to_string())
+        .collect()
+}
+
+/// Not an error, and the exit is 0: the lines before stand.
+#[test]
+fn answer_ends_where_a_call_is_none() {
+    let _folder = Folder::new("answer-ends");
+    let make = [0, 0, 3, 0, 5, 0, 1, 0, 1];
+    for (bytes, wanted) in [
+        (vec![], ""),
+        (vec![0], ""),
+        (vec![7, 0, 0], ""),
+        (vec![2, 0, 1, 0, 1], "refused 1 ; 0 0 0 0\n"),
+        (
+            vec![6, 0, 3, 0, 5, 0, 1, 0, 1],
+            "refused 3 65535 ; 0 0 0 0\n",
+        ),
+        (make.to_vec(), "ok ; 0 0 0 0\n"),
+        ([&make[..], &[2, 0]].concat(), "ok ; 0 0 0 0\n"),
+        ([&make[..], &[7, 0, 0], &make].concat(), "ok ; 0 0 0 0\n"),
+        ([&make[..], &[2, 0, 0], &make].concat(), "ok ; 0 0 0 0\n"),
+        (make.repeat(2), "ok ; 0 0 0 0\nok ; 0 0 0 0\n"),
+    ] {
+        let output = answer(&bytes);
+        assert_eq!(out(&output), wanted, "{bytes:?}");
+        assert_eq!(output.status.code(), Some(0));
+        assert!(output.stderr.is_empty());
+    }
 }
 
 // ---- cross ----
@@ -222,26 +322,38 @@ fn cross_calls_passes_with_the_same_program() {
     let text = out(&output);
     assert!(text.starts_with("calls: 400 lists of "), "{text}");
     assert!(text.contains(" runs of seed 3, all alike; make: ok "));
+    assert!(text.contains("; desk: ok ") && text.ends_with(" short inputs\n"));
     assert_eq!(text.lines().count(), 1);
     // Nothing is missing: no answer was met 0 times.
     assert!(!text.contains(" 0,") && !text.contains(" 0;") && !text.contains(" 0\n"));
 }
 
-/// The batches are small enough, and more than one.
+/// The batches are small enough, more than one, and together the bytes of
+/// `stream`. From 1,000 lists on it is also asked that every answer came.
 #[test]
-fn cross_calls_keeps_its_batches_short() {
+fn cross_calls_sends_the_stream() {
     let lines = "cat > \"$0.$$\"
 if [ $(wc -c < \"$0.$$\") -gt 60000 ]; then exit 1; fi
 echo x >> \"$0.runs\"
-SECOND answer < \"$0.$$\"";
+cat \"$0.$$\" >> \"$0.all\"
+SECOND answer < \"$0.$$\"
+rm \"$0.$$\"";
     let folder = Folder::new("calls-batches");
     let script = folder.script(lines);
-    let output = second_in(&folder.path, &["cross-calls", "3", "800", &script]);
+    let output = second_in(&folder.path, &["cross-calls", "3", "1000", &script]);
     assert!(output.status.success(), "{output:?}");
+    let text = out(&output);
+    let stream = second_in(&folder.path, &["stream", "3", "1000"]).stdout;
+    let sent = fs::read(format!("{script}.all")).unwrap();
+    assert!(stream.len() > 120_000 && sent.starts_with(&stream));
+    let number = |after: &str| -> usize {
+        let rest = text.split_once(after).unwrap().1;
+        rest.split(' ').next().unwrap().parse().unwrap()
+    };
     let runs = fs::read_to_string(format!("{script}.runs")).unwrap();
-    let runs = runs.lines().count();
-    assert!(runs > 2);
-    assert!(out(&output).contains(&format!(" in {runs} runs of seed 3")));
+    let batches = number(" calls in ");
+    assert!(batches > 2);
+    assert_eq!(runs.lines().count(), batches + number("; and "));
 }
 
 /// The calls shown are those of `calls`, up to the first wrong answer.
@@ -293,11 +405,72 @@ fn cross_calls_finds_small_faults() {
     }
 }
 
+/// Faults of the desk alone: its list, its refusals, the party it leaves.
+#[test]
+fn cross_calls_finds_faults_of_the_desk() {
+    for (name, lines) in [
+        ("desk-room", "s/^refused 3 65535/refused 3 0/"),
+        ("desk-less", "s/^\\(refused [135]\\) 65535.* ;/\\1 ;/"),
+        ("desk-five", "s/^refused 5/refused 3/"),
+        ("desk-one", "s/^refused 1 65535/refused 3 65535/"),
+        (
+            "desk-last",
+            "s/^\\(ok\\( [0-9]*\\)\\{19,\\}\\) [0-9]* ;/\\1 x ;/",
+        ),
+    ] {
+        let lines = format!("SECOND answer | sed '{lines}'");
+        let text = complaint(&cross_calls(name, &lines, "400"));
+        let shown: Vec<&str> = text.lines().collect();
+        assert!(text.starts_with("seed 3, list "), "{name}: {text}");
+        assert!(
+            shown[shown.len() - 3].starts_with("desk "),
+            "{name}: {text}"
+        );
+    }
+}
+
+/// Programs that are right on every list, and wrong only where an input ends
+/// at what is no call, or has no make. They look at the first bytes.
+#[test]
+fn cross_calls_tries_short_inputs() {
+    let choose = "cat > \"$0.$$\"
+case \"$(head -c 9 \"$0.$$\" | od -An -v -tu1 | tr -s ' \\n' -)\" in
+CASE;;
+*) SECOND answer < \"$0.$$\";;
+esac
+rm \"$0.$$\"";
+    for (name, case, input) in [
+        ("short-kind", "-7-*) exit 1", "kind 7 of 0 numbers"),
+        (
+            "short-count",
+            "-0-0-4-*) echo 'refused 1 ; 0 0 0 0'",
+            "kind 0 of 4 numbers",
+        ),
+        ("short-none", "'') echo", "nothing"),
+        (
+            "short-make",
+            "-2-0-1-*) echo no party",
+            "kind 2 without a make",
+        ),
+    ] {
+        let text = complaint(&cross_calls(name, &choose.replace("CASE", case), "2"));
+        let start = format!("seed 3, short input \"{input}\": ");
+        assert!(text.starts_with(&start), "{name}: {text}");
+        assert!(text.contains("--- second prints\n"), "{name}: {text}");
+    }
+}
+
 #[test]
 fn anything_else_is_told_how() {
     let folder = Folder::new("usage");
     let told = |words: &[&str]| complaint(&second_in(&folder.path, words));
-    for words in [&["cross"][..], &["store"], &["nothing"], &[]] {
+    for words in [
+        &["cross"][..],
+        &["store"],
+        &["stream", "1"],
+        &["nothing"],
+        &[],
+    ] {
         assert!(told(words).starts_with("usage: second run"));
     }
     let text = told(&["cross", "x", "1", "bench"]);

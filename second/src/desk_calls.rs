@@ -1,0 +1,64 @@
+//! Random calls to the dealing desk, mostly such as it does not refuse.
+
+use crate::calls::{bad_size, other_length, Desk, LENT_LIMIT};
+use crate::rng::Rng;
+use crate::scenario::{coefficients, legal_size};
+
+/// The longest dealer's list: n, t and the room are numbers of the call too.
+pub const COEFS_LIMIT: usize = LENT_LIMIT - 3;
+
+/// How many of a hundred have each of the four faults. They are drawn apart,
+/// so several at once come too, and that the lowest refusal is given shows.
+const FAULTS: usize = 13;
+
+/// Size, room and list. A wrong size has lists that would suit it, as far as
+/// the limits let it, so that the size alone is to blame.
+pub fn random_desk(rng: &mut Rng) -> Desk {
+    let (n, t) = if rng.chance(FAULTS) {
+        bad_size(rng)
+    } else {
+        legal_size(rng)
+    };
+    let coefs = (t + 1).saturating_mul(t + 1).min(COEFS_LIMIT);
+    let room = (2 * n).saturating_mul(t + 1).min(LENT_LIMIT);
+    let mut desk = Desk {
+        n,
+        t,
+        room,
+        coefs: coefficients(rng, coefs),
+    };
+    if rng.chance(FAULTS) {
+        desk.room = other_length(rng, room, LENT_LIMIT);
+    }
+    if rng.chance(FAULTS) {
+        let length = other_length(rng, coefs, COEFS_LIMIT);
+        desk.coefs.resize(length, 0);
+    }
+    if rng.chance(FAULTS) {
+        put_too_large(rng, &mut desk.coefs);
+    }
+    desk
+}
+
+/// One number of the list above 65,520, or each with some chance. The first
+/// and the last place are tried often, for a search may miss its ends.
+fn put_too_large(rng: &mut Rng, coefs: &mut [u16]) {
+    let Some(last) = coefs.len().checked_sub(1) else {
+        return;
+    };
+    let any = rng.below(coefs.len());
+    match rng.below(5) {
+        0 => coefs[0] = rng.not_sent(),
+        1 => coefs[last] = rng.not_sent(),
+        2 => coefs[any] = rng.pick(&[65_521, 65_535]),
+        3 => coefs[any] = rng.not_sent(),
+        _ => {
+            let percent = rng.between(10, 100);
+            for number in coefs {
+                if rng.chance(percent) {
+                    *number = rng.not_sent();
+                }
+            }
+        }
+    }
+}

@@ -1,0 +1,163 @@
+//! What the random lists of calls hold, and what the comparisons count.
+
+use crate::calls::{call_name, random_lists, Call, Desk, Step};
+use crate::cross;
+use crate::cross_calls::{self, count_answers, never_met, Counts, Done, ANSWERS};
+use crate::dealer::legal_size;
+use crate::outcome::{self, OUTCOMES};
+use std::sync::OnceLock;
+
+/// Enough lists for every kind of answer; the tests share them.
+fn steps() -> &'static [Step] {
+    static STEPS: OnceLock<Vec<Step>> = OnceLock::new();
+    STEPS.get_or_init(|| random_lists(1, 1000).flatten().collect())
+}
+
+fn desks() -> Vec<&'static Desk> {
+    let of_step = |step: &'static Step| match &step.call {
+        Call::Desk(desk) => Some(desk),
+        _ => None,
+    };
+    steps().iter().filter_map(of_step).collect()
+}
+
+fn times(holds: impl Fn(&Desk) -> bool) -> usize {
+    desks().into_iter().filter(|desk| holds(desk)).count()
+}
+
+fn wrong_size(desk: &Desk) -> bool {
+    !legal_size(desk.n, desk.t)
+}
+
+fn wrong_list(desk: &Desk) -> bool {
+    desk.coefs.len() != (desk.t + 1) * (desk.t + 1)
+}
+
+fn wrong_room(desk: &Desk) -> bool {
+    desk.room != 2 * desk.n * (desk.t + 1)
+}
+
+fn too_large(desk: &Desk) -> bool {
+    desk.coefs.iter().any(|&c| c > 65_520)
+}
+
+#[test]
+fn one_call_in_ten_is_the_desks() {
+    let (all, desks) = (steps().len(), desks().len());
+    assert!((8 * all..12 * all).contains(&(100 * desks)), "{desks}");
+}
+
+/// Most are right; each fault comes alone, and with the others.
+#[test]
+fn desks_of_every_sort() {
+    let faults = |desk: &Desk| {
+        [wrong_size, wrong_list, wrong_room, too_large]
+            .iter()
+            .filter(|fault| fault(desk))
+            .count()
+    };
+    let all = desks().len();
+    assert!(2 * times(|desk| faults(desk) == 0) > all);
+    assert!(times(|desk| faults(desk) > 1) > 20);
+    for fault in [wrong_size, wrong_list, wrong_room, too_large] {
+        assert!(times(|desk| fault(desk) && faults(desk) == 1) >= 10);
+        assert!(times(|desk| fault(desk) && faults(desk) > 1) >= 10);
+    }
+    for edge in [0, 1, 65_520, 65_521, 65_535] {
+        assert!(times(|desk| desk.coefs.contains(&edge)) >= 10, "{edge}");
+    }
+    for t in 1..=3 {
+        let least = times(|desk| desk.t == t && desk.n == 4 * t + 1);
+        let most = times(|desk| desk.t == t && desk.n == 16);
+        assert!(least >= 5 && most >= 5);
+    }
+}
+
+/// Above 255 each of n, t, i and j comes, and also such as a reader of the
+/// low byte alone would take for right.
+#[test]
+fn wide_numbers_come() {
+    let count = |holds: &dyn Fn(&Call) -> bool| steps().iter().filter(|s| holds(&s.call)).count();
+    let sly = |n: usize, t: usize| !legal_size(n, t) && legal_size(n % 256, t % 256);
+    assert!(count(&|call| matches!(call, Call::Make(256.., _, _))) >= 5);
+    assert!(count(&|call| matches!(call, Call::Make(_, 256.., _))) >= 5);
+    assert!(count(&|call| matches!(call, Call::Make(_, _, 256..))) >= 10);
+    assert!(count(&|call| matches!(call, Call::Say(256..))) >= 10);
+    assert!(count(&|call| matches!(call, Call::Say(257..=272))) >= 5);
+    assert!(count(&|call| matches!(call, Call::Make(..=16, _, 257..=272))) >= 5);
+    assert!(count(&|call| matches!(call, Call::Make(n, t, _) if sly(*n, *t))) >= 5);
+    assert!(times(|desk| sly(desk.n, desk.t)) >= 5);
+    // One of the two wide, the other right.
+    assert!(count(&|call| matches!(call, Call::Make(261..=272, 1..=3, _))) >= 2);
+    assert!(count(&|call| matches!(call, Call::Make(5..=16, 257..=259, _))) >= 2);
+}
+
+// ---- what was never met ----
+
+fn all_counts() -> Counts {
+    let mut counts = Counts::new();
+    count_answers(&mut counts, steps());
+    counts
+}
+
+/// The list of answers is whole: each comes, and no other.
+#[test]
+fn every_answer_is_listed() {
+    let counts = all_counts();
+    assert_eq!(never_met(&counts), Vec::<String>::new());
+    for (name, answer) in counts.keys() {
+        let listed = ANSWERS.iter().find(|(call, _)| call == name).unwrap();
+        assert!(listed.1.contains(answer), "{name} {answer}");
+    }
+    let listed: usize = ANSWERS.iter().map(|(_, answers)| answers.len()).sum();
+    assert_eq!((listed, counts.len()), (35, 35));
+    let names = steps().iter().map(|step| call_name(&step.call));
+    assert_eq!(names.filter(|&name| name == "make").count(), 1000);
+}
+
+/// Each answer alone is missed from 1,000 lists on, and not below.
+#[test]
+fn lists_without_an_answer() {
+    let done = |lists: usize, counts: Counts| Done {
+        lists,
+        counts,
+        runs: 1,
+    };
+    assert!(cross_calls::success(3, &done(1000, all_counts()), 9).is_ok());
+    for (name, answer) in all_counts().into_keys() {
+        let mut counts = all_counts();
+        counts.remove(&(name, answer));
+        let text = cross_calls::success(3, &done(999, counts.clone()), 9).unwrap();
+        assert!(text.starts_with("calls: 999 lists of "));
+        let word = match answer {
+            0 => "ok".to_string(),
+            k => format!("refused-{k}"),
+        };
+        for lists in [1000, 5000] {
+            let told = cross_calls::success(3, &done(lists, counts.clone()), 9).unwrap_err();
+            let end = format!("among them never came: {name} {word}");
+            assert_eq!(told, format!("{lists} lists are all alike, but {end}"));
+        }
+    }
+}
+
+/// The same for records. All that is missing is named.
+#[test]
+fn records_without_an_outcome() {
+    let all = [1; OUTCOMES.len()];
+    assert!(cross::success(3, 1000, 8, &all).is_ok());
+    for (k, name) in OUTCOMES.iter().enumerate() {
+        let mut counts = all;
+        counts[k] = 0;
+        assert_eq!(outcome::never_met(&counts), [name.to_string()]);
+        let text = cross::success(3, 999, 8, &counts).unwrap();
+        assert!(text.contains(&format!("       0 {name}\n")));
+        let told = cross::success(3, 1000, 8, &counts).unwrap_err();
+        let end = format!("all alike, but among them never came: {name}");
+        assert_eq!(told, format!("seed 3, 1000 records are {end}"));
+    }
+    let mut counts = all;
+    (counts[6], counts[8]) = (0, 0);
+    let told = cross::success(3, 2000, 8, &counts).unwrap_err();
+    assert!(told.ends_with("came: lamp refused 7; lamp refused 9"));
+}
