@@ -30,6 +30,25 @@ number-place (high ∷ low ∷ bytes) (suc k) h =
     let behind : suc (suc (2 * k)) + 1 ≡ suc (suc (2 * k + 1)) = omega arith in
     number-place bytes k (omega arith) ∙ rw (next, behind)
 
+-- A part of the numbers is that of the part of the bytes.
+numbers-drop : (k : ℕ) (bytes : List ℕ) → numbers (drop (2 * k) bytes) ≡ drop k (numbers bytes)
+unfolding numbers
+numbers-drop zero bytes = refl
+numbers-drop (suc k) [] = let next : 2 * suc k ≡ suc (suc (2 * k)) = omega arith in rw next refl
+numbers-drop (suc k) (high ∷ []) = let next : 2 * suc k ≡ suc (suc (2 * k)) = omega arith in rw next refl
+numbers-drop (suc k) (high ∷ low ∷ bytes) = let next : 2 * suc k ≡ suc (suc (2 * k)) = omega arith in rw next (numbers-drop k bytes)
+
+numbers-take : (k : ℕ) (bytes : List ℕ) → numbers (take (2 * k) bytes) ≡ take k (numbers bytes)
+unfolding numbers
+numbers-take zero bytes = refl
+numbers-take (suc k) [] = let next : 2 * suc k ≡ suc (suc (2 * k)) = omega arith in rw next refl
+numbers-take (suc k) (high ∷ []) = let next : 2 * suc k ≡ suc (suc (2 * k)) = omega arith in rw next refl
+numbers-take (suc k) (high ∷ low ∷ bytes) =
+    let next : 2 * suc k ≡ suc (suc (2 * k)) = omega arith in rw next (ap (λ z. (high * 256 + low) ∷ z) (numbers-take k bytes))
+
+pub numbers-part : (from count : ℕ) (bytes : List ℕ) → numbers (take (2 * count) (drop (2 * from) bytes)) ≡ take count (drop from (numbers bytes))
+numbers-part from count bytes = numbers-take count (drop (2 * from) bytes) ∙ ap (take count) (numbers-drop from bytes)
+
 -- ---- The bytes of a list of numbers
 
 pub length-bytes : (xs : List ℕ) → length (bytesOf xs) ≡ 2 * length xs

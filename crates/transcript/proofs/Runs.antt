@@ -6,17 +6,17 @@ use Prim.Native.Nat.{ℕ, suc, _+_, _*_, _-_, _/_, _≤_}
 use native.Mathlib.Nat.{mul-le-mul, mul-le-mul-right, suc-mul, mul-div-right, add-sub-cancel-left}
 use native.Mathlib.Numerals.{add-one}
 use native.Mathlib.Omega.{arith}
-use lib.ListN.{length, take, drop, length-drop, take-append-drop}
-use lib.Seq.{take-append-le, drop-append-le}
+use lib.ListN.{length, take, drop, length-drop}
+use lib.Seq.{take-all, length-take-le}
 use Rattle.parties.specs.Parties.{sizes}
 use Rattle.parties.proofs.Parties.{sizes-facts}
-use Rattle.dealer.specs.Desk.{stretch}
 use Rattle.lamp.specs.declared.Admission.{Admission}
 use Rattle.lamp.specs.declared.Admission.the-variants.{Pass, Fail}
 use Rattle.lamp.specs.declared.Answer.the-variants.{Done}
 use Rattle.lamp.specs.Lamp.{made, make, check, guard, reply}
 use Rattle.record.specs.Record.{sectionLength, sectionOf}
-use Rattle.record.proofs.Bytes.{length-numbers}
+use Rattle.record.specs.Bytes.{numbers, over}
+use Rattle.record.proofs.Bytes.{length-numbers, numbers-part, over-front}
 use Rattle.record.proofs.Answers.{fine-record, length-section}
 use Rattle.transcript.specs.Lines.{lampLine}
 use Rattle.transcript.specs.Transcript.{numbersOf, lampLines, run, Whole}
@@ -49,26 +49,26 @@ module _ (bytes : List ℕ) (n t : ℕ) (w : Whole bytes n t) where
 
 -- ---- a party's own part of a list of n parts of 2w numbers
 
--- It lies within the list, which an array of 512 numbers holds.
+-- It lies within the list, and an array of 32 numbers holds it.
 pub part-room : (n w i : ℕ) → n ≤ 16 → w ≤ 16 → 1 ≤ i → i ≤ n → ((i - 1) * (2 * w) + 2 * w ≤ n * (2 * w)) × (n * (2 * w) ≤ 512)
 part-room n w (suc j) a b c d =
     let place : suc j - 1 ≡ j = omega arith in
     (rw place (omega (arith, suc-mul j (2 * w), mul-le-mul-right {m = suc j} {n = n} (2 * w) d)), mul-le-mul {n₁ = n} {m₁ = 2 * w} {n₂ = 16} {m₂ = 32} a (omega arith))
 
--- As the code takes it from an array that begins with the list.
-pub part-stretch : (array xs : List ℕ) (w i : ℕ) → take (length xs) array ≡ xs → (i - 1) * (2 * w) + 2 * w ≤ length xs
-    → take ((i - 1) * (2 * w) + 2 * w - (i - 1) * (2 * w)) (drop ((i - 1) * (2 * w)) array) ≡ stretch w xs i
-part-stretch array xs w i e h =
-    let from : ℕ = (i - 1) * (2 * w) in
-    let whole : array ≡ xs ++ drop (length xs) array = sym (take-append-drop (length xs) array) ∙ ap (λ z. z ++ drop (length xs) array) e in
-    ap (λ m. take m (drop from array)) (add-sub-cancel-left from (2 * w))
-    ∙ ap (λ z. take (2 * w) (drop from z)) whole
-    ∙ ap (take (2 * w)) (drop-append-le from xs (drop (length xs) array) (omega arith))
-    ∙ take-append-le (2 * w) (drop from xs) (drop (length xs) array) (omega (arith, length-drop from xs))
+-- As the code reads it from the bytes of a section.
+pub part-read : (section zeros : List ℕ) (from count : ℕ) → from + count ≤ length (numbers section) → count ≤ length zeros
+    → take count (over (numbers (take (2 * from + 2 * count - 2 * from) (drop (2 * from) section))) zeros) ≡ take count (drop from (numbers section))
+part-read section zeros from count h k =
+    let xs : List ℕ = take count (drop from (numbers section)) in
+    let long : length xs ≡ count = length-take-le count (drop from (numbers section)) (omega (arith, length-drop from (numbers section))) in
+    ap (λ m. take count (over (numbers (take m (drop (2 * from) section))) zeros)) (add-sub-cancel-left (2 * from) (2 * count))
+    ∙ ap (λ z. take count (over z zeros)) (numbers-part from count section)
+    ∙ ap (λ m. take m (over xs zeros)) (sym long)
+    ∙ over-front xs zeros (omega arith)
 
 -- The whole list.
-pub part-all : (array xs : List ℕ) (n : ℕ) → take (length xs) array ≡ xs → length xs ≡ n → take n array ≡ xs
-part-all array xs n e l = ap (λ m. take m array) (sym l) ∙ e
+pub part-all : (array xs : List ℕ) (n : ℕ) → take n array ≡ take n (drop 0 xs) → length xs ≡ n → take n array ≡ xs
+part-all array xs n e l = e ∙ take-all n xs (omega arith)
 
 -- ---- a lamp
 

@@ -3,7 +3,7 @@ ghost use mathlib.Core.Path.{_≡_};
 ghost use mathlib.Core.Bool.{true};
 ghost use mathlib.Core.List.{[], _∷_};
 ghost use Prim.Native.Nat.{_+_, _*_, _-_, _≤_};
-ghost use lib.ListN.{length, take};
+ghost use lib.ListN.{length, take, drop};
 ghost use Rattle.field.specs.Modulus.{modulus};
 ghost use Rattle.happy.specs.Happy.{happySet};
 ghost use Rattle.parties.specs.Parties.{sizes, points};
@@ -135,13 +135,16 @@ fn put_last(out: &mut [u8], at: usize, accepted: bool, n: u8, t: u8, shares: &[u
 
 // ---- the lamps
 
-// The numbers of section k, first in an array that holds the longest section.
-fn listed(bytes: &[u8], k: usize) -> [u16; 512]
-    requires { ⌜ length (numbersOf (now bytes) k) ≤ 512 ⌝ }
-    ensures { λ r. ⌜ take (length (numbersOf (now (bytes .entry)) k)) r ≡ numbersOf (now (bytes .entry)) k ⌝ }
+// `count` numbers of section k from the place `from` on, first in an array that holds the longest part that a lamp is given.
+fn part(bytes: &[u8], k: usize, from: usize, count: usize) -> [u16; 32]
+    requires { ⌜ (from + count ≤ length (numbersOf (now bytes) k)) × (from ≤ 512) × (count ≤ 32) ⌝ }
+    ensures { λ r. ⌜ take count r ≡ take count (drop from (numbersOf (now (bytes .entry)) k)) ⌝ }
 {
-    let mut list = [0u16; 512];
-    record::numbers(record::section(bytes, k), &mut list);
+    let whole = record::section(bytes, k);
+    let start = 2 * from;
+    let end = start + 2 * count;
+    let mut list = [0u16; 32];
+    record::numbers(&whole[start..end], &mut list);
     list
 }
 
@@ -150,13 +153,11 @@ fn dealt(bytes: &[u8], n: u8, t: u8, i: u8) -> Lamp
     requires { ⌜ Whole (now bytes) n t × (1 ≤ i) × (i ≤ n) ⌝ }
     ensures { λ r. ⌜ r ≡ after modulus (made n t i) (dealCall (now (bytes .entry)) t i ∷ []) ⌝ }
 {
-    let list = listed(bytes, 0);
     let width = 2 * (t as usize + 1);
-    let from = (i as usize - 1) * width;
-    let end = from + width;
+    let list = part(bytes, 0, (i as usize - 1) * width, width);
     let waiting = Lamp::make(n, t, i);
     let lamp = waiting.lamp;
-    let reply = lamp.take_deal(&list[from..end]);
+    let reply = lamp.take_deal(&list[..width]);
     reply.lamp
 }
 
@@ -165,12 +166,10 @@ fn reported(bytes: &[u8], n: u8, t: u8, i: u8) -> Lamp
     requires { ⌜ Whole (now bytes) n t × (1 ≤ i) × (i ≤ n) ⌝ }
     ensures { λ r. ⌜ r ≡ after modulus (made n t i) (dealCall (now (bytes .entry)) t i ∷ pairsCall (now (bytes .entry)) n i ∷ []) ⌝ }
 {
-    let list = listed(bytes, 1);
     let width = 2 * n as usize;
-    let from = (i as usize - 1) * width;
-    let end = from + width;
+    let list = part(bytes, 1, (i as usize - 1) * width, width);
     let lamp = dealt(bytes, n, t, i);
-    let reply = lamp.hear_pairs(&list[from..end]);
+    let reply = lamp.hear_pairs(&list[..width]);
     reply.lamp
 }
 
@@ -179,8 +178,8 @@ fn run(bytes: &[u8], n: u8, t: u8, i: u8) -> Reply
     requires { ⌜ Whole (now bytes) n t × (1 ≤ i) × (i ≤ n) ⌝ }
     ensures { λ r. ⌜ r ≡ run (now (bytes .entry)) n t i ⌝ }
 {
-    let list = listed(bytes, 2);
     let count = n as usize;
+    let list = part(bytes, 2, 0, count);
     let lamp = reported(bytes, n, t, i);
     lamp.settle(&list[..count])
 }
@@ -206,8 +205,8 @@ fn happy_set(bytes: &[u8], n: u8, t: u8) -> u16
     requires { ⌜ Whole (now bytes) n t ⌝ }
     ensures { λ r. ⌜ r ≡ happySet (numbersOf (now (bytes .entry)) 2) ⌝ }
 {
-    let list = listed(bytes, 2);
     let count = n as usize;
+    let list = part(bytes, 2, 0, count);
     happy::happy_set(&list[..count])
 }
 
@@ -217,8 +216,8 @@ fn put_end(out: &mut [u8], at: usize, accepted: bool, bytes: &[u8], n: u8, t: u8
     ensures { λ r. ⌜ Added (now (out .entry)) at (lastLine accepted n t (numbersOf (now (bytes .entry)) 3)) (now (out .exit)) r ⌝ }
     ensures short { λ r. ⌜ r ≤ at + 21 ⌝ }
 {
-    let list = listed(bytes, 3);
     let count = n as usize;
+    let list = part(bytes, 3, 0, count);
     put_last(out, at, accepted, n, t, &list[..count])
 }
 
