@@ -1,0 +1,174 @@
+//! Who answers each question: the proved library, plain Rust of the same algorithm, a specialist, the naive way, and the
+//! other versions of plain Rust.
+
+use crate::inputs::{Dealing, Deals, Points, Shares, Text};
+use crate::measure::{Contender, Role, Row};
+use crate::plain::lamp::Ways;
+use crate::plain::{deal, fit_groups, fit_newton, fit_now, fit_old, happy_new, happy_now, happy_old, text};
+use crate::{bitset, gao, naive, proved};
+
+type Fit = fn(usize, usize, &[u16], &[u16]) -> Option<[u16; 4]>;
+
+fn row<I, O>(
+    key: &str,
+    title: &str,
+    inputs: Vec<I>,
+    blank: O,
+    contenders: &[(Role, &'static str, fn(&I, &mut O))],
+) -> Row<I, O> {
+    let contenders = contenders.iter().map(|&(role, name, call)| Contender { role, name, call }).collect();
+    Row { key: key.to_string(), title: title.to_string(), inputs, blank, contenders }
+}
+
+fn dealt(input: &Dealing, out: &mut Deals, deal: fn(u8, u8, &[u16], &mut [u16]) -> u8) {
+    out.answer = deal(input.n, input.t, &input.f, &mut out.deals[..input.room]);
+}
+
+pub fn dealing(key: &str, title: &str, inputs: Vec<Dealing>) -> Row<Dealing, Deals> {
+    let blank = Deals { answer: 0, deals: [1; 128] };
+    row(
+        key,
+        title,
+        inputs,
+        blank,
+        &[
+            (Role::Proved, "proved", proved::deal),
+            (Role::Plain, "plain", |input, out| dealt(input, out, deal::deal)),
+            (Role::Special, "by width", |input, out| dealt(input, out, deal::deal_by_width)),
+        ],
+    )
+}
+
+pub fn happy(key: &str, title: &str, inputs: Vec<Vec<u16>>) -> Row<Vec<u16>, u16> {
+    row(
+        key,
+        title,
+        inputs,
+        0,
+        &[
+            (Role::Proved, "proved", proved::happy_set),
+            (Role::Plain, "plain", |input, out| *out = happy_now::happy_set(input)),
+            (Role::Special, "bitset", |input, out| *out = bitset::happy_set(input)),
+            (Role::Naive, "all sets", |input, out| *out = naive::happy_set(input)),
+            (Role::Version, "plain old", |input, out| *out = happy_old::happy_set(input)),
+            (Role::Version, "plain new", |input, out| *out = happy_new::happy_set(input)),
+        ],
+    )
+}
+
+/// A repair by a fit: points and lengths are right.
+#[inline(always)]
+fn repaired(input: &Points, out: &mut (u8, [u16; 4]), fit: Fit) {
+    let t = usize::from(input.t);
+    match fit(t, input.xs.len() - t, &input.xs, &input.ys) {
+        Some(f) => {
+            out.0 = 0;
+            out.1[..=t].copy_from_slice(&f[..=t]);
+        }
+        None => out.0 = 9,
+    }
+}
+
+pub fn repairing(key: &str, title: &str, inputs: Vec<Points>) -> Row<Points, (u8, [u16; 4])> {
+    row(
+        key,
+        title,
+        inputs,
+        (0, [0; 4]),
+        &[
+            (Role::Proved, "proved", proved::repair),
+            (Role::Plain, "plain", |input, out| repaired(input, out, fit_now::fit)),
+            (Role::Special, "Gao", |input, out| repaired(input, out, gao::fit)),
+            (Role::Naive, "all choices", |input, out| repaired(input, out, naive::fit)),
+            (Role::Version, "plain old", |input, out| repaired(input, out, fit_old::fit)),
+            (Role::Version, "plain Newton", |input, out| repaired(input, out, fit_newton::fit)),
+            (Role::Version, "plain groups", |input, out| repaired(input, out, fit_groups::fit)),
+        ],
+    )
+}
+
+/// An opening by a fit: sizes and lengths are right.
+#[inline(always)]
+fn opened(input: &Shares, out: &mut (u8, u16), fit: Fit) {
+    let (n, t) = (usize::from(input.n), usize::from(input.t));
+    match fit(t, n - t, &text::POINTS[..n], &input.shares) {
+        Some(f) => *out = (0, f[0]),
+        None => out.0 = 10,
+    }
+}
+
+pub fn opening(key: &str, title: &str, inputs: Vec<Shares>) -> Row<Shares, (u8, u16)> {
+    row(
+        key,
+        title,
+        inputs,
+        (0, 0),
+        &[
+            (Role::Proved, "proved", proved::open),
+            (Role::Plain, "plain", |input, out| opened(input, out, fit_now::fit)),
+            (Role::Special, "Gao", |input, out| opened(input, out, gao::fit)),
+            (Role::Naive, "all choices", |input, out| opened(input, out, naive::fit)),
+            (Role::Version, "plain old", |input, out| opened(input, out, fit_old::fit)),
+            (Role::Version, "plain Newton", |input, out| opened(input, out, fit_newton::fit)),
+            (Role::Version, "plain groups", |input, out| opened(input, out, fit_groups::fit)),
+        ],
+    )
+}
+
+/// The library's algorithms, each lamp for itself.
+struct Plain;
+
+impl Ways for Plain {
+    const ONCE: bool = false;
+    fn happy_set(reports: &[u16]) -> u16 {
+        happy_now::happy_set(reports)
+    }
+    fn fit(t: usize, need: usize, xs: &[u16], ys: &[u16]) -> Option<[u16; 4]> {
+        fit_now::fit(t, need, xs, ys)
+    }
+}
+
+/// The specialists, and one happy set for all lamps.
+struct Special;
+
+impl Ways for Special {
+    const ONCE: bool = true;
+    fn happy_set(reports: &[u16]) -> u16 {
+        bitset::happy_set(reports)
+    }
+    fn fit(t: usize, need: usize, xs: &[u16], ys: &[u16]) -> Option<[u16; 4]> {
+        gao::fit(t, need, xs, ys)
+    }
+}
+
+/// The naive ways, each lamp for itself.
+struct Naive;
+
+impl Ways for Naive {
+    const ONCE: bool = false;
+    fn happy_set(reports: &[u16]) -> u16 {
+        naive::happy_set(reports)
+    }
+    fn fit(t: usize, need: usize, xs: &[u16], ys: &[u16]) -> Option<[u16; 4]> {
+        naive::fit(t, need, xs, ys)
+    }
+}
+
+fn written<W: Ways>(bytes: &Vec<u8>, out: &mut Text) {
+    out.length = text::text::<W>(bytes, &mut out.bytes);
+}
+
+pub fn writing(key: &str, title: &str, inputs: Vec<Vec<u8>>) -> Row<Vec<u8>, Text> {
+    row(
+        key,
+        title,
+        inputs,
+        Text { length: 0, bytes: [0; 512] },
+        &[
+            (Role::Proved, "proved", proved::text),
+            (Role::Plain, "plain", written::<Plain>),
+            (Role::Special, "bitset, Gao, one search", written::<Special>),
+            (Role::Naive, "all sets, all choices", written::<Naive>),
+        ],
+    )
+}

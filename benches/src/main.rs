@@ -1,0 +1,115 @@
+//! Times the proved library beside plain Rust of the same algorithms, beside specialists and beside the naive ways, and
+//! compares all their answers: a difference ends it with 1.
+
+mod bitset;
+mod check;
+mod contenders;
+mod gao;
+mod graphs;
+mod hunt;
+mod inputs;
+mod measure;
+mod naive;
+mod plain;
+mod points;
+mod proved;
+mod records;
+mod rng;
+mod rows;
+mod table;
+
+use measure::{Pace, Role};
+use plain::{happy_new, happy_now, happy_old};
+use std::process::ExitCode;
+use std::time::Instant;
+
+const USAGE: &str = "usage: benches [--quick]                     compares and times all
+       benches hunt [now|old|new [SEED [CLIMBS]]] hunts for the graph that costs the search most
+       benches count ROW proved|plain|empty N   asks N times, for a counter of instructions
+       benches rows                             names the rows";
+
+/// So many random questions of each kind, inputs to a row, and how they are timed.
+struct Plan {
+    questions: usize,
+    inputs: usize,
+    pace: Pace,
+}
+
+const FULL: Plan = Plan { questions: 8000, inputs: 64, pace: Pace { samples: 101, batch: 3.0e6 } };
+const QUICK: Plan = Plan { questions: 1000, inputs: 16, pace: Pace { samples: 31, batch: 1.0e5 } };
+
+fn main() -> ExitCode {
+    let args: Vec<String> = std::env::args().skip(1).collect();
+    let words: Vec<&str> = args.iter().map(String::as_str).collect();
+    let done = match words[..] {
+        [] => run(&FULL),
+        ["--quick"] => run(&QUICK),
+        ["hunt", ref rest @ ..] => hunt(rest),
+        ["count", row, who, times] => count(row, who, times),
+        ["rows"] => {
+            rows::all(1).iter().for_each(|row| println!("{:14} {}", row.key(), row.title()));
+            Ok(())
+        }
+        _ => Err(USAGE.to_string()),
+    };
+    match done {
+        Ok(()) => ExitCode::SUCCESS,
+        Err(what) => {
+            eprintln!("benches: {what}");
+            ExitCode::FAILURE
+        }
+    }
+}
+
+fn run(plan: &Plan) -> Result<(), String> {
+    let start = Instant::now();
+    let asked = check::check(1, plan.questions)?;
+    let rows = rows::all(plan.inputs);
+    for row in &rows {
+        row.compare()?;
+    }
+    println!("All answers agree: {asked} random questions, {} rows of {} inputs.\n", rows.len(), plan.inputs);
+    println!("{}", table::head());
+    let mut misses = Vec::new();
+    for row in &rows {
+        let times = row.measure(plan.pace);
+        println!("{}", table::line(row.title(), &times));
+        misses.extend(table::misses(row.key(), row.title(), &times));
+    }
+    println!("\nNanoseconds per call: the median of {} samples (tenth to ninetieth percentile).", plan.pace.samples);
+    println!("Misses: {}", if misses.is_empty() { "none" } else { "" });
+    misses.iter().for_each(|miss| println!("- {miss}"));
+    println!("Taken in {} s.", start.elapsed().as_secs());
+    Ok(())
+}
+
+fn number(word: &str) -> Result<u64, String> {
+    word.parse().map_err(|_| format!("not a number: {word}"))
+}
+
+fn hunt(words: &[&str]) -> Result<(), String> {
+    let search: hunt::Counted = match words.first() {
+        None | Some(&"now") => happy_now::counted,
+        Some(&"old") => happy_old::counted,
+        Some(&"new") => happy_new::counted,
+        Some(_) => return Err(USAGE.to_string()),
+    };
+    let seed = words.get(1).map_or(Ok(1), |word| number(word))?;
+    let climbs = words.get(2).map_or(Ok(100), |word| number(word))?;
+    let (calls, graph) = hunt::hunt(search, seed, climbs as usize);
+    println!("{calls} calls of the search\n{graph:?}");
+    Ok(())
+}
+
+fn count(key: &str, who: &str, times: &str) -> Result<(), String> {
+    let role = match who {
+        "proved" => Some(Role::Proved),
+        "plain" => Some(Role::Plain),
+        "empty" => None,
+        _ => return Err(USAGE.to_string()),
+    };
+    let rows = rows::all(FULL.inputs);
+    let row = rows.iter().find(|row| row.key() == key).ok_or(format!("no row {key}: see `benches rows`"))?;
+    row.repeat(role, number(times)? as usize);
+    Ok(())
+}

@@ -1,0 +1,156 @@
+//! Rows of the table: contenders that answer the same question, compared on every input and timed in turn.
+
+use std::fmt::Debug;
+use std::hint::black_box;
+use std::time::Instant;
+
+/// Who answers: the columns of the table. `Version` is compared, not timed.
+#[derive(Clone, Copy, PartialEq, Eq)]
+pub enum Role {
+    Proved,
+    Plain,
+    Special,
+    Naive,
+    Version,
+}
+
+pub const TIMED: [Role; 4] = [Role::Proved, Role::Plain, Role::Special, Role::Naive];
+
+pub struct Contender<I, O> {
+    pub role: Role,
+    pub name: &'static str,
+    pub call: fn(&I, &mut O),
+}
+
+pub struct Row<I, O> {
+    pub key: String,
+    pub title: String,
+    pub inputs: Vec<I>,
+    pub blank: O,
+    pub contenders: Vec<Contender<I, O>>,
+}
+
+#[derive(Clone, Copy)]
+pub struct Pace {
+    pub samples: usize,
+    /// Nanoseconds that a batch takes, if a call is not longer.
+    pub batch: f64,
+}
+
+/// The times of one contender in ns per call, one for each sample.
+pub struct Times {
+    pub role: Role,
+    pub name: &'static str,
+    pub samples: Vec<f64>,
+}
+
+/// A row, whatever it asks.
+pub trait Bench {
+    fn key(&self) -> &str;
+    fn title(&self) -> &str;
+    /// Whether all contenders answer alike on every input.
+    fn compare(&self) -> Result<(), String>;
+    fn measure(&self, pace: Pace) -> Vec<Times>;
+    /// Calls one contender over and over; nothing is called where there is no such role.
+    fn repeat(&self, role: Option<Role>, times: usize);
+}
+
+impl<I, O: Clone + PartialEq + Debug> Bench for Row<I, O> {
+    fn key(&self) -> &str {
+        &self.key
+    }
+
+    fn title(&self) -> &str {
+        &self.title
+    }
+
+    fn compare(&self) -> Result<(), String> {
+        for (k, input) in self.inputs.iter().enumerate() {
+            let mut first = None;
+            for contender in &self.contenders {
+                let mut out = self.blank.clone();
+                (contender.call)(input, &mut out);
+                let (name, answer) = first.get_or_insert((contender.name, out.clone()));
+                if *answer != out {
+                    let title = &self.title;
+                    return Err(format!(
+                        "{title}, input {k}: {name} answers {answer:?}, {} answers {out:?}",
+                        contender.name
+                    ));
+                }
+            }
+        }
+        Ok(())
+    }
+
+    fn measure(&self, pace: Pace) -> Vec<Times> {
+        let timed: Vec<_> = self.contenders.iter().filter(|c| c.role != Role::Version).collect();
+        let calls: Vec<usize> = timed.iter().map(|c| self.calls(c, pace)).collect();
+        let mut times: Vec<Times> =
+            timed.iter().map(|c| Times { role: c.role, name: c.name, samples: Vec::new() }).collect();
+        for sample in 0..pace.samples {
+            for turn in 0..timed.len() {
+                let k = (turn + sample) % timed.len();
+                times[k].samples.push(self.batch(timed[k].call, sample * calls[k], calls[k]));
+            }
+        }
+        times
+    }
+
+    fn repeat(&self, role: Option<Role>, times: usize) {
+        let mut out = self.blank.clone();
+        let found = self.contenders.iter().find(|c| Some(c.role) == role);
+        for k in 0..times {
+            let input = black_box(&self.inputs[k % self.inputs.len()]);
+            if let Some(contender) = found {
+                (contender.call)(input, &mut out);
+            }
+            black_box(&mut out);
+        }
+    }
+}
+
+impl<I, O: Clone> Row<I, O> {
+    /// Nanoseconds per call, over the inputs from a place on, in turn.
+    fn batch(&self, call: fn(&I, &mut O), from: usize, calls: usize) -> f64 {
+        let call = black_box(call);
+        let mut out = self.blank.clone();
+        let mut at = from % self.inputs.len();
+        let start = Instant::now();
+        for _ in 0..calls {
+            call(black_box(&self.inputs[at]), &mut out);
+            black_box(&mut out);
+            at += 1;
+            if at == self.inputs.len() {
+                at = 0;
+            }
+        }
+        start.elapsed().as_nanos() as f64 / calls as f64
+    }
+
+    /// How many calls a batch has: whole turns over the inputs, unless one turn takes too long for the naive way.
+    fn calls(&self, contender: &Contender<I, O>, pace: Pace) -> usize {
+        let all = self.inputs.len();
+        let first = if contender.role == Role::Naive { 1 } else { all };
+        let cost = self.batch(contender.call, 0, first);
+        let turns = pace.batch / (cost * all as f64);
+        if contender.role == Role::Naive && turns < 1.0 {
+            return ((pace.batch / cost) as usize).max(1);
+        }
+        (turns as usize).max(1) * all
+    }
+}
+
+/// The value that a part of the samples lies below: 0.5 for the median.
+pub fn quantile(samples: &[f64], part: f64) -> f64 {
+    let mut sorted = samples.to_vec();
+    sorted.sort_by(f64::total_cmp);
+    sorted[((sorted.len() - 1) as f64 * part).round() as usize]
+}
+
+/// How many times longer one takes than the other: the median over pairs of samples taken one after the other, so that
+/// a machine that slows down for a while does so for both.
+pub fn ratio(one: &Times, other: &Times) -> f64 {
+    let ratios: Vec<f64> = one.samples.iter().zip(&other.samples).map(|(a, b)| a / b).collect();
+    quantile(&ratios, 0.5)
+}

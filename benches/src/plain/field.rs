@@ -1,0 +1,42 @@
+//! Arithmetic modulo 65,521 on numbers of 32 bits. Arguments are below 65,536, answers below 65,521.
+
+pub const P: u32 = 65_521;
+
+#[inline(always)]
+pub fn mul(a: u32, b: u32) -> u32 {
+    a * b % P
+}
+
+/// c + a b by one reduction.
+#[inline(always)]
+pub fn mul_add(a: u32, b: u32, c: u32) -> u32 {
+    (a * b + c) % P
+}
+
+/// a - b, for residues.
+#[inline(always)]
+pub fn sub(a: u32, b: u32) -> u32 {
+    let d = a.wrapping_sub(b);
+    d.min(d.wrapping_add(P))
+}
+
+/// The inverse of a residue, 0 for 0: each turn puts the remainder of the prime by d in the place of d.
+#[inline]
+pub fn inverse(a: u32) -> u32 {
+    let mut d = a;
+    if d == 0 {
+        return 0;
+    }
+    let mut t = 1;
+    while 1 < d {
+        t = mul(t, P - P / d);
+        d = P % d;
+    }
+    t
+}
+
+/// The value at x, by Horner's rule.
+#[inline(always)]
+pub fn value(f: &[u16], x: u32) -> u32 {
+    f.iter().rev().fold(0, |v, &c| mul_add(x, v, u32::from(c)))
+}

@@ -1,0 +1,105 @@
+//! What the decoders by trial share: interpolation, and whether enough points agree.
+
+use super::field::{inverse, mul, mul_add, sub, P};
+
+/// At most four points that were taken.
+#[derive(Clone, Copy, Default)]
+pub struct Taken {
+    pub count: usize,
+    pub xs: [u32; 4],
+    pub ys: [u32; 4],
+}
+
+impl Taken {
+    #[inline(always)]
+    pub fn with(mut self, x: u16, y: u16) -> Taken {
+        self.xs[self.count & 3] = u32::from(x);
+        self.ys[self.count & 3] = u32::from(y);
+        self.count += 1;
+        self
+    }
+}
+
+#[inline(always)]
+pub fn is_sent(y: u16) -> bool {
+    u32::from(y) < P
+}
+
+/// The coefficients of the polynomial through the points taken: Newton's divided differences, multiplied out.
+#[inline]
+pub fn interpolate(taken: &Taken) -> [u16; 4] {
+    let (xs, mut ys, count) = (&taken.xs, taken.ys, taken.count.min(4));
+    for i in 0..count {
+        for j in i + 1..count {
+            ys[j] = mul(sub(ys[j], ys[i]), inverse(sub(xs[j], xs[i])));
+        }
+    }
+    multiplied_out(xs, ys, count)
+}
+
+/// Newton's form with `count` coefficients, multiplied out.
+#[inline(always)]
+pub fn multiplied_out(xs: &[u32; 4], mut ys: [u32; 4], count: usize) -> [u16; 4] {
+    for i in (0..count.min(4)).rev() {
+        let minus = P - xs[i];
+        for j in i..count.min(4) - 1 {
+            ys[j] = mul_add(minus, ys[j + 1], ys[j]);
+        }
+    }
+    ys.map(|y| y as u16)
+}
+
+/// The value of f at x; coefficients above the degree are 0.
+#[inline(always)]
+pub fn value(f: &[u16], x: u16) -> u16 {
+    super::field::value(f, u32::from(x)) as u16
+}
+
+/// Whether at least `need` points agree with f: from the end, and no further where too many have differed.
+#[inline]
+pub fn enough(f: &[u16], need: usize, xs: &[u16], ys: &[u16]) -> bool {
+    if xs.len() < need {
+        return false;
+    }
+    let mut spare = xs.len() - need;
+    for (&x, &y) in xs.iter().zip(ys).rev() {
+        if value(f, x) != y {
+            if spare == 0 {
+                return false;
+            }
+            spare -= 1;
+        }
+    }
+    true
+}
+
+/// The first polynomial that passes the test, of those through `more` points from place i on besides those taken, with
+/// at most `spare` values passed over that were sent.
+pub fn search(
+    xs: &[u16],
+    ys: &[u16],
+    test: &impl Fn(&Taken) -> Option<[u16; 4]>,
+    i: usize,
+    more: usize,
+    spare: usize,
+    taken: Taken,
+) -> Option<[u16; 4]> {
+    if more == 0 {
+        return test(&taken);
+    }
+    let (&x, &y) = (xs.get(i)?, ys.get(i)?);
+    if !is_sent(y) {
+        return search(xs, ys, test, i + 1, more, spare, taken);
+    }
+    let with_it = search(xs, ys, test, i + 1, more - 1, spare, taken.with(x, y));
+    if spare == 0 || with_it.is_some() {
+        return with_it;
+    }
+    search(xs, ys, test, i + 1, more, spare - 1, taken)
+}
+
+/// How many of the values sent may be wrong.
+#[inline]
+pub fn surplus(need: usize, ys: &[u16]) -> usize {
+    ys.iter().filter(|&&y| is_sent(y)).count().saturating_sub(need)
+}

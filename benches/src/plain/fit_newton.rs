@@ -1,0 +1,82 @@
+//! Decoding by the second algorithm: the same choices in the same order, but the search carries Newton's form of the
+//! points taken so far, and the count stops where too many have differed.
+
+use super::field::{inverse, mul, mul_add, sub};
+use super::fit::{is_sent, multiplied_out, surplus};
+
+/// Newton's form of the points taken: their places, and the coefficients.
+#[derive(Clone, Copy, Default)]
+struct Form {
+    count: usize,
+    xs: [u32; 4],
+    coefficients: [u32; 4],
+}
+
+struct Search<'a> {
+    need: usize,
+    xs: &'a [u16],
+    ys: &'a [u16],
+}
+
+pub fn fit(t: usize, need: usize, xs: &[u16], ys: &[u16]) -> Option<[u16; 4]> {
+    if 3 < t || xs.len() != ys.len() || xs.len() < need {
+        return None;
+    }
+    let form = Search { need, xs, ys }.from(0, t + 1, surplus(need, ys), Form::default())?;
+    Some(multiplied_out(&form.xs, form.coefficients, form.count))
+}
+
+impl Form {
+    /// With one point more: its coefficient is the divided difference over all points taken.
+    #[inline(always)]
+    fn with(mut self, x: u16, y: u16) -> Form {
+        let (x, mut c) = (u32::from(x), u32::from(y));
+        for k in 0..self.count.min(4) {
+            c = mul(sub(c, self.coefficients[k]), inverse(sub(x, self.xs[k])));
+        }
+        self.xs[self.count & 3] = x;
+        self.coefficients[self.count & 3] = c;
+        self.count += 1;
+        self
+    }
+
+    /// The value at x, by Horner's rule on the differences.
+    #[inline(always)]
+    fn value(&self, x: u16) -> u32 {
+        let mut v = 0u32;
+        for k in (0..self.count.min(4)).rev() {
+            v = mul_add(sub(u32::from(x), self.xs[k]), v, self.coefficients[k]);
+        }
+        v
+    }
+}
+
+impl Search<'_> {
+    fn enough(&self, form: &Form) -> bool {
+        let mut spare = self.xs.len() - self.need;
+        for (&x, &y) in self.xs.iter().zip(self.ys).rev() {
+            if form.value(x) != u32::from(y) {
+                if spare == 0 {
+                    return false;
+                }
+                spare -= 1;
+            }
+        }
+        true
+    }
+
+    fn from(&self, i: usize, more: usize, spare: usize, form: Form) -> Option<Form> {
+        if more == 0 {
+            return self.enough(&form).then_some(form);
+        }
+        let (&x, &y) = (self.xs.get(i)?, self.ys.get(i)?);
+        if !is_sent(y) {
+            return self.from(i + 1, more, spare, form);
+        }
+        let with_it = self.from(i + 1, more - 1, spare, form.with(x, y));
+        if spare == 0 || with_it.is_some() {
+            return with_it;
+        }
+        self.from(i + 1, more, spare - 1, form)
+    }
+}

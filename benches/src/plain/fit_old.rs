@@ -1,0 +1,16 @@
+//! Decoding by the first algorithm: every choice of t + 1 among the first t + 1 + spare points sent is interpolated, and
+//! all points are counted.
+
+use super::fit::{interpolate, search, surplus, value, Taken};
+
+pub fn fit(t: usize, need: usize, xs: &[u16], ys: &[u16]) -> Option<[u16; 4]> {
+    if 3 < t || xs.len() != ys.len() {
+        return None;
+    }
+    let test = |taken: &Taken| {
+        let f = interpolate(taken);
+        let hits = xs.iter().zip(ys).filter(|&(&x, &y)| value(&f[..taken.count], x) == y).count();
+        (need <= hits).then_some(f)
+    };
+    search(xs, ys, &test, 0, t + 1, surplus(need, ys), Taken::default())
+}

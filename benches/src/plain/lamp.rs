@@ -1,0 +1,91 @@
+//! A lamp run on a record: its deal, its report on the pairs, and settling.
+
+use super::deal::residues;
+use super::field::value;
+use super::record::{number, numbers, Record};
+
+/// Row and column as dealt, with zeros behind them.
+struct Deal {
+    row: [u16; 4],
+    column: [u16; 4],
+    width: usize,
+}
+
+impl Deal {
+    fn of(record: &Record, i: u8) -> Deal {
+        let width = usize::from(record.t) + 1;
+        let from = 4 * width * (usize::from(i) - 1);
+        let (row, column) = record.deals[from..from + 4 * width].split_at(2 * width);
+        Deal { row: numbers(row), column: numbers(column), width }
+    }
+
+    fn row_at(&self, j: u8) -> u16 {
+        value(&self.row[..self.width], u32::from(j)) as u16
+    }
+
+    fn column_at(&self, j: u8) -> u16 {
+        value(&self.column[..self.width], u32::from(j)) as u16
+    }
+
+    fn sound(&self, i: u8) -> bool {
+        residues(&self.row) && residues(&self.column) && self.row_at(i) == self.column_at(i)
+    }
+}
+
+/// The pairs that lamp i heard, two numbers for each lamp.
+fn heard<'a>(record: &Record<'a>, i: u8) -> &'a [u8] {
+    let width = 4 * usize::from(record.n);
+    let from = width * (usize::from(i) - 1);
+    &record.pairs[from..from + width]
+}
+
+/// Lamp i's report on the pairs it heard.
+pub fn report(record: &Record, i: u8) -> u16 {
+    let deal = Deal::of(record, i);
+    if !deal.sound(i) {
+        return 0;
+    }
+    let mut bits = 0;
+    for (pair, j) in heard(record, i).chunks_exact(4).zip(1u8..) {
+        if j != i && number(pair) == deal.column_at(j) && number(&pair[2..]) == deal.row_at(j) {
+            bits |= 1 << (j - 1);
+        }
+    }
+    bits
+}
+
+/// How the happy set and a fit are found. With `ONCE` the happy set of the reports is found once for all lamps.
+pub trait Ways {
+    const ONCE: bool;
+    fn happy_set(reports: &[u16]) -> u16;
+    fn fit(t: usize, need: usize, xs: &[u16], ys: &[u16]) -> Option<[u16; 4]>;
+}
+
+/// The constant of the column that fits what the happy lamps said first.
+fn repaired<W: Ways>(record: &Record, i: u8, set: u16) -> Option<u16> {
+    let (mut xs, mut ys, mut count) = ([0; 16], [0; 16], 0);
+    for (pair, j) in heard(record, i).chunks_exact(4).zip(1u16..) {
+        if set >> (j - 1) & 1 == 1 {
+            xs[count] = j;
+            ys[count] = number(pair);
+            count += 1;
+        }
+    }
+    let t = usize::from(record.t);
+    W::fit(t, count - t, &xs[..count], &ys[..count]).map(|f| f[0])
+}
+
+/// Lamp i's share, or the number of its refusal.
+pub fn settle<W: Ways>(record: &Record, i: u8, reports: &[u16], known: u16) -> Result<u16, u8> {
+    if report(record, i) != reports[usize::from(i) - 1] {
+        return Err(7);
+    }
+    let set = if W::ONCE { known } else { W::happy_set(reports) };
+    if set.count_ones() < u32::from(record.n - record.t) {
+        return Err(8);
+    }
+    if set >> (i - 1) & 1 == 1 {
+        return Ok(Deal::of(record, i).column[0]);
+    }
+    repaired::<W>(record, i, set).ok_or(9)
+}

@@ -1,0 +1,22 @@
+//! Plain, unproved Rust of the proved library's algorithms, written for speed.
+//!
+//! The last two lines here are the one place that says which versions the library has now; the others are compared with
+//! them, not timed.
+
+pub mod deal;
+pub mod field;
+pub mod fit;
+pub mod fit_groups;
+pub mod fit_newton;
+pub mod fit_old;
+pub mod happy;
+pub mod happy_new;
+pub mod happy_old;
+pub mod lamp;
+pub mod letters;
+pub mod record;
+pub mod text;
+
+// The versions that the library has now.
+pub use fit_old as fit_now;
+pub use happy_old as happy_now;

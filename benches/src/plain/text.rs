@@ -1,0 +1,65 @@
+//! The text of a record, in the proved library's way: every lamp is run on it, each with a search of its own.
+
+use super::lamp::{settle, Ways};
+use super::letters::Letters;
+use super::record::{numbers, read, Record};
+
+/// Writes the text over the front of the buffer and answers its length.
+pub fn text<W: Ways>(bytes: &[u8], out: &mut [u8; 512]) -> usize {
+    let mut letters = Letters { out, at: 0 };
+    match read(bytes) {
+        Err(refusal) => letters.put_line(b"record refused ", u16::from(refusal)),
+        Ok(record) => put_record::<W>(&record, &mut letters),
+    }
+    letters.at
+}
+
+fn put_record<W: Ways>(record: &Record, letters: &mut Letters) {
+    let n = usize::from(record.n);
+    let list: [u16; 16] = numbers(record.reports);
+    let reports = &list[..n];
+    let set = W::happy_set(reports);
+    let accepted = u32::from(record.n - record.t) <= set.count_ones();
+    letters.put(b"size ");
+    letters.put_number(u16::from(record.n));
+    letters.put_line(b" ", u16::from(record.t));
+    put_verdict(accepted, set, n, letters);
+    for i in 1..=record.n {
+        letters.put(b"lamp ");
+        letters.put_number(u16::from(i));
+        match settle::<W>(record, i, reports, set) {
+            Ok(share) => letters.put_line(b" share ", share),
+            Err(refusal) => letters.put_line(b" refused ", u16::from(refusal)),
+        }
+    }
+    put_last::<W>(record, accepted, letters);
+}
+
+fn put_verdict(accepted: bool, set: u16, n: usize, letters: &mut Letters) {
+    if !accepted {
+        return letters.put(b"dealer rejected\n");
+    }
+    letters.put(b"dealer accepted\nhappy");
+    for k in 0..n as u16 {
+        if set >> k & 1 == 1 {
+            letters.put(b" ");
+            letters.put_number(k + 1);
+        }
+    }
+    letters.put(b"\n");
+}
+
+/// The points of sixteen lamps.
+pub const POINTS: [u16; 16] = [1, 2, 3, 4, 5, 6, 7, 8, 9, 10, 11, 12, 13, 14, 15, 16];
+
+fn put_last<W: Ways>(record: &Record, accepted: bool, letters: &mut Letters) {
+    if !accepted {
+        return letters.put_line(b"opened refused ", 8);
+    }
+    let (n, t) = (usize::from(record.n), usize::from(record.t));
+    let shares: [u16; 16] = numbers(record.shares);
+    match W::fit(t, n - t, &POINTS[..n], &shares[..n]) {
+        Some(f) => letters.put_line(b"opened ", f[0]),
+        None => letters.put_line(b"opened refused ", 10),
+    }
+}

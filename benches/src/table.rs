@@ -1,0 +1,64 @@
+//! The table, in the form that docs/PERFORMANCE.md shows, and what misses its target.
+
+use crate::measure::{quantile, ratio, Role, Times, TIMED};
+
+/// At most so many times plain Rust of the same algorithm.
+const TARGET: f64 = 1.25;
+/// At least so many times faster than the naive way.
+const FASTER: f64 = 10.0;
+
+pub fn head() -> String {
+    let names = ["", "proved", "plain", "specialist", "naive"];
+    let ratios = ["proved / plain", "proved / specialist", "naive / proved"];
+    let head: Vec<&str> = names.into_iter().chain(ratios).collect();
+    format!("| {} |\n|{}", head.join(" | "), "---|".repeat(head.len()))
+}
+
+fn of(times: &[Times], role: Role) -> Option<&Times> {
+    times.iter().find(|t| t.role == role)
+}
+
+/// The median and, in brackets, where the middle eight tenths lie.
+fn cell(times: Option<&Times>) -> String {
+    let Some(times) = times else {
+        return String::new();
+    };
+    let at = |part| quantile(&times.samples, part);
+    let name = if times.role == Role::Special { format!("{}: ", times.name) } else { String::new() };
+    format!("{name}{:.0} ({:.0} to {:.0})", at(0.5), at(0.1), at(0.9))
+}
+
+fn ratio_of(times: &[Times], one: Role, other: Role) -> Option<f64> {
+    Some(ratio(of(times, one)?, of(times, other)?))
+}
+
+fn shown(ratio: Option<f64>) -> String {
+    ratio.map_or(String::new(), |r| if r < 100.0 { format!("{r:.2}") } else { format!("{r:.0}") })
+}
+
+pub fn line(title: &str, times: &[Times]) -> String {
+    let mut cells = vec![title.to_string()];
+    cells.extend(TIMED.map(|role| cell(of(times, role))));
+    cells.push(shown(ratio_of(times, Role::Proved, Role::Plain)));
+    cells.push(shown(ratio_of(times, Role::Proved, Role::Special)));
+    cells.push(shown(ratio_of(times, Role::Naive, Role::Proved)));
+    format!("| {} |", cells.join(" | "))
+}
+
+/// What this row misses.
+pub fn misses(key: &str, title: &str, times: &[Times]) -> Vec<String> {
+    let mut misses = Vec::new();
+    if let Some(r) = ratio_of(times, Role::Proved, Role::Plain).filter(|&r| TARGET < r) {
+        misses.push(format!("{title}: {r:.2} times plain Rust, target {TARGET}"));
+    }
+    let naive = ratio_of(times, Role::Naive, Role::Proved).filter(|_| has_naive_target(key));
+    if let Some(r) = naive.filter(|&r| r < FASTER) {
+        misses.push(format!("{title}: {r:.2} times faster than the naive way, target {FASTER}"));
+    }
+    misses
+}
+
+/// The rows at n = 16, t = 3 where the naive way has to try many.
+fn has_naive_target(key: &str) -> bool {
+    !["open5", "open9", "open13", "open16-none", "repair10", "text-example"].iter().any(|start| key.starts_with(start))
+}
