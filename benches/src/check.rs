@@ -4,6 +4,7 @@ use crate::contenders::{dealing, happy, opening, repairing, writing};
 use crate::graphs;
 use crate::inputs::Dealing;
 use crate::measure::Bench;
+use crate::plain::{happy_new, happy_old};
 use crate::points::{any_points, any_shares};
 use crate::records::any_record;
 use crate::rng::Rng;
@@ -12,9 +13,11 @@ use crate::rng::Rng;
 pub fn check(seed: u64, count: usize) -> Result<usize, String> {
     let mut rng = Rng::new(seed);
     let rng = &mut rng;
+    let reports =
+        (0..count).map(|_| any_reports(rng)).chain([happy_old::WORST.to_vec(), happy_new::WORST.to_vec()]).collect();
     let rows: [Box<dyn Bench>; 5] = [
         Box::new(dealing("", "random dealing", (0..count).map(|_| any_dealing(rng)).collect())),
-        Box::new(happy("", "random reports", (0..count).map(|_| any_reports(rng)).collect())),
+        Box::new(happy("", "random reports", reports)),
         Box::new(repairing("", "random points", (0..count).map(|_| any_points(rng)).collect())),
         Box::new(opening("", "random shares", (0..count).map(|_| any_shares(rng)).collect())),
         Box::new(writing("", "random record", (0..count / 4).map(|_| any_record(rng)).collect())),

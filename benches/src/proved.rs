@@ -23,9 +23,8 @@ extern "C" {
 
 pub fn deal(input: &Dealing, out: &mut Deals) {
     let room = &mut out.deals[..input.room];
-    out.answer = unsafe {
-        doumbaht_deal(input.n, input.t, input.f.as_ptr(), input.f.len(), room.as_mut_ptr(), room.len())
-    };
+    out.answer =
+        unsafe { doumbaht_deal(input.n, input.t, input.f.as_ptr(), input.f.len(), room.as_mut_ptr(), room.len()) };
 }
 
 pub fn happy_set(reports: &Vec<u16>, out: &mut u16) {
@@ -36,15 +35,7 @@ pub fn repair(input: &Points, out: &mut (u8, [u16; 4])) {
     let (xs, ys) = (&input.xs, &input.ys);
     let column = &mut out.1[..usize::from(input.t) + 1];
     out.0 = unsafe {
-        doumbaht_repair(
-            input.t,
-            xs.as_ptr(),
-            xs.len(),
-            ys.as_ptr(),
-            ys.len(),
-            column.as_mut_ptr(),
-            column.len(),
-        )
+        doumbaht_repair(input.t, xs.as_ptr(), xs.len(), ys.as_ptr(), ys.len(), column.as_mut_ptr(), column.len())
     };
 }
 
