@@ -44,43 +44,70 @@ impl Sent {
         sent
     }
 
-    /// For each point the inverse of the product of its differences from the points before it, all by one inversion.
-    fn inverses(&self) -> [u32; 16] {
-        let (mut own, mut before, mut all) = ([0u32; 16], [0u32; 16], 1);
+    /// Row i holds the products of the first differences of point i from those before it: Newton's basis there.
+    fn basis(&self) -> [[u32; 16]; 16] {
+        let mut basis = [[0; 16]; 16];
+        for (i, row) in basis.iter_mut().enumerate().take(self.count) {
+            let mut w = 1;
+            for k in 0..i {
+                row[k] = w;
+                w = mul(w, sub(self.xs[i], self.xs[k]));
+            }
+            row[i] = w;
+        }
+        basis
+    }
+
+    /// The coefficients of the polynomial through all points in Newton's basis.
+    fn newton(&self) -> [u32; 16] {
+        let basis = self.basis();
+        let inverses = inverses(&basis, self.count);
+        let mut coefficients = [0; 16];
         for i in 0..self.count.min(16) {
-            own[i] = self.xs[..i].iter().fold(1, |w, &x| mul(w, sub(self.xs[i], x)));
-            before[i] = all;
-            all = mul(all, own[i]);
+            let v = reduced(coefficients[..i].iter().zip(&basis[i]).map(|(&c, &w)| u64::from(c) * u64::from(w)).sum());
+            coefficients[i] = mul(sub(self.ys[i], v), inverses[i]);
         }
-        let mut back = inverse(all);
-        for i in (0..self.count.min(16)).rev() {
-            let w = own[i];
-            own[i] = mul(back, before[i]);
-            back = mul(back, w);
-        }
-        own
+        coefficients
     }
 
     /// The product of all X - x, and the polynomial through all points.
     fn interpolate(&self) -> (Polynomial, Polynomial) {
-        let inverses = self.inverses();
-        let (mut product, mut through): (Polynomial, Polynomial) = ([0; 18], [0; 18]);
+        let coefficients = self.newton();
+        let (mut product, mut through): (Polynomial, [u64; 18]) = ([0; 18], [0; 18]);
         product[0] = 1;
         for i in 0..self.count.min(16) {
-            let x = self.xs[i];
-            let v = through[..i].iter().rev().fold(0, |v, &c| mul_add(x, v, c));
-            let c = mul(sub(self.ys[i], v), inverses[i]);
             for (place, &p) in through.iter_mut().zip(&product[..=i]) {
-                *place = mul_add(c, p, *place);
+                *place += u64::from(coefficients[i]) * u64::from(p);
             }
-            let minus = P - x;
+            let minus = P - self.xs[i];
             for k in (1..=i + 1).rev() {
                 product[k] = mul_add(minus, product[k], product[k - 1]);
             }
             product[0] = mul(minus, product[0]);
         }
-        (product, through)
+        (product, through.map(reduced))
     }
+}
+
+/// Sums of sixteen products fit 64 bits and are reduced once.
+#[inline(always)]
+fn reduced(sum: u64) -> u32 {
+    (sum % u64::from(P)) as u32
+}
+
+/// The inverses of the diagonal, all by one inversion.
+fn inverses(basis: &[[u32; 16]; 16], count: usize) -> [u32; 16] {
+    let (mut before, mut all) = ([0; 16], 1);
+    for i in 0..count.min(16) {
+        before[i] = all;
+        all = mul(all, basis[i][i]);
+    }
+    let mut back = inverse(all);
+    for i in (0..count.min(16)).rev() {
+        before[i] = mul(back, before[i]);
+        back = mul(back, basis[i][i]);
+    }
+    before
 }
 
 /// Two remainders in a row, the cofactors that take the interpolation to them, and their degrees. A remainder of 0 has
@@ -119,16 +146,18 @@ impl Euclid {
         }
     }
 
-    /// One step: the last remainder divided by this one.
+    /// One step: the last remainder less multiples of this one. It is scaled instead of divided by, which costs no
+    /// inversion: remainder and cofactor are scaled alike, and their quotient is what counts.
     fn divide(&mut self) {
-        let lead = inverse(self.remainder[self.degree]);
+        let lead = self.remainder[self.degree];
         let steps = self.last_degree - self.degree;
+        let (below, top) = (self.cofactor_degree, self.cofactor_degree + steps);
         for s in (0..=steps).rev() {
-            let minus = P - mul(self.last[s + self.degree], lead);
-            subtract(&mut self.last[s..], &self.remainder[..=self.degree], minus);
-            subtract(&mut self.last_cofactor[s..], &self.cofactor[..=self.cofactor_degree], minus);
+            let minus = P - self.last[s + self.degree];
+            combine(&mut self.last[..=s + self.degree], lead, &self.remainder[..=self.degree], s, minus);
+            combine(&mut self.last_cofactor[..=top], lead, &self.cofactor[..=below], s, minus);
         }
-        self.cofactor_degree += steps;
+        self.cofactor_degree = top;
         self.last_degree = self.degree;
         std::mem::swap(&mut self.last, &mut self.remainder);
         std::mem::swap(&mut self.last_cofactor, &mut self.cofactor);
@@ -150,16 +179,21 @@ impl Euclid {
         for s in (0..=self.degree - below).rev() {
             let c = mul(self.remainder[s + below], lead);
             f[s & 3] = c as u16;
-            subtract(&mut self.remainder[s..], &self.cofactor[..=below], P - c);
+            combine(&mut self.remainder[s..=s + below], 1, &self.cofactor[..=below], 0, P - c);
         }
         self.remainder.iter().all(|&c| c == 0).then_some(f)
     }
 }
 
-/// Adds minus times the part: the front of `list` less a multiple of the part.
+/// Puts in the place of the list `scale` times it, plus `minus` times the part, moved up by some places.
 #[inline(always)]
-fn subtract(list: &mut [u32], part: &[u32], minus: u32) {
-    for (place, &c) in list.iter_mut().zip(part) {
-        *place = mul_add(minus, c, *place);
+fn combine(list: &mut [u32], scale: u32, part: &[u32], by: usize, minus: u32) {
+    let (low, rest) = list.split_at_mut(by);
+    let (middle, high) = rest.split_at_mut(part.len());
+    for place in low.iter_mut().chain(high) {
+        *place = mul(scale, *place);
+    }
+    for (place, &c) in middle.iter_mut().zip(part) {
+        *place = reduced(u64::from(scale) * u64::from(*place) + u64::from(minus) * u64::from(c));
     }
 }

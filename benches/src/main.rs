@@ -20,12 +20,13 @@ mod table;
 
 use measure::{Pace, Role};
 use plain::{happy_new, happy_now, happy_old};
+use std::io::Write;
 use std::process::ExitCode;
 use std::time::Instant;
 
 const USAGE: &str = "usage: benches [--quick]                     compares and times all
        benches hunt [now|old|new [SEED [CLIMBS]]] hunts for the graph that costs the search most
-       benches count ROW proved|plain|empty N   asks N times, for a counter of instructions
+       benches count ROW proved|plain|specialist|empty N   asks N times, for a counter of instructions
        benches rows                             names the rows";
 
 /// So many random questions of each kind, inputs to a row, and how they are timed.
@@ -46,10 +47,7 @@ fn main() -> ExitCode {
         ["--quick"] => run(&QUICK),
         ["hunt", ref rest @ ..] => hunt(rest),
         ["count", row, who, times] => count(row, who, times),
-        ["rows"] => {
-            rows::all(1).iter().for_each(|row| println!("{:14} {}", row.key(), row.title()));
-            Ok(())
-        }
+        ["rows"] => rows::all(1).iter().try_for_each(|row| say(&format!("{:14} {}", row.key(), row.title()))),
         _ => Err(USAGE.to_string()),
     };
     match done {
@@ -68,19 +66,24 @@ fn run(plan: &Plan) -> Result<(), String> {
     for row in &rows {
         row.compare()?;
     }
-    println!("All answers agree: {asked} random questions, {} rows of {} inputs.\n", rows.len(), plan.inputs);
-    println!("{}", table::head());
+    say(&format!("All answers agree: {asked} random questions, {} rows of {} inputs.\n", rows.len(), plan.inputs))?;
+    say(&table::head())?;
     let mut misses = Vec::new();
     for row in &rows {
         let times = row.measure(plan.pace);
-        println!("{}", table::line(row.title(), &times));
+        say(&table::line(row.title(), &times))?;
         misses.extend(table::misses(row.key(), row.title(), &times));
     }
-    println!("\nNanoseconds per call: the median of {} samples (tenth to ninetieth percentile).", plan.pace.samples);
-    println!("Misses: {}", if misses.is_empty() { "none" } else { "" });
-    misses.iter().for_each(|miss| println!("- {miss}"));
-    println!("Taken in {} s.", start.elapsed().as_secs());
-    Ok(())
+    let samples = plan.pace.samples;
+    say(&format!("\nNanoseconds per call: the median of {samples} samples (tenth to ninetieth percentile)."))?;
+    say(&format!("Misses: {}", if misses.is_empty() { "none" } else { "" }))?;
+    misses.iter().try_for_each(|miss| say(&format!("- {miss}")))?;
+    say(&format!("Taken in {} s.", start.elapsed().as_secs()))
+}
+
+/// Prints a line; a reader that has gone away is an error, not a panic.
+fn say(line: &str) -> Result<(), String> {
+    writeln!(std::io::stdout(), "{line}").map_err(|error| error.to_string())
 }
 
 fn number(word: &str) -> Result<u64, String> {
@@ -97,14 +100,14 @@ fn hunt(words: &[&str]) -> Result<(), String> {
     let seed = words.get(1).map_or(Ok(1), |word| number(word))?;
     let climbs = words.get(2).map_or(Ok(100), |word| number(word))?;
     let (calls, graph) = hunt::hunt(search, seed, climbs as usize);
-    println!("{calls} calls of the search\n{graph:?}");
-    Ok(())
+    say(&format!("{calls} calls of the search\n{graph:?}"))
 }
 
 fn count(key: &str, who: &str, times: &str) -> Result<(), String> {
     let role = match who {
         "proved" => Some(Role::Proved),
         "plain" => Some(Role::Plain),
+        "specialist" => Some(Role::Special),
         "empty" => None,
         _ => return Err(USAGE.to_string()),
     };

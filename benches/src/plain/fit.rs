@@ -55,15 +55,23 @@ pub fn value(f: &[u16], x: u16) -> u16 {
     super::field::value(f, u32::from(x)) as u16
 }
 
+/// The value at x of four coefficients: Horner's rule without a loop.
+#[inline(always)]
+fn cubic(f: &[u16; 4], x: u16) -> u16 {
+    let [a, b, c, d] = f.map(u32::from);
+    let x = u32::from(x);
+    mul_add(x, mul_add(x, mul_add(x, d, c), b), a) as u16
+}
+
 /// Whether at least `need` points agree with f: from the end, and no further where too many have differed.
 #[inline]
-pub fn enough(f: &[u16], need: usize, xs: &[u16], ys: &[u16]) -> bool {
+pub fn enough(f: &[u16; 4], need: usize, xs: &[u16], ys: &[u16]) -> bool {
     if xs.len() < need {
         return false;
     }
     let mut spare = xs.len() - need;
     for (&x, &y) in xs.iter().zip(ys).rev() {
-        if value(f, x) != y {
+        if cubic(f, x) != y {
             if spare == 0 {
                 return false;
             }
