@@ -2,7 +2,7 @@
 
 use crate::contenders::{dealing, happy, opening, repairing, writing};
 use crate::graphs;
-use crate::inputs::Dealing;
+use crate::inputs::{Dealing, Reports};
 use crate::measure::Bench;
 use crate::plain::{happy_new, happy_old};
 use crate::points::{any_points, any_shares};
@@ -13,8 +13,8 @@ use crate::rng::Rng;
 pub fn check(seed: u64, count: usize) -> Result<usize, String> {
     let mut rng = Rng::new(seed);
     let rng = &mut rng;
-    let reports =
-        (0..count).map(|_| any_reports(rng)).chain([happy_old::WORST.to_vec(), happy_new::WORST.to_vec()]).collect();
+    let worst = [happy_old::WORST, happy_new::WORST].map(|graph| Reports(graph.to_vec()));
+    let reports = (0..count).map(|_| any_reports(rng)).chain(worst).collect();
     let rows: [Box<dyn Bench>; 5] = [
         Box::new(dealing("", "random dealing", (0..count).map(|_| any_dealing(rng)).collect())),
         Box::new(happy("", "random reports", reports)),
@@ -48,11 +48,11 @@ fn any_dealing(rng: &mut Rng) -> Dealing {
 }
 
 /// Any reports: up to 17 of them, of any density, some of them one-sided.
-fn any_reports(rng: &mut Rng) -> Vec<u16> {
+fn any_reports(rng: &mut Rng) -> Reports {
     let percent = [0, 20, 50, 70, 80, 90, 95, 100][rng.below(8)];
     let graph = graphs::random(rng, percent);
-    let mut reports = graphs::reports(rng, &graph);
+    let Reports(mut reports) = graphs::reports(rng, &graph);
     let count = if rng.chance(50) { 16 } else { rng.below(18) };
     reports.resize(count, 0xFFFF);
-    reports
+    Reports(reports)
 }

@@ -1,21 +1,18 @@
 //! Who answers each question: the proved library, plain Rust of the same algorithm, a specialist, the naive way, and the
 //! other versions of plain Rust.
 
-use crate::inputs::{Dealing, Deals, Points, Shares, Text};
+use crate::inputs::{Bytes, Dealing, Deals, Points, Reports, Shares, Text};
 use crate::measure::{Contender, Role, Row};
 use crate::plain::lamp::Ways;
 use crate::plain::{deal, fit_groups, fit_newton, fit_now, fit_old, happy_new, happy_now, happy_old, text};
 use crate::{bitset, gao, naive, proved};
 
+/// Role, name and function of a contender.
+type Entry<I, O> = (Role, &'static str, fn(&I, &mut O));
+
 type Fit = fn(usize, usize, &[u16], &[u16]) -> Option<[u16; 4]>;
 
-fn row<I, O>(
-    key: &str,
-    title: &str,
-    inputs: Vec<I>,
-    blank: O,
-    contenders: &[(Role, &'static str, fn(&I, &mut O))],
-) -> Row<I, O> {
+fn row<I, O>(key: &str, title: &str, inputs: Vec<I>, blank: O, contenders: &[Entry<I, O>]) -> Row<I, O> {
     let contenders = contenders.iter().map(|&(role, name, call)| Contender { role, name, call }).collect();
     Row { key: key.to_string(), title: title.to_string(), inputs, blank, contenders }
 }
@@ -39,7 +36,7 @@ pub fn dealing(key: &str, title: &str, inputs: Vec<Dealing>) -> Row<Dealing, Dea
     )
 }
 
-pub fn happy(key: &str, title: &str, inputs: Vec<Vec<u16>>) -> Row<Vec<u16>, u16> {
+pub fn happy(key: &str, title: &str, inputs: Vec<Reports>) -> Row<Reports, u16> {
     row(
         key,
         title,
@@ -47,11 +44,11 @@ pub fn happy(key: &str, title: &str, inputs: Vec<Vec<u16>>) -> Row<Vec<u16>, u16
         0,
         &[
             (Role::Proved, "proved", proved::happy_set),
-            (Role::Plain, "plain", |input, out| *out = happy_now::happy_set(input)),
-            (Role::Special, "bitset", |input, out| *out = bitset::happy_set(input)),
-            (Role::Naive, "all sets", |input, out| *out = naive::happy_set(input)),
-            (Role::Version, "plain old", |input, out| *out = happy_old::happy_set(input)),
-            (Role::Version, "plain new", |input, out| *out = happy_new::happy_set(input)),
+            (Role::Plain, "plain", |input, out| *out = happy_now::happy_set(&input.0)),
+            (Role::Special, "bitset", |input, out| *out = bitset::happy_set(&input.0)),
+            (Role::Naive, "all sets", |input, out| *out = naive::happy_set(&input.0)),
+            (Role::Version, "plain old", |input, out| *out = happy_old::happy_set(&input.0)),
+            (Role::Version, "plain new", |input, out| *out = happy_new::happy_set(&input.0)),
         ],
     )
 }
@@ -154,11 +151,11 @@ impl Ways for Naive {
     }
 }
 
-fn written<W: Ways>(bytes: &Vec<u8>, out: &mut Text) {
-    out.length = text::text::<W>(bytes, &mut out.bytes);
+fn written<W: Ways>(bytes: &Bytes, out: &mut Text) {
+    out.length = text::text::<W>(&bytes.0, &mut out.bytes);
 }
 
-pub fn writing(key: &str, title: &str, inputs: Vec<Vec<u8>>) -> Row<Vec<u8>, Text> {
+pub fn writing(key: &str, title: &str, inputs: Vec<Bytes>) -> Row<Bytes, Text> {
     row(
         key,
         title,

@@ -49,9 +49,9 @@ impl Sent {
         let mut basis = [[0; 16]; 16];
         for (i, row) in basis.iter_mut().enumerate().take(self.count) {
             let mut w = 1;
-            for k in 0..i {
-                row[k] = w;
-                w = mul(w, sub(self.xs[i], self.xs[k]));
+            for (place, &x) in row.iter_mut().zip(&self.xs[..i]) {
+                *place = w;
+                w = mul(w, sub(self.xs[i], x));
             }
             row[i] = w;
         }

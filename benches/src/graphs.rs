@@ -1,5 +1,6 @@
 //! Reports whose happy set is looked for: graphs of agreements over 16 lamps.
 
+use crate::inputs::Reports;
 use crate::rng::Rng;
 
 /// Row i has bit j where lamps i + 1 and j + 1 agree.
@@ -77,7 +78,7 @@ pub fn relabelled(rng: &mut Rng, graph: &Graph) -> Graph {
 }
 
 /// Reports of this graph. What is ignored is at random: own bits, and one side's one where two disagree.
-pub fn reports(rng: &mut Rng, graph: &Graph) -> Vec<u16> {
+pub fn reports(rng: &mut Rng, graph: &Graph) -> Reports {
     let mut reports = graph.to_vec();
     for i in 0..16 {
         reports[i] |= u16::from(rng.chance(50)) << i;
@@ -88,5 +89,5 @@ pub fn reports(rng: &mut Rng, graph: &Graph) -> Vec<u16> {
             }
         }
     }
-    reports
+    Reports(reports)
 }

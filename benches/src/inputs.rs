@@ -1,5 +1,11 @@
 //! What the functions are given and what they answer.
 
+/// The reports of all lamps.
+pub struct Reports(pub Vec<u16>);
+
+/// The bytes of a record.
+pub struct Bytes(pub Vec<u8>);
+
 pub struct Dealing {
     pub n: u8,
     pub t: u8,

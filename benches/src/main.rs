@@ -47,7 +47,7 @@ fn main() -> ExitCode {
         ["--quick"] => run(&QUICK),
         ["hunt", ref rest @ ..] => hunt(rest),
         ["count", row, who, times] => count(row, who, times),
-        ["rows"] => rows::all(1).iter().try_for_each(|row| say(&format!("{:14} {}", row.key(), row.title()))),
+        ["rows"] => rows::all(1).iter().try_for_each(|row| say(&format!("{:15} {}", row.key(), row.title()))),
         _ => Err(USAGE.to_string()),
     };
     match done {

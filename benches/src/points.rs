@@ -7,20 +7,15 @@ use crate::rng::Rng;
 /// Where the lies stand.
 #[derive(Clone, Copy)]
 pub enum Lies {
-    None,
-    /// In the first places: every choice of points that is tried early holds one.
-    First(usize),
-    /// In the places 1, t + 2, 2t + 3, ..: one in each group of t + 1.
-    Spread(usize),
-    /// In random places.
+    /// In these places, counted from 0.
+    At(&'static [usize]),
+    /// In so many random places.
     Any(usize),
 }
 
-fn places(rng: &mut Rng, lies: Lies, n: usize, t: usize) -> Vec<usize> {
+fn places(rng: &mut Rng, lies: Lies, n: usize) -> Vec<usize> {
     match lies {
-        Lies::None => Vec::new(),
-        Lies::First(count) => (0..count).collect(),
-        Lies::Spread(count) => (0..count).map(|k| k * (t + 1)).collect(),
+        Lies::At(places) => places.to_vec(),
         Lies::Any(count) => rng.order(n).into_iter().take(count).collect(),
     }
 }
@@ -29,7 +24,7 @@ fn places(rng: &mut Rng, lies: Lies, n: usize, t: usize) -> Vec<usize> {
 pub fn values(rng: &mut Rng, t: usize, xs: &[u16], lies: Lies) -> Vec<u16> {
     let f = rng.elements(t + 1);
     let mut ys: Vec<u16> = xs.iter().map(|&x| value(&f, u32::from(x)) as u16).collect();
-    for place in places(rng, lies, xs.len(), t) {
+    for place in places(rng, lies, xs.len()) {
         ys[place] = rng.wrong(ys[place]);
     }
     ys

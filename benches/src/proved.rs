@@ -1,6 +1,6 @@
 //! The proved library (include/doumbaht.h), with a safe function for each of its own.
 
-use crate::inputs::{Dealing, Deals, Points, Shares, Text};
+use crate::inputs::{Bytes, Dealing, Deals, Points, Reports, Shares, Text};
 
 extern "C" {
     fn doumbaht_deal(n: u8, t: u8, f: *const u16, f_count: usize, deals: *mut u16, deals_count: usize) -> u8;
@@ -27,8 +27,8 @@ pub fn deal(input: &Dealing, out: &mut Deals) {
         unsafe { doumbaht_deal(input.n, input.t, input.f.as_ptr(), input.f.len(), room.as_mut_ptr(), room.len()) };
 }
 
-pub fn happy_set(reports: &Vec<u16>, out: &mut u16) {
-    *out = unsafe { doumbaht_happy_set(reports.as_ptr(), reports.len()) };
+pub fn happy_set(reports: &Reports, out: &mut u16) {
+    *out = unsafe { doumbaht_happy_set(reports.0.as_ptr(), reports.0.len()) };
 }
 
 pub fn repair(input: &Points, out: &mut (u8, [u16; 4])) {
@@ -43,6 +43,6 @@ pub fn open(input: &Shares, out: &mut (u8, u16)) {
     out.0 = unsafe { doumbaht_open(input.n, input.t, input.shares.as_ptr(), input.shares.len(), &mut out.1) };
 }
 
-pub fn text(bytes: &Vec<u8>, out: &mut Text) {
-    out.length = unsafe { doumbaht_text(bytes.as_ptr(), bytes.len(), out.bytes.as_mut_ptr(), out.bytes.len()) };
+pub fn text(bytes: &Bytes, out: &mut Text) {
+    out.length = unsafe { doumbaht_text(bytes.0.as_ptr(), bytes.0.len(), out.bytes.as_mut_ptr(), out.bytes.len()) };
 }

@@ -3,6 +3,7 @@
 //! Adding an honest sharing to every number of a record changes neither who agrees with whom nor who lies: such a sum is
 //! the same case with other numbers.
 
+use crate::inputs::Bytes;
 use crate::plain::deal::deal;
 use crate::plain::field::value;
 use crate::plain::lamp::report;
@@ -50,7 +51,7 @@ fn add(bytes: &mut [u8], at: usize, x: u16) {
 }
 
 /// The record with the honest sharing of a random F added.
-pub fn shifted(rng: &mut Rng, record: &[u8]) -> Vec<u8> {
+pub fn shifted(rng: &mut Rng, record: &[u8]) -> Bytes {
     let mut bytes = record.to_vec();
     let (n, t) = (bytes[0], bytes[1]);
     let (size, width) = (usize::from(n), usize::from(t) + 1);
@@ -69,19 +70,19 @@ pub fn shifted(rng: &mut Rng, record: &[u8]) -> Vec<u8> {
         }
         add(&mut bytes, starts[3] + 2 * j, column[0]);
     }
-    bytes
+    Bytes(bytes)
 }
 
-pub fn honest(rng: &mut Rng, n: u8, t: u8) -> Vec<u8> {
+pub fn honest(rng: &mut Rng, n: u8, t: u8) -> Bytes {
     shifted(rng, &zero(n, t))
 }
 
 /// Any record: some numbers altered, reports mostly in keeping with them, sometimes a damaged head or end.
-pub fn any_record(rng: &mut Rng) -> Vec<u8> {
+pub fn any_record(rng: &mut Rng) -> Bytes {
     let t = 1 + rng.below(3);
     let n = 4 * t + 1 + rng.below(16 - 4 * t);
     let (n, t) = (n as u8, t as u8);
-    let mut bytes = honest(rng, n, t);
+    let Bytes(mut bytes) = honest(rng, n, t);
     let starts = starts(n, t);
     for _ in 0..rng.below(3) {
         alter(rng, &mut bytes, starts[0], starts[1]);
@@ -100,7 +101,8 @@ pub fn any_record(rng: &mut Rng) -> Vec<u8> {
     for _ in 0..rng.below(usize::from(t) + 2) {
         alter(rng, &mut bytes, starts[3], end);
     }
-    damage(rng, bytes)
+    damage(rng, &mut bytes);
+    Bytes(bytes)
 }
 
 /// Puts another number into a random place of a section.
@@ -110,12 +112,11 @@ fn alter(rng: &mut Rng, bytes: &mut [u8], from: usize, to: usize) {
     put(bytes, at, x);
 }
 
-fn damage(rng: &mut Rng, mut bytes: Vec<u8>) -> Vec<u8> {
+fn damage(rng: &mut Rng, bytes: &mut Vec<u8>) {
     match rng.below(20) {
         0 => bytes[rng.below(18)] ^= 1 << rng.below(8),
         1 => bytes.truncate(rng.below(bytes.len())),
         2 => bytes.push(0),
         _ => {}
     }
-    bytes
 }

@@ -3,7 +3,7 @@
 use crate::contenders::{dealing, happy, opening, repairing, writing};
 use crate::graphs::{self, Graph};
 use crate::hunt::neighbours;
-use crate::inputs::{Dealing, Deals, Points, Shares, Text};
+use crate::inputs::{Bytes, Dealing, Deals, Text};
 use crate::measure::{Bench, Row};
 use crate::plain::happy_now;
 use crate::points::{happy_points, shares, Lies};
@@ -78,44 +78,62 @@ fn happy_rows(count: usize) -> Vec<Box<dyn Bench>> {
     rows
 }
 
-fn repair_row(points: usize, count: usize, lies: Lies, title: &str) -> Row<Points, (u8, [u16; 4])> {
-    let inputs = made(count, |rng| happy_points(rng, points, 3, lies));
-    repairing(&format!("repair{points}"), &format!("repair, {points} points, t = 3, {title}"), inputs)
+/// The sizes at which an opening is timed: n, t, lies in the first places, and one lie in each group of t + 1. The first
+/// is the worst for trying all choices in order, the second for decoding by groups.
+type Size = (u8, u8, &'static [usize], &'static [usize]);
+const SIZES: [Size; 4] =
+    [(5, 1, &[0], &[0]), (9, 2, &[0, 1], &[0, 3]), (13, 3, &[0, 1, 2], &[0, 4, 8]), (16, 3, &[0, 1, 2], &[0, 4, 8])];
+
+/// Lies at `places`, in words that count from 1.
+fn lies_at(places: &[usize]) -> String {
+    let named: Vec<String> = places.iter().map(|place| (place + 1).to_string()).collect();
+    if named.is_empty() {
+        return "no lies".to_string();
+    }
+    format!("lies at {}", named.join(", "))
 }
 
 fn repair_rows(count: usize) -> Vec<Box<dyn Bench>> {
-    [10, 16]
-        .map(|points| -> Box<dyn Bench> { Box::new(repair_row(points, count, Lies::First(3), "3 lies first")) })
-        .into()
+    let row = |key: &str, points: usize, places: &'static [usize]| -> Box<dyn Bench> {
+        let inputs = made(count, |rng| happy_points(rng, points, 3, Lies::At(places)));
+        let title = format!("repair, {points} points, t = 3, {}", lies_at(places));
+        Box::new(repairing(&format!("repair{points}-{key}"), &title, inputs))
+    };
+    vec![
+        row("first", 10, &[0, 1, 2]),
+        row("groups", 10, &[0, 4, 5]),
+        row("first", 16, &[0, 1, 2]),
+        row("groups", 16, &[0, 4, 8]),
+    ]
 }
 
-fn open_row(key: &str, size: (u8, u8), count: usize, lies: Lies, title: &str) -> Row<Shares, (u8, u16)> {
-    let (n, t) = size;
+fn open_row(key: &str, (n, t): (u8, u8), count: usize, lies: Lies, title: &str) -> Box<dyn Bench> {
     let inputs = made(count, |rng| shares(rng, n, t, lies));
-    opening(&format!("open{n}-{key}"), &format!("opening, n = {n}, t = {t}, {title}"), inputs)
+    Box::new(opening(&format!("open{n}-{key}"), &format!("opening, n = {n}, t = {t}, {title}"), inputs))
 }
 
 fn open_rows(count: usize) -> Vec<Box<dyn Bench>> {
-    let mut rows: Vec<Box<dyn Bench>> = Vec::new();
-    for size in [(5, 1), (9, 2), (13, 3), (16, 3)] {
-        let t = usize::from(size.1);
-        let title = if t == 1 { "1 lie first".to_string() } else { format!("{t} lies first") };
-        rows.push(Box::new(open_row("none", size, count, Lies::None, "no lies")));
-        rows.push(Box::new(open_row("first", size, count, Lies::First(t), &title)));
+    let at = |key: &str, size, places| open_row(key, size, count, Lies::At(places), &lies_at(places));
+    let mut rows = Vec::new();
+    for (n, t, first, groups) in SIZES {
+        rows.push(at("none", (n, t), &[]));
+        rows.push(at("first", (n, t), first));
+        if groups != first {
+            rows.push(at("groups", (n, t), groups));
+        }
     }
-    rows.push(Box::new(open_row("spread", (16, 3), count, Lies::Spread(3), "3 lies, one in each four")));
-    rows.push(Box::new(open_row("any", (16, 3), count, Lies::Any(3), "3 lies anywhere")));
-    rows.push(Box::new(open_row("refused", (16, 3), count, Lies::First(4), "4 lies, refused")));
+    rows.push(open_row("any", (16, 3), count, Lies::Any(3), "3 lies anywhere"));
+    rows.push(open_row("refused", (16, 3), count, Lies::At(&[0, 4, 8, 12]), "4 lies, refused"));
     rows
 }
 
 fn text_rows(count: usize) -> Vec<Box<dyn Bench>> {
     let others = |record: &'static [u8]| {
-        let mut inputs = vec![record.to_vec()];
+        let mut inputs = vec![Bytes(record.to_vec())];
         inputs.extend(made(count - 1, |rng| shifted(rng, record)));
         inputs
     };
-    let rows: [Row<Vec<u8>, Text>; 3] = [
+    let rows: [Row<Bytes, Text>; 3] = [
         writing("text-example", "text of the example, n = 5", others(EXAMPLE)),
         writing("text-honest", "text, n = 16, all honest", made(count, |rng| honest(rng, 16, 3))),
         writing("text-liars", "text, n = 16, three liars", others(LIARS)),

@@ -32,9 +32,6 @@ impl Best {
     }
 }
 
-/// Bit j, for each place j: tests by these masks go eight at a time, shifts by j would not.
-const BITS: [u16; 16] = [1, 2, 4, 8, 16, 32, 64, 128, 256, 512, 1024, 2048, 4096, 8192, 16384, 32768];
-
 /// Sixteen rows of sixteen: whether each has a one for the other. At most 16 reports.
 #[inline]
 pub fn agreements(reports: &[u16]) -> Table {
@@ -45,10 +42,53 @@ pub fn agreements(reports: &[u16]) -> Table {
     let mut table = [[false; 16]; 16];
     for (i, row) in table.iter_mut().enumerate() {
         for (j, cell) in row.iter_mut().enumerate() {
-            *cell = (own[i] & BITS[j] != 0) & (own[j] & BITS[i] != 0);
+            *cell = (own[i] >> j) & (own[j] >> i) & 1 != 0;
         }
     }
     table
+}
+
+/// The table as sixteen numbers: row i has bit j where each of i and j has a one for the other. At most 16 reports.
+#[inline(always)]
+pub fn rows(reports: &[u16]) -> [u16; 16] {
+    let mut own = [0u16; 16];
+    own[..reports.len()].copy_from_slice(reports);
+    let words: [u64; 4] =
+        std::array::from_fn(|w| (0..4).fold(0, |word, r| word | u64::from(own[4 * w + r]) << (16 * r)));
+    let across = transposed(words);
+    let mut rows = [0; 16];
+    for (w, four) in rows.chunks_exact_mut(4).enumerate() {
+        let word = words[w] & across[w];
+        for (r, row) in four.iter_mut().enumerate() {
+            *row = (word >> (16 * r)) as u16 & !(1 << (4 * w + r));
+        }
+    }
+    rows
+}
+
+/// Bit j of row i becomes bit i of row j, with four rows to a word: blocks of 8, 4, 2 and 1 change places across the
+/// diagonal.
+#[inline(always)]
+fn transposed([mut a, mut b, mut c, mut d]: [u64; 4]) -> [u64; 4] {
+    (a, c) = exchanged(a, c, 8, 0x00FF_00FF_00FF_00FF);
+    (b, d) = exchanged(b, d, 8, 0x00FF_00FF_00FF_00FF);
+    (a, b) = exchanged(a, b, 4, 0x0F0F_0F0F_0F0F_0F0F);
+    (c, d) = exchanged(c, d, 4, 0x0F0F_0F0F_0F0F_0F0F);
+    [a, b, c, d].map(|word| within(within(word, 30, 0x0000_0000_CCCC_CCCC), 15, 0x0000_AAAA_0000_AAAA))
+}
+
+/// The bits of x that are `by` places above those of the mask, and the bits of y under the mask, in each other's place.
+#[inline(always)]
+fn exchanged(x: u64, y: u64, by: u32, mask: u64) -> (u64, u64) {
+    let change = (x >> by ^ y) & mask;
+    (x ^ change << by, y ^ change)
+}
+
+/// The bits of x under the mask and those `by` places above them, in each other's place.
+#[inline(always)]
+fn within(x: u64, by: u32, mask: u64) -> u64 {
+    let change = (x >> by ^ x) & mask;
+    x ^ change ^ change << by
 }
 
 /// The parties from 0 to n - 1.
