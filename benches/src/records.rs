@@ -5,7 +5,7 @@
 
 use crate::inputs::Bytes;
 use crate::plain::deal::deal;
-use crate::plain::field::value;
+use crate::plain::field::{mul_add, value};
 use crate::plain::lamp::report;
 use crate::plain::record::{lengths, number, read};
 use crate::rng::Rng;
@@ -83,26 +83,59 @@ pub fn any_record(rng: &mut Rng) -> Bytes {
     let n = 4 * t + 1 + rng.below(16 - 4 * t);
     let (n, t) = (n as u8, t as u8);
     let Bytes(mut bytes) = honest(rng, n, t);
+    alter_deals_and_pairs(rng, &mut bytes);
     let starts = starts(n, t);
-    for _ in 0..rng.below(3) {
-        alter(rng, &mut bytes, starts[0], starts[1]);
-    }
-    for _ in 0..rng.below(40) {
-        alter(rng, &mut bytes, starts[1], starts[2]);
-    }
     for i in 1..=n {
         let bits = report(&read(&bytes).ok().unwrap(), i);
         put(&mut bytes, starts[2] + 2 * (usize::from(i) - 1), bits);
     }
+    let end = bytes.len();
     for _ in 0..rng.below(6).saturating_sub(3) {
         alter(rng, &mut bytes, starts[2], starts[3]);
     }
-    let end = bytes.len();
     for _ in 0..rng.below(usize::from(t) + 2) {
         alter(rng, &mut bytes, starts[3], end);
     }
     damage(rng, &mut bytes);
     Bytes(bytes)
+}
+
+fn alter_deals_and_pairs(rng: &mut Rng, bytes: &mut [u8]) {
+    let [deals, pairs, reports, _] = starts(bytes[0], bytes[1]);
+    for _ in 0..rng.below(6).saturating_sub(3) {
+        alter(rng, bytes, deals, pairs);
+    }
+    for _ in 0..rng.below(4).saturating_sub(1) {
+        alter_slyly(rng, bytes);
+    }
+    for _ in 0..rng.below(40) * rng.below(2) {
+        alter(rng, bytes, pairs, reports);
+    }
+    // What one lamp hears: it may become unhappy, and its repair fail.
+    let width = (reports - pairs) / usize::from(bytes[0]);
+    let from = pairs + width * rng.below(usize::from(bytes[0]));
+    for _ in 0..rng.below(24) * rng.below(2) {
+        alter(rng, bytes, from, from + width);
+    }
+}
+
+/// Adds to one lamp's row or column a polynomial that is 0 at t lamps: with those all seems well.
+fn alter_slyly(rng: &mut Rng, bytes: &mut [u8]) {
+    let (n, t) = (usize::from(bytes[0]), usize::from(bytes[1]));
+    let mut change = vec![rng.element()];
+    for s in rng.order(n).into_iter().take(t) {
+        let minus = 65_520 - s as u32;
+        let mut raised = vec![0; change.len() + 1];
+        for (k, &c) in change.iter().enumerate() {
+            raised[k] = mul_add(minus, u32::from(c), u32::from(raised[k])) as u16;
+            raised[k + 1] = c;
+        }
+        change = raised;
+    }
+    let half = rng.below(2 * n);
+    for (k, &c) in change.iter().enumerate() {
+        add(bytes, 18 + 2 * (half * (t + 1) + k), c);
+    }
 }
 
 /// Puts another number into a random place of a section.
