@@ -47,8 +47,8 @@ pub fn happy(key: &str, title: &str, inputs: Vec<Reports>) -> Row<Reports, u16> 
             (Role::Plain, "plain", |input, out| *out = happy_now::happy_set(&input.0)),
             (Role::Special, "bitset", |input, out| *out = bitset::happy_set(&input.0)),
             (Role::Naive, "all sets", |input, out| *out = naive::happy_set(&input.0)),
-            (Role::Version, "plain old", |input, out| *out = happy_old::happy_set(&input.0)),
-            (Role::Version, "plain new", |input, out| *out = happy_new::happy_set(&input.0)),
+            (Role::Version, happy_old::NAME, |input, out| *out = happy_old::happy_set(&input.0)),
+            (Role::Version, happy_new::NAME, |input, out| *out = happy_new::happy_set(&input.0)),
         ],
     )
 }
@@ -77,9 +77,9 @@ pub fn repairing(key: &str, title: &str, inputs: Vec<Points>) -> Row<Points, (u8
             (Role::Plain, "plain", |input, out| repaired(input, out, fit_now::fit)),
             (Role::Special, "Gao", |input, out| repaired(input, out, gao::fit)),
             (Role::Naive, "all choices", |input, out| repaired(input, out, naive::fit)),
-            (Role::Version, "plain old", |input, out| repaired(input, out, fit_old::fit)),
-            (Role::Version, "plain Newton", |input, out| repaired(input, out, fit_newton::fit)),
-            (Role::Version, "plain groups", |input, out| repaired(input, out, fit_groups::fit)),
+            (Role::Version, fit_old::NAME, |input, out| repaired(input, out, fit_old::fit)),
+            (Role::Version, fit_newton::NAME, |input, out| repaired(input, out, fit_newton::fit)),
+            (Role::Version, fit_groups::NAME, |input, out| repaired(input, out, fit_groups::fit)),
         ],
     )
 }
@@ -105,9 +105,9 @@ pub fn opening(key: &str, title: &str, inputs: Vec<Shares>) -> Row<Shares, (u8, 
             (Role::Plain, "plain", |input, out| opened(input, out, fit_now::fit)),
             (Role::Special, "Gao", |input, out| opened(input, out, gao::fit)),
             (Role::Naive, "all choices", |input, out| opened(input, out, naive::fit)),
-            (Role::Version, "plain old", |input, out| opened(input, out, fit_old::fit)),
-            (Role::Version, "plain Newton", |input, out| opened(input, out, fit_newton::fit)),
-            (Role::Version, "plain groups", |input, out| opened(input, out, fit_groups::fit)),
+            (Role::Version, fit_old::NAME, |input, out| opened(input, out, fit_old::fit)),
+            (Role::Version, fit_newton::NAME, |input, out| opened(input, out, fit_newton::fit)),
+            (Role::Version, fit_groups::NAME, |input, out| opened(input, out, fit_groups::fit)),
         ],
     )
 }

@@ -19,7 +19,7 @@ mod rows;
 mod table;
 
 use measure::{Pace, Role};
-use plain::{happy_new, happy_now, happy_old};
+use plain::{fit_now, happy_new, happy_now, happy_old};
 use std::io::Write;
 use std::process::ExitCode;
 use std::time::Instant;
@@ -36,7 +36,8 @@ struct Plan {
     pace: Pace,
 }
 
-const FULL: Plan = Plan { questions: 8000, inputs: 64, pace: Pace { samples: 101, batch: 3.0e6 } };
+// Batches are short, so that on a machine with other work most of them are not interrupted.
+const FULL: Plan = Plan { questions: 8000, inputs: 64, pace: Pace { samples: 501, batch: 2.0e5 } };
 const QUICK: Plan = Plan { questions: 1000, inputs: 16, pace: Pace { samples: 31, batch: 1.0e5 } };
 
 fn main() -> ExitCode {
@@ -66,7 +67,8 @@ fn run(plan: &Plan) -> Result<(), String> {
     for row in &rows {
         row.compare()?;
     }
-    say(&format!("All answers agree: {asked} random questions, {} rows of {} inputs.\n", rows.len(), plan.inputs))?;
+    say(&format!("All answers agree: {asked} random questions, {} rows of {} inputs.", rows.len(), plan.inputs))?;
+    say(&format!("Plain Rust finds the happy set by {}; fits by {}.\n", happy_now::NAME, fit_now::NAME))?;
     say(&table::head())?;
     let mut misses = Vec::new();
     for row in &rows {

@@ -3,6 +3,8 @@
 
 use super::fit::{enough, interpolate, is_sent, search, surplus, Taken};
 
+pub const NAME: &str = "groups of t + 1";
+
 pub fn fit(t: usize, need: usize, xs: &[u16], ys: &[u16]) -> Option<[u16; 4]> {
     if 3 < t || xs.len() != ys.len() {
         return None;

@@ -4,6 +4,8 @@
 use super::field::{inverse, mul, mul_add, sub};
 use super::fit::{is_sent, multiplied_out, surplus};
 
+pub const NAME: &str = "every choice in order, with Newton's form carried along";
+
 /// Newton's form of the points taken: their places, and the coefficients.
 #[derive(Clone, Copy, Default)]
 struct Form {

@@ -3,6 +3,8 @@
 
 use super::fit::{interpolate, search, surplus, value, Taken};
 
+pub const NAME: &str = "every choice in order";
+
 pub fn fit(t: usize, need: usize, xs: &[u16], ys: &[u16]) -> Option<[u16; 4]> {
     if 3 < t || xs.len() != ys.len() {
         return None;
