@@ -37,6 +37,13 @@ pub struct Pace {
     pub batch: f64,
 }
 
+/// The calls between two looks at the clock.
+#[derive(Clone, Copy)]
+struct Batch {
+    inputs: usize,
+    rounds: usize,
+}
+
 /// The times of one contender in ns per call, one for each sample.
 pub struct Times {
     pub role: Role,
@@ -85,13 +92,13 @@ impl<I, O: Clone + PartialEq + Debug> Bench for Row<I, O> {
 
     fn measure(&self, pace: Pace) -> Vec<Times> {
         let timed: Vec<_> = self.contenders.iter().filter(|c| c.role != Role::Version).collect();
-        let calls: Vec<usize> = timed.iter().map(|c| self.calls(c, pace)).collect();
+        let batches = self.batches(&timed, pace);
         let mut times: Vec<Times> =
             timed.iter().map(|c| Times { role: c.role, name: c.name, samples: Vec::new() }).collect();
         for sample in 0..pace.samples {
             for turn in 0..timed.len() {
                 let k = (turn + sample) % timed.len();
-                times[k].samples.push(self.batch(timed[k].call, sample * calls[k], calls[k]));
+                times[k].samples.push(self.time(timed[k].call, sample * batches[k].inputs, batches[k]));
             }
         }
         times
@@ -111,33 +118,41 @@ impl<I, O: Clone + PartialEq + Debug> Bench for Row<I, O> {
 }
 
 impl<I, O: Clone> Row<I, O> {
-    /// Nanoseconds per call, over the inputs from a place on, in turn.
-    fn batch(&self, call: fn(&I, &mut O), from: usize, calls: usize) -> f64 {
+    /// Nanoseconds per call, over some inputs from a place on, in turn, and that for some rounds.
+    fn time(&self, call: fn(&I, &mut O), from: usize, batch: Batch) -> f64 {
         let call = black_box(call);
         let mut out = self.blank.clone();
-        let mut at = from % self.inputs.len();
         let start = Instant::now();
-        for _ in 0..calls {
-            call(black_box(&self.inputs[at]), &mut out);
-            black_box(&mut out);
-            at += 1;
-            if at == self.inputs.len() {
-                at = 0;
+        for _ in 0..batch.rounds {
+            let mut at = from % self.inputs.len();
+            for _ in 0..batch.inputs {
+                call(black_box(&self.inputs[at]), &mut out);
+                black_box(&mut out);
+                at += 1;
+                if at == self.inputs.len() {
+                    at = 0;
+                }
             }
         }
-        start.elapsed().as_nanos() as f64 / calls as f64
+        start.elapsed().as_nanos() as f64 / (batch.inputs * batch.rounds) as f64
     }
 
-    /// How many calls a batch has: whole turns over the inputs, unless one turn takes too long for the naive way.
-    fn calls(&self, contender: &Contender<I, O>, pace: Pace) -> usize {
+    /// What each contender does in a batch: the same inputs for all, as many as the slowest can do in the time, though
+    /// at least eight. The naive way does as many of them as it can.
+    fn batches(&self, timed: &[&Contender<I, O>], pace: Pace) -> Vec<Batch> {
         let all = self.inputs.len();
-        let first = if contender.role == Role::Naive { 1 } else { all };
-        let cost = self.batch(contender.call, 0, first);
-        let turns = pace.batch / (cost * all as f64);
-        if contender.role == Role::Naive && turns < 1.0 {
-            return ((pace.batch / cost) as usize).max(1);
-        }
-        (turns as usize).max(1) * all
+        let first = |c: &Contender<I, O>| if c.role == Role::Naive { 1 } else { all };
+        let costs: Vec<f64> =
+            timed.iter().map(|c| self.time(c.call, 0, Batch { inputs: first(c), rounds: 1 })).collect();
+        let others = timed.iter().zip(&costs).filter(|(c, _)| c.role != Role::Naive);
+        let slowest = others.map(|(_, &cost)| cost).fold(1.0, f64::max);
+        let inputs = ((pace.batch / slowest) as usize).clamp(all.min(8), all);
+        let batch = |(c, &cost): (&&Contender<I, O>, &f64)| {
+            let calls = ((pace.batch / cost) as usize).max(1);
+            let inputs = if c.role == Role::Naive { inputs.min(calls) } else { inputs };
+            Batch { inputs, rounds: (calls / inputs).max(1) }
+        };
+        timed.iter().zip(&costs).map(batch).collect()
     }
 }
 
