@@ -1,5 +1,5 @@
-//! Who answers each question: the proved library, plain Rust of the same algorithm, a specialist, the naive way, and the
-//! other versions of plain Rust.
+//! Who answers each question: the proved library, plain Rust of the same algorithm, a specialist, the naive way, and
+//! the other versions of plain Rust.
 
 use crate::inputs::{Bytes, Dealing, Deals, Points, Reports, Shares, Text};
 use crate::measure::{Contender, Role, Row};

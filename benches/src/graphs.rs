@@ -50,7 +50,11 @@ pub fn triples_in_a_row() -> Graph {
 
 /// Lamps 14, 15 and 16 agree with nobody.
 pub fn thirteen() -> Graph {
-    complete().map(|row| row & 0x1FFF).into_iter().take(13).chain([0; 3]).collect::<Vec<_>>().try_into().unwrap()
+    let mut graph = [0; 16];
+    for (i, row) in graph.iter_mut().take(13).enumerate() {
+        *row = 0x1FFF & !(1 << i);
+    }
+    graph
 }
 
 pub fn random(rng: &mut Rng, percent: usize) -> Graph {

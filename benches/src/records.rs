@@ -1,7 +1,7 @@
 //! Records: the example, one with liars, honest ones, and others made of them.
 //!
-//! Adding an honest sharing to every number of a record changes neither who agrees with whom nor who lies: such a sum is
-//! the same case with other numbers.
+//! Adding an honest sharing to every number of a record changes neither who agrees with whom nor who lies: such a sum
+//! is the same case with other numbers.
 
 use crate::inputs::Bytes;
 use crate::plain::deal::deal;

@@ -78,8 +78,8 @@ fn happy_rows(count: usize) -> Vec<Box<dyn Bench>> {
     rows
 }
 
-/// The sizes at which an opening is timed: n, t, lies in the first places, and one lie in each group of t + 1. The first
-/// is the worst for trying all choices in order, the second for decoding by groups.
+/// The sizes at which an opening is timed: n, t, lies in the first places, and one lie in each group of t + 1. The
+/// former is the worst for trying all choices in order, the latter for decoding by groups.
 type Size = (u8, u8, &'static [usize], &'static [usize]);
 const SIZES: [Size; 4] =
     [(5, 1, &[0], &[0]), (9, 2, &[0, 1], &[0, 3]), (13, 3, &[0, 1, 2], &[0, 4, 8]), (16, 3, &[0, 1, 2], &[0, 4, 8])];

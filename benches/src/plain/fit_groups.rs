@@ -1,5 +1,6 @@
 //! Decoding by groups: where at most one polynomial fits, t + 1 points that fail hold a wrong one, so they are dropped,
-//! and one fewer may be wrong among the rest. Where the rest gets short, its choices are tried as in the first algorithm.
+//! and one fewer may be wrong among the rest. Where the rest gets short, its choices are tried as in the first
+//! algorithm.
 
 use super::fit::{enough, interpolate, is_sent, search, surplus, Taken};
 

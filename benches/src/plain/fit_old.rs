@@ -1,5 +1,5 @@
-//! Decoding by the first algorithm: every choice of t + 1 among the first t + 1 + spare points sent is interpolated, and
-//! all points are counted.
+//! Decoding by the first algorithm: every choice of t + 1 among the first t + 1 + spare points sent is interpolated,
+//! and all points are counted.
 
 use super::fit::{interpolate, search, surplus, value, Taken};
 
