@@ -18,5 +18,5 @@ pub mod record;
 pub mod text;
 
 // The versions that the library has now.
-pub use fit_old as fit_now;
-pub use happy_old as happy_now;
+pub use fit_groups as fit_now;
+pub use happy_new as happy_now;
