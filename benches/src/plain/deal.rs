@@ -38,8 +38,9 @@ pub fn deal(n: u8, t: u8, f: &[u16], out: &mut [u16]) -> u8 {
         for (place, part) in row.iter_mut().zip(f.chunks_exact(width)) {
             *place = value(part, i) as u16;
         }
-        column.fill(0);
-        for part in f.chunks_exact(width).rev() {
+        let (rest, top) = f.split_at(f.len() - width);
+        column.copy_from_slice(top);
+        for part in rest.chunks_exact(width).rev() {
             for (place, &c) in column.iter_mut().zip(part) {
                 *place = mul_add(i, u32::from(*place), u32::from(c)) as u16;
             }

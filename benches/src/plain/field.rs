@@ -35,8 +35,11 @@ pub fn inverse(a: u32) -> u32 {
     t
 }
 
-/// The value at x, by Horner's rule.
+/// The value at x of residues, by Horner's rule from the top one on.
 #[inline(always)]
 pub fn value(f: &[u16], x: u32) -> u32 {
-    f.iter().rev().fold(0, |v, &c| mul_add(x, v, u32::from(c)))
+    let Some((&top, rest)) = f.split_last() else {
+        return 0;
+    };
+    rest.iter().rev().fold(u32::from(top), |v, &c| mul_add(x, v, u32::from(c)))
 }
