@@ -1,5 +1,5 @@
 -- What the answer says: within the sizes that of `fit`, and nothing otherwise.
-use mathlib.Core.Path.{_≡_, refl, sym, ap, _∙_}
+use mathlib.Core.Path.{_≡_, refl}
 use mathlib.Core.Bool.{true, false, true≢false, false≢true}
 use mathlib.Core.Option.{Option, none, some}
 use mathlib.Core.List.{List}
@@ -7,8 +7,6 @@ use Prim.Native.Nat.{ℕ, _≤_, _<_}
 use borrow.Author.Tests.{le-leb, lt-leb, eq-eqb, ne-eqb}
 use lib.ListN.{length}
 use Rattle.field.specs.Modulus.{modulus}
-use Rattle.lists.proofs.Padded.{pad-pad}
-use Rattle.fit.specs.declared.Fitted.{Fitted}
 use Rattle.fit.specs.Fit.{fit}
 use Rattle.fit.specs.Answer.{answer, fitIn}
 
@@ -20,14 +18,6 @@ answer-found (some f) h = (f, refl)
 pub answer-not-found : (o : Option (List ℕ)) → answer o .found ≡ false → o ≡ none
 answer-not-found none h = refl
 answer-not-found (some f) h = absurd (true≢false h)
-
--- What was found, given again by its coefficients.
-pub answer-again : (o : Option (List ℕ)) (r : Fitted) → r ≡ answer o → r .found ≡ true → answer (some (r .coefficients)) ≡ answer o
-answer-again o r e h =
-    let (f, some-f) = answer-found o (sym (ap (λ w. w .found) e) ∙ h) in
-    ap (λ w. answer (some (w .coefficients))) (e ∙ ap answer some-f)
-    ∙ ap (λ l. record { found = true; coefficients = l }) (pad-pad 4 f)
-    ∙ ap answer (sym some-f)
 
 module _ (t need : ℕ) (xs ys : List ℕ) where
   pub fit-wide : 3 < t → answer none ≡ fitIn t need xs ys

@@ -10,8 +10,7 @@ use native.Mathlib.Omega.{arith}
 use lib.Dec.{leb}
 use lib.ListN.{length, take, drop, getD, set, replicate, length-set, length-append, length-drop}
 use lib.Seq.{length-take-le, take-suc-set}
-use Rattle.lists.specs.Tabulate.{pad}
-use Rattle.lists.proofs.Padded.{pad-pad, four}
+use Rattle.lists.proofs.Padded.{four}
 use Rattle.lists.proofs.InPlace.{drop-end, drop-next, rest-kept}
 use Rattle.field.specs.Modulus.{modulus}
 use Rattle.polynomial.specs.Interpolation.{newton, interpolate, interpolateIn}
@@ -22,7 +21,7 @@ use Rattle.fit.specs.Fit.{hits, sent, received, through, firstFitting, f
 use Rattle.fit.specs.Answer.{answer, candidates, found, Searching, fitIn}
 use Rattle.lists.proofs.Choices.{first-append}
 use Rattle.fit.proofs.Counting.{hits-zeros}
-use Rattle.fit.proofs.Answers.{answer-found, answer-again, fit-within}
+use Rattle.fit.proofs.Answers.{answer-found, answer-not-found, fit-within}
 use Rattle.fit.proofs.Steps.{received-next, received-over, candidates-one, candidates-none, candidates-spare, candidates-last, candidates-front}
 
 -- ---- one point after the other
@@ -143,7 +142,7 @@ or-not-found (some f) b h = absurd (true≢false h)
 
 -- Where r is the answer of the call that takes the point at i: what is answered if r has found something, and if it has not.
 pub record Branches (p need : ℕ) (xs ys : List ℕ) (i c : ℕ) (cx cy : List ℕ) (k s : ℕ) (r : Fitted) : Type 0 where
-  pub with-it : r .found ≡ true → answer (some (r .coefficients)) ≡ answer (found p need xs ys k s (take c cx) (take c cy) i)
+  pub with-it : r .found ≡ true → r ≡ answer (found p need xs ys k s (take c cx) (take c cy) i)
   pub without-it : r .found ≡ false
       → answer (found p need xs ys k (s - 1) (take c cx) (take c cy) (i + 1)) ≡ answer (found p need xs ys k s (take c cx) (take c cy) i)
 
@@ -158,7 +157,7 @@ branches p need xs ys i c cx cy k s r sizes inside room lx ly n m q e =
     (take-next c (getD xs i 0) cx (omega arith)) (take-next c (getD ys i 0) cy (omega arith)) in
     let same : r .found ≡ answer a .found = ap (λ w. w .found) taken in
     record {
-      with-it = λ h. answer-again a r taken h ∙ or-found a _ (sym same ∙ h) ∙ ap answer (found-spare p need xs ys sizes i inside s (take c cx) (take c cy) k n q m);
+      with-it = λ h. taken ∙ or-found a _ (sym same ∙ h) ∙ ap answer (found-spare p need xs ys sizes i inside s (take c cx) (take c cy) k n q m);
       without-it = λ h. or-not-found a _ (sym same ∙ h) ∙ ap answer (found-spare p need xs ys sizes i inside s (take c cx) (take c cy) k n q m);
     }
 
@@ -191,25 +190,23 @@ module _ (p c : ℕ) (cx cy f : List ℕ) (room : c ≤ 4) (lx : length cx ≡ 4
     tested g = answer (firstFitting p need xs ys (g ∷ []))
 
     -- The four numbers of the array are the polynomial with 0 behind it, which changes no value.
-    whole : drop c cy ≡ replicate (4 - c) 0 → hits p (numbers (f ++ drop c cy)) xs ys ≡ hits p f xs ys
-    whole zeros =
+    all-four : drop c cy ≡ replicate (4 - c) 0 → hits p (numbers (f ++ drop c cy)) xs ys ≡ hits p f xs ys
+    all-four zeros =
         let l : length (f ++ drop c cy) ≡ 4 = omega (arith, length-append f (drop c cy), length-drop c cy, size) in
         ap (λ g. hits p g xs ys) (four (f ++ drop c cy) l ∙ ap (λ z. f ++ z) zeros) ∙ hits-zeros p f (4 - c) xs ys
 
     pub test-passed : drop c cy ≡ replicate (4 - c) 0 → leb need (hits p (numbers (f ++ drop c cy)) xs ys) ≡ true
-        → answer (some (f ++ drop c cy)) ≡ tested (interpolate p (take c cx) (take c cy))
+        → _≡_ {A = Fitted} (record { found = true; coefficients = f ++ drop c cy }) (tested (interpolate p (take c cx) (take c cy)))
     test-passed zeros h =
-        let enough : leb need (hits p f xs ys) ≡ true = sym (ap (leb need) (whole zeros)) ∙ h in
+        let enough : leb need (hits p f xs ys) ≡ true = sym (ap (leb need) (all-four zeros)) ∙ h in
         let found : answer (some f) ≡ tested f = rw enough in
-        let padded : f ++ drop c cy ≡ pad 4 f = ap (λ z. f ++ z) (zeros ∙ ap (λ k. replicate (4 - k) 0) (sym size)) in
-        ap (λ g. answer (some g)) padded
-        ∙ ap (λ l. record { found = true; coefficients = l }) (pad-pad 4 f)
+        ap (λ z. record { found = true; coefficients = f ++ z }) (zeros ∙ ap (λ k. replicate (4 - k) 0) (sym size))
         ∙ found ∙ ap tested coefficients
 
     pub test-failed : drop c cy ≡ replicate (4 - c) 0 → leb need (hits p (numbers (f ++ drop c cy)) xs ys) ≡ false
         → answer none ≡ tested (interpolate p (take c cx) (take c cy))
     test-failed zeros h =
-        let few : leb need (hits p f xs ys) ≡ false = sym (ap (leb need) (whole zeros)) ∙ h in
+        let few : leb need (hits p f xs ys) ≡ false = sym (ap (leb need) (all-four zeros)) ∙ h in
         let lost : answer none ≡ tested f = rw few in
         lost ∙ ap tested coefficients
 
@@ -219,10 +216,24 @@ pub fit-search : (t need : ℕ) (xs ys : List ℕ) (n e : ℕ) → t ≤ 3 → l
 unfolding fit candidates through
 fit-search t need xs ys n e h l counted spare = rw (add-one t, spare, counted) (fit-within t need xs ys h l)
 
--- What the first points sent give is the answer.
-pub fit-first : (t need : ℕ) (xs ys : List ℕ) (r : Fitted) → t ≤ 3 → length xs ≡ length ys → r ≡ answer (found modulus need xs ys (t + 1) 0 [] [] 0)
-    → r .found ≡ true → answer (some (r .coefficients)) ≡ fitIn t need xs ys
-fit-first t need xs ys r h l e g =
-    let (f, some-f) = answer-found _ (sym (ap (λ w. w .found) e) ∙ g) in
-    let n : ℕ = sent modulus ys in
-    answer-again (found modulus need xs ys (t + 1) 0 [] [] 0) r e g ∙ ap answer (some-f ∙ sym (found-front modulus need xs ys (t + 1) (n - need) [] [] 0 f some-f)) ∙ fit-search t need xs ys n (n - need) h l refl refl
+-- What the first points sent give is the answer; where they give nothing, and none may be wrong, that is.
+module _ (t need : ℕ) (xs ys : List ℕ) (r : Fitted) (h : t ≤ 3) (l : length xs ≡ length ys)
+    (e : r ≡ answer (found modulus need xs ys (t + 1) 0 [] [] 0)) where
+  abbrev spare : ℕ
+  spare = sent modulus ys - need
+
+  whole : answer (found modulus need xs ys (t + 1) spare [] [] 0) ≡ fitIn t need xs ys
+  whole = fit-search t need xs ys (sent modulus ys) spare h l refl refl
+
+  pub fit-first : r .found ≡ true → r ≡ fitIn t need xs ys
+  fit-first g =
+      let (f, some-f) = answer-found _ (sym (ap (λ w. w .found) e) ∙ g) in
+      e ∙ ap answer (some-f ∙ sym (found-front modulus need xs ys (t + 1) spare [] [] 0 f some-f)) ∙ whole
+
+  pub fit-first-none : (n : ℕ) → n ≡ sent modulus ys → n ≤ need → r .found ≡ false → answer none ≡ fitIn t need xs ys
+  fit-first-none n counted few g =
+      let none-spare : 0 ≡ spare = omega arith in
+      let lost : found modulus need xs ys (t + 1) 0 [] [] 0 ≡ none = answer-not-found _ (sym (ap (λ w. w .found) e) ∙ g) in
+      ap answer (sym lost)
+      ∙ ap (λ s. answer (found modulus need xs ys (t + 1) s [] [] 0)) none-spare
+      ∙ whole

@@ -2,14 +2,12 @@
 -- point. So the search of what is left finds it, or nothing does.
 --   Passing p k ys i j more   the loop of `behind`: from place i to place j all but `more` of k values sent are passed
 use mathlib.Core.Path.{_≡_, refl, sym, ap, ap₂, _∙_}
-use mathlib.Core.Bool.{true, false, _&&_, and-eq-true-iff}
+use mathlib.Core.Bool.{true, false}
 use mathlib.Core.Option.{none, some}
 use mathlib.Core.List.{List, [], Sublistᴰ, Sublistᴰ·trans}
 use Prim.Native.Nat.{ℕ, suc, _+_, _*_, _-_, _≤_, _<_}
 use native.Mathlib.Numerals.{add-one}
 use native.Mathlib.Omega.{arith}
-use borrow.Author.Tests.{ltb-true}
-use lib.Dec.{ltb}
 use lib.ListN.{length, take, drop, getD, length-drop}
 use lib.Seq.{drop-nil}
 use Rattle.lists.proofs.InPlace.{drop-end}
@@ -23,7 +21,7 @@ use Rattle.fit.specs.declared.Fitted.{Fitted}
 use Rattle.fit.specs.Fit.{meets, sent, received, through, Fits, fit}
 use Rattle.fit.specs.Answer.{answer, candidates, found}
 use Rattle.fit.specs.Grouping.{Behind, Grouping}
-use Rattle.fit.proofs.Answers.{answer-found, answer-not-found, answer-again}
+use Rattle.fit.proofs.Answers.{answer-found, answer-not-found}
 use Rattle.fit.proofs.Steps.{received-next, received-over}
 use Rattle.fit.proofs.Rule.{sent-length}
 use Rattle.fit.proofs.Decoding.{received-part, received-all, hits-received, tried-fits, tried-none, fit-nothing, fit-found, fit-by}
@@ -89,10 +87,10 @@ module _ (p : ℕ) (P : Prime p) (t need : ℕ) (xs ys : List ℕ) where
   module _ (i left wrong : ℕ) (g : Grouping p t need xs ys i left wrong) where
     -- What is found anywhere is the answer.
     pub groups-found : (s j : ℕ) (r : Fitted) → r ≡ answer (found p need xs ys (t + 1) s [] [] j) → r .found ≡ true
-        → answer (some (r .coefficients)) ≡ answer (fit p t need xs ys)
+        → r ≡ answer (fit p t need xs ys)
     groups-found s j r e h =
         let (f, some-f) = answer-found _ (sym (ap (λ w. w .found) e) ∙ h) in
-        answer-again (found p need xs ys (t + 1) s [] [] j) r e h ∙ ap answer (some-f ∙ sym (fit-found p P t need xs ys (g .points) (g .at-most-one) f (found-fits s j f some-f)))
+        e ∙ ap answer (some-f ∙ sym (fit-found p P t need xs ys (g .points) (g .at-most-one) f (found-fits s j f some-f)))
 
     -- The t + 1 points at place i have a wrong one, if anything fits.
     spoilt : (f : List ℕ) → Fits p t need xs ys f → count (meets p f) (take (suc t) (from i)) ≤ t
@@ -131,26 +129,22 @@ module _ (p : ℕ) (P : Prime p) (t need : ℕ) (xs ys : List ℕ) where
         ap answer (fit-by p P t need xs ys (g .points) (g .at-most-one) _ (found-fits wrong i) (λ e f F.
         omega (arith, found-nothing (g .points) wrong i e f F, g .few f F, g .size, g .room, count-take (meets p f) (suc t + wrong) (from i))))
 
--- The start: the first t + 1 points have failed, and what is tested shows that at most one polynomial fits.
-pub groups-start : (p : ℕ) → 0 < p → (t need : ℕ) (xs ys : List ℕ) (n spare : ℕ) (r : Fitted) → length xs ≡ length ys → t ≤ 3 → n ≡ sent p ys
-    → spare ≡ n - need → r ≡ answer (found p need xs ys (t + 1) 0 [] [] 0) → r .found ≡ false
-    → (ltb 0 spare && ltb (spare + t) need && points p xs) ≡ true → Grouping p t need xs ys 0 n spare × (0 < spare)
-groups-start p positive t need xs ys n spare r l h counted s e none-found tests =
-    let (two, third) = and-eq-true-iff (ltb 0 spare && ltb (spare + t) need) (points p xs) .0 tests in
-    let (first, second) = and-eq-true-iff (ltb 0 spare) (ltb (spare + t) need) .0 two in
-    let some-spare : 0 < spare = ltb-true 0 spare first in
-    let few-spare : spare + t < need = ltb-true (spare + t) need second in (
-      record {
-        sizes = l;
-        degree = h;
-        points = points-facts p xs third;
-        at-most-one = omega arith;
-        inside = omega arith;
-        within = omega (arith, sent-length p ys);
-        room = omega arith;
-        size = counted ∙ sym (received-all p xs ys l);
-        few = λ f F. omega (arith, F .enough, hits-received p f xs ys positive);
-        failed = answer-not-found _ (sym (ap (λ w. w .found) e) ∙ none-found);
-      },
-      some-spare,
-    )
+-- The start: the first t + 1 points have failed, and so few values may be wrong that at most one polynomial fits.
+pub groups-start : (p : ℕ) → 0 < p → (t need : ℕ) (xs ys : List ℕ) (n : ℕ) (r : Fitted) → length xs ≡ length ys → t ≤ 3 → n ≡ sent p ys
+    → need < n → n - need + t < need → points p xs ≡ true → r ≡ answer (found p need xs ys (t + 1) 0 [] [] 0) → r .found ≡ false
+    → Grouping p t need xs ys 0 n (n - need) × (0 < n - need)
+groups-start p positive t need xs ys n r l h counted some-wrong few-wrong distinct e none-found = (
+  record {
+    sizes = l;
+    degree = h;
+    points = points-facts p xs distinct;
+    at-most-one = omega arith;
+    inside = omega arith;
+    within = omega (arith, sent-length p ys);
+    room = omega arith;
+    size = counted ∙ sym (received-all p xs ys l);
+    few = λ f F. omega (arith, F .enough, hits-received p f xs ys positive);
+    failed = answer-not-found _ (sym (ap (λ w. w .found) e) ∙ none-found);
+  },
+  omega arith,
+)

@@ -1,13 +1,11 @@
 // Decoding by trial: the polynomial of degree at most t that agrees with at least `need` of the points.
 ghost use mathlib.Core.Path.{_≡_};
 ghost use mathlib.Core.List.{[], _∷_};
-ghost use mathlib.Core.Option.{none, some};
-ghost use mathlib.Core.Bool.{_&&_};
-ghost use Prim.Native.Nat.{_+_, _-_, _≤_, _<_};
-ghost use lib.Dec.{leb, ltb};
+ghost use mathlib.Core.Option.{none};
+ghost use Prim.Native.Nat.{_-_, _≤_, _<_};
+ghost use lib.Dec.{leb};
 ghost use lib.ListN.{length, take, drop, replicate};
 ghost use Rattle.field.specs.Modulus.{modulus};
-ghost use Rattle.polynomial.specs.Polynomial.{points};
 ghost use Rattle.polynomial.specs.Interpolation.{interpolate};
 ghost use Rattle.fit.specs.Fit.{hits, sent, firstFitting, fit};
 ghost use Rattle.fit.specs.Answer.{answer, found, Searching, fitIn};
@@ -25,16 +23,6 @@ fn nothing() -> Fitted
     Fitted {
         found: false,
         coefficients: [0; 4],
-    }
-}
-
-// What was found is handed on by its coefficients: to copy the struct is slower.
-fn something(f: [u16; 4]) -> Fitted
-    ensures { λ r. ⌜ r ≡ answer (some f) ⌝ }
-{
-    Fitted {
-        found: true,
-        coefficients: f,
     }
 }
 
@@ -86,7 +74,10 @@ fn test(xs: &[u16], ys: &[u16], need: usize, c: usize, cx: [u16; 4], cy: [u16; 4
     let mut f = cy;
     polynomial::interpolate(&cx[..c], &mut f[..c]);
     if enough(f[0], f[1], f[2], f[3], xs, ys, need) {
-        something(f)
+        Fitted {
+            found: true,
+            coefficients: f,
+        }
     } else {
         nothing()
     }
@@ -165,31 +156,13 @@ fn search(
     dy[c] = y;
     let with_it = search(xs, ys, need, i + 1, more - 1, spare, c + 1, dx, dy);
     if with_it.found {
-        let f = with_it.coefficients;
-        return something(f);
+        let g = with_it.coefficients;
+        return Fitted {
+            found: with_it.found,
+            coefficients: g,
+        };
     }
     search(xs, ys, need, i + 1, more, spare - 1, c, cx, cy)
-}
-
-// How many of the n values sent may be wrong.
-fn surplus(n: usize, need: usize) -> usize
-    ensures { λ r. ⌜ r ≡ n - need ⌝ }
-{
-    if need < n { n - need } else { 0 }
-}
-
-// Whether some values may be wrong, but so few, and at distinct points, that at most one polynomial can fit.
-fn at_most_one(t: usize, need: usize, wrong: usize, xs: &[u16]) -> bool
-    requires { ⌜ (t ≤ 3) × (wrong ≤ length (now xs)) ⌝ }
-    ensures { λ r. ⌜ r ≡ ltb 0 wrong && ltb (wrong + t) need && points modulus (now (xs .entry)) ⌝ }
-{
-    if wrong == 0 {
-        return false;
-    }
-    if need <= wrong + t {
-        return false;
-    }
-    polynomial::points(xs)
 }
 
 // The place behind the next k values sent from place i on.
@@ -227,8 +200,11 @@ fn groups(t: usize, need: usize, xs: &[u16], ys: &[u16], sent: usize, spare: usi
         wrong -= 1;
         let group = straight(xs, ys, need, i, t + 1, 0, [0; 4], [0; 4]);
         if group.found {
-            let f = group.coefficients;
-            return something(f);
+            let g = group.coefficients;
+            return Fitted {
+                found: group.found,
+                coefficients: g,
+            };
         }
         if wrong == 0 {
             return nothing();
@@ -249,15 +225,23 @@ pub fn fit(t: usize, need: usize, xs: &[u16], ys: &[u16]) -> Fitted
     if xs.len() != ys.len() {
         return nothing();
     }
-    let n = sent(ys);
-    let spare = surplus(n, need);
     let first = straight(xs, ys, need, 0, t + 1, 0, [0; 4], [0; 4]);
     if first.found {
-        let f = first.coefficients;
-        return something(f);
+        let g = first.coefficients;
+        return Fitted {
+            found: first.found,
+            coefficients: g,
+        };
     }
-    if at_most_one(t, need, spare, xs) {
-        return groups(t, need, xs, ys, n, spare);
+    let n = sent(ys);
+    if n <= need {
+        return nothing();
+    }
+    let spare = n - need;
+    if spare + t < need {
+        if polynomial::points(xs) {
+            return groups(t, need, xs, ys, n, spare);
+        }
     }
     search(xs, ys, need, 0, t + 1, spare, 0, [0; 4], [0; 4])
 }

@@ -15,7 +15,6 @@ use Rattle.fit.proofs.search.Kinds as search-kinds
 use Rattle.fit.proofs.+search.Lts-search as search-lts
 use Rattle.fit.proofs.nothing.Reads as nothing-reads
 use Rattle.fit.proofs.straight.Reads as straight-reads
-use Rattle.fit.proofs.something.Reads as something-reads
 use Rattle.fit.proofs.+search.{statement}
 use Rattle.fit.proofs.+search.Tie.{close}
 
@@ -31,7 +30,7 @@ search-below t = and 2 search-kinds.ps (falls 2 search-kinds.ps _<_ μ-search t)
 -- What the callees are known by.
 abbrev claims : ℕ → search-lts.Claims
 claims t =
-    (straight-reads.Asked, straight-reads.Learnt, nothing-reads.Asked, nothing-reads.Learnt, search-below t, search′.Post, something-reads.Asked, something-reads.Learnt)
+    (straight-reads.Asked, straight-reads.Learnt, nothing-reads.Asked, nothing-reads.Learnt, search-below t, search′.Post)
 
 -- The arrays hold four numbers each.
 sizes : (t : ℕ) (s : search-lts.Start (claims t) (search-at t) search′.Post) → (length (s .args .cx) ≡ 4) × (length (s .args .cy) ≡ 4)
@@ -132,13 +131,8 @@ module _ (t : ℕ) where
       let zeros = zeros-next (s .args .c) _ (s .args .cy) (omega arith) (sizes t s .1) (s .pre .1 .zeros) in
       (omega arith, record { sizes = s .pre .1 .sizes; inside = omega arith; room = omega arith; zeros = zeros })
 
-  something-requires : search-lts.Need-something-requires (claims t) (search-at t) search′.Post
-  something-requires c κs = search needs
-
   returns-5 : search-lts.Need-returns-5 (claims t) (search-at t) search′.Post
-  returns-5 c =
-      let a = c .before .before .before in
-      c .something .ensures ∙ taken t a .with-it (c .before .before .if5 .taken)
+  returns-5 c = taken t (c .before .before) .with-it (c .before .if5 .taken)
 
   add-search-4 : search-lts.Need-add-search-4 (claims t) (search-at t) search′.Post
   add-search-4 c = search needs
@@ -179,7 +173,6 @@ pub +search-spec : {M : Type 1} → statement M
     (sub-search t)
     (add-search-3 t)
     (search-requires-2 t)
-    (something-requires t)
     (returns-5 t)
     (add-search-4 t)
     (sub-search-2 t)

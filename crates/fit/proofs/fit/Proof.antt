@@ -5,7 +5,7 @@ use native.Mathlib.Omega.{arith}
 use Rattle.field.specs.Modulus.{modulus}
 use Rattle.fit.proofs.Answers.{fit-wide, fit-uneven, fit-within}
 use Rattle.fit.proofs.Rule.{sent-length}
-use Rattle.fit.proofs.Arrays.{fit-search, fit-first}
+use Rattle.fit.proofs.Arrays.{fit-search, fit-first, fit-first-none}
 use Rattle.fit.proofs.Grouping.{groups-start}
 use borrow.Author.Needs.{needs}
 use Rattle.fit.proofs.fit.Statement.{statement}
@@ -23,43 +23,53 @@ nothing-requires-2 c κs = search needs
 returns-2 : tie.Need-returns-2
 returns-2 c = c .nothing2 .ensures ∙ fit-uneven _ _ _ _ (c .before .before .if1 .left) (c .before .if2 .taken)
 
-sent-requires : tie.Need-sent-requires
-sent-requires c κs = search needs
-
-surplus-requires : tie.Need-surplus-requires
-surplus-requires c κs = search needs
-
 add-straight : tie.Need-add-straight
 add-straight c = search needs
 
 straight-requires : tie.Need-straight-requires
 straight-requires c κs = record { sizes = omega arith; inside = omega arith; room = omega arith; zeros = refl }
 
-something-requires : tie.Need-something-requires
-something-requires c κs = search needs
-
 returns-3 : tie.Need-returns-3
 returns-3 c =
-    let tried = c .before .before .before in
-    let sized = tried .before .before .before in
-    c .something .ensures ∙ fit-first _ _ _ _ _ (sized .before .if1 .left) (sized .if2 .left) (tried .straight .ensures) (c .before .before .if3 .taken)
+    let tried = c .before .before in
+    fit-first _ _ _ _ _ (tried .before .before .if1 .left) (tried .before .if2 .left) (tried .straight .ensures) (c .before .if3 .taken)
 
-at-most-one-requires : tie.Need-at-most-one-requires
-at-most-one-requires c κs =
-    let counted = c .before .before .before in
-    (omega arith, omega (arith, c .before .before .surplus .ensures, counted .sent .ensures, sent-length modulus (counted .before .before .before .before .before .args .ys .now)))
+sent-requires : tie.Need-sent-requires
+sent-requires c κs = search needs
 
-groups-requires : tie.Need-groups-requires
-groups-requires c κs =
-    let tried = c .before .before .before in
-    let counted = tried .before .before in
-    groups-start modulus (omega arith) _ _ _ _ _ _ _ (counted .before .if2 .left) (counted .before .before .if1 .left)
-    (counted .sent .ensures) (tried .before .surplus .ensures) (tried .straight .ensures) (c .before .before .if3 .left)
-    (sym (c .before .at-most-one .ensures) ∙ c .if4 .taken)
+nothing-requires-3 : tie.Need-nothing-requires-3
+nothing-requires-3 c κs = search needs
 
 returns-4 : tie.Need-returns-4
 returns-4 c =
-    let sized = c .before .before .before .before .before .before .before in
+    let counted = c .before .before in
+    let tried = counted .before .before in
+    c .nothing3 .ensures
+    ∙ fit-first-none _ _ _ _ _ (tried .before .before .if1 .left) (tried .before .if2 .left) (tried .straight .ensures)
+    _ (counted .sent .ensures) (c .before .if4 .taken) (counted .before .if3 .left)
+
+sub-spare : tie.Need-sub-spare
+sub-spare c = search needs
+
+add-if5 : tie.Need-add-if5
+add-if5 c =
+    let counted = c .before in
+    omega (arith, counted .sent .ensures, sent-length modulus (counted .before .before .before .before .before .before .before .args .ys .now))
+
+points-requires : tie.Need-points-requires
+points-requires c κs = search needs
+
+groups-requires : tie.Need-groups-requires
+groups-requires c κs =
+    let counted = c .before .before .before .before in
+    let tried = counted .before .before in
+    groups-start modulus (omega arith) _ _ _ _ _ _ (tried .before .if2 .left) (tried .before .before .if1 .left) (counted .sent .ensures)
+    (c .before .before .before .if4 .left) (c .before .before .if5 .taken) (sym (c .before .points .ensures) ∙ c .if6 .taken)
+    (tried .straight .ensures) (counted .before .if3 .left)
+
+returns-5 : tie.Need-returns-5
+returns-5 c =
+    let sized = c .before .before .before .before .before .before .before .before in
     c .groups .ensures ∙ fit-within _ _ _ _ (sized .before .if1 .left) (sized .if2 .left)
 
 add-search : tie.Need-add-search
@@ -68,12 +78,11 @@ add-search c = search needs
 search-requires : tie.Need-search-requires
 search-requires c κs = record { sizes = omega arith; inside = omega arith; room = omega arith; zeros = refl }
 
-returns-5 : tie.Need-returns-5
-returns-5 c =
-    let counted = c .before .before .before .before .before .before in
-    c .search .ensures
-    ∙ fit-search _ _ _ _ _ _ (counted .before .before .if1 .left) (counted .before .if2 .left) (counted .sent .ensures)
-    (c .before .before .before .before .before .surplus .ensures)
+returns-6 : tie.Need-returns-6
+returns-6 c =
+    let counted = c .before .before .before in
+    let sized = counted .before .before .before in
+    c .search .ensures ∙ fit-search _ _ _ _ _ _ (sized .before .if1 .left) (sized .if2 .left) (counted .sent .ensures) refl
 
 pub fit-spec : {M : Type 1} → statement M
 fit-spec =
@@ -83,15 +92,17 @@ fit-spec =
     returns
     nothing-requires-2
     returns-2
-    sent-requires
-    surplus-requires
     add-straight
     straight-requires
-    something-requires
     returns-3
-    at-most-one-requires
-    groups-requires
+    sent-requires
+    nothing-requires-3
     returns-4
+    sub-spare
+    add-if5
+    points-requires
+    groups-requires
+    returns-5
     add-search
     search-requires
-    returns-5)
+    returns-6)

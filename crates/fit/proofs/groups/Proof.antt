@@ -62,16 +62,12 @@ straight-requires c κs =
     let k = c .before .before .loop .inv .0 in
     record { sizes = k .sizes; inside = omega (arith, c .behind .ensures .within, k .sizes); room = omega arith; zeros = refl }
 
-something-requires : tie.Need-something-requires Inv-loop μ-loop
-something-requires c κs = search needs
-
 returns : tie.Need-returns Inv-loop μ-loop
 returns c =
-    let group = c .before .before .before in
+    let group = c .before .before in
     let k = group .before .before .before .loop in
-    c .something .ensures
-    ∙ groups-found modulus prime _ _ _ _ (k .i) (k .left) (k .wrong) (k .inv .0) 0 (group .before .behind .result) _ (group .straight .ensures)
-    (c .before .before .if1 .taken)
+    groups-found modulus prime _ _ _ _ (k .i) (k .left) (k .wrong) (k .inv .0) 0 (group .before .behind .result) _ (group .straight .ensures)
+    (c .before .if1 .taken)
 
 nothing-requires : tie.Need-nothing-requires Inv-loop μ-loop
 nothing-requires c κs = search needs
@@ -117,7 +113,6 @@ groups-spec =
     sub-wrong
     add-straight
     straight-requires
-    something-requires
     returns
     nothing-requires
     returns-2

@@ -47,20 +47,16 @@ array-read-enough-4 c = search needs
 enough-requires : tie.Need-enough-requires
 enough-requires c κs = search needs
 
-something-requires : tie.Need-something-requires
-something-requires c κs = search needs
-
 nothing-requires : tie.Need-nothing-requires
 nothing-requires c κs = search needs
 
 returns : tie.Need-returns
 returns c =
-    let i = c .before .before .before .before in
+    let i = c .before .before .before in
     let s = i .before .before .before .before .before in
     let l = sizes s in
-    c .something .ensures
-    ∙ test-passed modulus (s .args .c) (s .args .t5) (s .args .cy) _ (omega arith) (l .0) (l .1) (i .interpolate .ensures)
-    (s .args .need) _ _ (s .pre .1 .1) (sym (c .before .before .enough .ensures) ∙ c .before .if1 .taken)
+    test-passed modulus (s .args .c) (s .args .t5) (s .args .cy) _ (omega arith) (l .0) (l .1) (i .interpolate .ensures)
+    (s .args .need) _ _ (s .pre .1 .1) (sym (c .before .enough .ensures) ∙ c .if1 .taken)
 
 returns-2 : tie.Need-returns-2
 returns-2 c =
@@ -85,7 +81,6 @@ test-spec =
     array-read-enough-3
     array-read-enough-4
     enough-requires
-    something-requires
     nothing-requires
     returns
     returns-2)
