@@ -6,6 +6,11 @@ use super::fit::{interpolate, search, surplus, value, Taken};
 pub const NAME: &str = "every choice in order";
 
 pub fn fit(t: usize, need: usize, xs: &[u16], ys: &[u16]) -> Option<[u16; 4]> {
+    choices(t, need, xs, ys, surplus(need, ys))
+}
+
+/// The choices of t + 1 among the first t + 1 + spare points sent, in order, until one fits.
+pub fn choices(t: usize, need: usize, xs: &[u16], ys: &[u16], spare: usize) -> Option<[u16; 4]> {
     if 3 < t || xs.len() != ys.len() {
         return None;
     }
@@ -14,5 +19,5 @@ pub fn fit(t: usize, need: usize, xs: &[u16], ys: &[u16]) -> Option<[u16; 4]> {
         let hits = xs.iter().zip(ys).filter(|&(&x, &y)| value(&f[..taken.count], x) == y).count();
         (need <= hits).then_some(f)
     };
-    search(xs, ys, &test, 0, t + 1, surplus(need, ys), Taken::default())
+    search(xs, ys, &test, 0, t + 1, spare, Taken::default())
 }

@@ -30,8 +30,8 @@ use Rattle.happy.specs.Happy.{happySet}
 use Rattle.happy.proofs.Happy.{happy-is, happy-only}
 use Rattle.lists.specs.Choices.{select}
 use Rattle.fit.specs.Fit.{misses, Fits, fit}
-use Rattle.fit.proofs.Decoding.{fit-unique, fit-none-iff, fit-found}
-use Rattle.fit.proofs.Rule.{fits-iff, at-most-one}
+use Rattle.fit.proofs.Decoding.{fit-unique, fit-none-iff}
+use Rattle.fit.proofs.Rule.{fits-iff, at-most-one, near-found as fitting-found}
 use Rattle.fit.proofs.Selection.{points-select}
 use Rattle.lists.proofs.Selections.{length-select}
 use Rattle.parties.specs.Parties.{sizes, isParty, pointOf, points, member, entry}
@@ -67,7 +67,7 @@ module _ (p : ℕ) (P : Prime p) (t : ℕ) (xs ys : List ℕ) (ps : Points p xs)
   near f h = fits-iff p t xs ys l (omega arith) f .1 (h .poly, h .few)
 
   pub near-found : (f : List ℕ) → Nearest p t xs ys f → fit p t (length xs - t) xs ys ≡ some f
-  near-found f h = fit-found p P t (length xs - t) xs ys ps (at-most-one p t xs ys l many) f (near f h)
+  near-found f h = fitting-found p P t xs ys ps l many f (h .poly, h .few)
 
   pub near-only : (f g : List ℕ) → Nearest p t xs ys f → Nearest p t xs ys g → f ≡ g
   near-only f g hf hg = fit-unique p P t (length xs - t) xs ys ps (at-most-one p t xs ys l many) f g (near f hf) (near g hg)

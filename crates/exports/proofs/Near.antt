@@ -12,8 +12,8 @@ use Rattle.field.specs.Modulus.{modulus}
 use Rattle.field.proofs.Primes.{prime}
 use Rattle.polynomial.specs.Polynomial.{Points, Poly}
 use Rattle.fit.specs.Fit.{misses, fit}
-use Rattle.fit.proofs.Decoding.{fit-sound, fit-found}
-use Rattle.fit.proofs.Rule.{fits-iff, at-most-one}
+use Rattle.fit.proofs.Decoding.{fit-sound}
+use Rattle.fit.proofs.Rule.{fits-iff, near-found}
 use Rattle.parties.specs.Parties.{sizes, points}
 use Rattle.parties.proofs.Parties.{sizes-facts, length-points, points-distinct, points-below}
 use Rattle.lamp.specs.Lamp.{constant}
@@ -22,12 +22,6 @@ use Rattle.exports.proofs.Answers.{lengths-facts, repairing-by, opening
 
 abbrev pub Near : ℕ → List ℕ → List ℕ → List ℕ → Type 0
 Near t xs ys f = Poly modulus (suc t) f × (misses modulus f xs ys ≤ t)
-
--- What is near is found, where there are enough points.
-near-found : (t : ℕ) (xs ys : List ℕ) → length xs ≡ length ys → 3 * t + 1 ≤ length xs → Points modulus xs → (f : List ℕ) → Near t xs ys f
-    → fit modulus t (length xs - t) xs ys ≡ some f
-near-found t xs ys l m ps f h =
-    fit-found modulus prime t (length xs - t) xs ys ps (at-most-one modulus t xs ys l m) f (fits-iff modulus t xs ys l (omega arith) f .1 h)
 
 module _ (t : ℕ) (xs ys column : List ℕ) (a : 1 ≤ t) (b : t ≤ 3) (l : lengthsFit t (length xs) (length ys) (length column) ≡ true) where
   pub written-near : repairing t xs ys column .1 ≡ 0 → Near t xs ys (repairing t xs ys column .0)
@@ -42,7 +36,7 @@ module _ (t : ℕ) (xs ys column : List ℕ) (a : 1 ≤ t) (b : t ≤ 3) (l : le
   pub near-written : Points modulus xs → (f : List ℕ) → Near t xs ys f → repairing t xs ys column ≡ (f, 0)
   near-written ps f h =
       let facts = lengths-facts t _ _ _ l in
-      repairing-by t xs ys column a b l ∙ ap (repaired column) (near-found t xs ys (facts .0) (facts .1) ps f h)
+      repairing-by t xs ys column a b l ∙ ap (repaired column) (near-found modulus prime t xs ys ps (facts .0) (facts .1) f h)
 
   -- 9 is the truth.
   pub none-near : Points modulus xs → repairing t xs ys column .1 ≡ 9 → (f : List ℕ) → Near t xs ys f → ⊥
@@ -68,7 +62,7 @@ module _ (n t : ℕ) (shares : List ℕ) (old : ℕ) (s : sizes n t ≡ true) (l
   near-opened f h =
       let size = sizes-facts n t s in
       let same : length (points n) ≡ n = length-points n in
-      let found = near-found t (points n) shares (same ∙ sym l) (omega arith) (points-below modulus n (size .3) (omega arith), points-distinct n) f h in
+      let found = near-found modulus prime t (points n) shares (points-below modulus n (size .3) (omega arith), points-distinct n) (same ∙ sym l) (omega arith) f h in
       opening-by n t shares old s l ∙ ap (λ m. opened old (fit modulus t (m - t) (points n) shares)) (sym same) ∙ ap (opened old) found
 
   -- 10 is the truth.

@@ -1,14 +1,17 @@
 -- "A polynomial of degree at most t fits a list of points if at most t differ": that is the need m − t on m points.
 use mathlib.Core.Path.{_≡_, refl, ap, _∙_}
 use mathlib.Core.Logic.{_↔_}
+use mathlib.Core.Option.{some}
 use mathlib.Core.List.{List, [], _∷_}
 use Prim.Native.Nat.{ℕ, suc, _+_, _*_, _-_, _≤_}
 use native.Mathlib.Omega.{arith}
 use lib.Dec.{ltb}
 use lib.ListN.{length}
-use Rattle.polynomial.specs.Polynomial.{Poly}
-use Rattle.fit.specs.Fit.{pointsOf, meets, hits, misses, sent, Fits}
+use Rattle.field.specs.Arithmetic.{Prime}
+use Rattle.polynomial.specs.Polynomial.{Points, Poly}
+use Rattle.fit.specs.Fit.{pointsOf, meets, hits, misses, sent, Fits, fit}
 use Rattle.lists.proofs.Choices.{count-length, count-not}
+use Rattle.fit.proofs.Decoding.{fit-found}
 
 length-points : (xs ys : List ℕ) → length xs ≡ length ys → length (pointsOf xs ys) ≡ length xs
 length-points [] ys l = refl
@@ -34,3 +37,9 @@ module _ (p t : ℕ) (xs ys : List ℕ) (l : length xs ≡ length ys) where
   -- With 3t + 1 points at most one fits.
   pub at-most-one : 3 * t + 1 ≤ length xs → sent p ys + t + 1 ≤ 2 * (length xs - t)
   at-most-one h = omega (arith, sent-length p ys)
+
+-- With distinct residues as points, enough of them, what differs in at most t places is found.
+pub near-found : (p : ℕ) → Prime p → (t : ℕ) (xs ys : List ℕ) → Points p xs → length xs ≡ length ys → 3 * t + 1 ≤ length xs
+    → (f : List ℕ) → Poly p (suc t) f × (misses p f xs ys ≤ t) → fit p t (length xs - t) xs ys ≡ some f
+near-found p P t xs ys ps l many f h =
+    fit-found p P t (length xs - t) xs ys ps (at-most-one p t xs ys l many) f (fits-iff p t xs ys l (omega arith) f .1 h)

@@ -1,36 +1,32 @@
 -- The text of a record that is not refused is the one straight from its numbers: each lamp takes its deal and its pairs, and
 -- answers to settling as step 4 says. So no lamp of a record says 1, 2, 3 or 4, and all lamps that settle say the printed verdict.
 use mathlib.Core.Path.{_≡_, refl, sym, ap, ap₂, _∙_}
-use mathlib.Core.Logic.{⊎-elim}
-use mathlib.Core.Bool.{Bool, true, false, cond, _&&_, and-eq-true-iff}
+use mathlib.Core.Bool.{Bool, true, false, cond, _&&_}
 use mathlib.Core.Option.{Option, none, some, Option·none-ne-some, Option·some-injective}
-use mathlib.Core.List.{List, [], _∷_, _++_}
+use mathlib.Core.List.{List, _++_}
 use Prim.Native.Nat.{ℕ, zero, suc, _+_, _*_, _-_, _≤_}
-use native.Mathlib.Numerals.{add-one}
 use native.Mathlib.Omega.{arith}
 use lib.Count.{ones}
 use lib.Dec.{eqb, leb}
-use lib.ListN.{length, take, drop, replicate, length-drop}
+use lib.ListN.{length, drop, replicate, length-drop}
 use lib.Seq.{take-at, take-all, length-take-le}
 use borrow.Author.Tests.{eq-eqb}
 use Rattle.lists.specs.Masks.{bit}
 use Rattle.lists.specs.Tabulate.{tabulate, pad}
 use Rattle.lists.specs.Choices.{select}
 use Rattle.lists.proofs.Tabulate.{length-tabulate}
-use Rattle.lists.proofs.Cases.{true-or-false}
 use Rattle.field.specs.Modulus.{modulus}
 use Rattle.fit.specs.Fit.{fit}
-use Rattle.parties.specs.Parties.{isParty, points, member, entry}
+use Rattle.parties.specs.Parties.{points, member, entry}
 use Rattle.parties.proofs.Parties.{party-true}
 use Rattle.dealer.specs.Desk.{stretch}
-use Rattle.lamp.specs.declared.Stage.the-variants.{Reported}
 use Rattle.lamp.specs.declared.Refusal.the-variants.{AlteredReport}
 use Rattle.lamp.specs.declared.Answer.the-variants.{Done}
 use Rattle.lamp.specs.declared.Lamp.{Lamp}
 use Rattle.lamp.specs.declared.Reply.{Reply}
 use Rattle.lamp.specs.Answer.{numberOf}
 use Rattle.lamp.specs.Deal.{rowOf, columnOf, firstFrom, reportOf}
-use Rattle.lamp.specs.Lamp.{Sized, made, reply, isAt, rowOfLamp, columnOfLamp, withDeal, firsts, withPairs, reportFrom, constant, repair, repaired, refuse, atEnd, settled, takeDeal, hearPairs, settle, step}
+use Rattle.lamp.specs.Lamp.{Sized, made, reply, columnOfLamp, withDeal, firsts, withPairs, reportFrom, constant, repair, repaired, refuse, atEnd, settled, takeDeal, hearPairs, settle, step}
 use Rattle.record.specs.Record.{nOf, tOf, reading}
 use Rattle.record.specs.declared.Reading.the-variants.{Fine}
 use Rattle.transcript.specs.Letters.{letters, field, line}

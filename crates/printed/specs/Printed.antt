@@ -6,14 +6,14 @@
 --   Printed                   the claim, for every record and every choice of honest lamps
 use mathlib.Core.Path.{_≡_}
 use mathlib.Core.Logic.{_⊎_}
-use mathlib.Core.Bool.{Bool, true, false, not}
+use mathlib.Core.Bool.{Bool, true, not}
 use mathlib.Core.List.{List, [], _∷_, _++_}
 use Prim.Native.Nat.{ℕ, suc, _≤_}
 use lib.ListN.{getD}
 use Rattle.lists.specs.Choices.{count}
 use Rattle.field.specs.Modulus.{modulus}
 use Rattle.polynomial.specs.Bivariate.{at}
-use Rattle.parties.specs.Parties.{isParty, parties, pointOf, entry}
+use Rattle.parties.specs.Parties.{parties, pointOf, entry}
 use Rattle.lamp.specs.Deal.{rowOf, columnOf, firstFrom, secondFrom, pairFor}
 use Rattle.lamp.specs.Lamp.{openShares}
 use Rattle.record.specs.Record.{nOf, tOf, reading}
