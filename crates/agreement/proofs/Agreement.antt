@@ -34,8 +34,9 @@ use Rattle.lamp.specs.declared.Answer.the-variants.{Accepted as Accepted-answer
 use Rattle.lamp.specs.declared.Lamp.{Lamp}
 use Rattle.lamp.specs.declared.Reply.{Reply}
 use Rattle.lamp.specs.Answer.{numberOf, valuesOf}
-use Rattle.lamp.specs.Deal.{rowOf, columnOf, firstFrom}
-use Rattle.lamp.specs.Lamp.{Call, takeDeal, sayPair, hearPairs, settle, openShares, made, reply, firsts, constant, columnOfLamp, withDeal, withPairs, atEnd, repair, settled, opening, step, after}
+use Rattle.consistency.specs.Deal.{rowOf, columnOf, firstFrom}
+use Rattle.recovery.specs.Recovery.{repair}
+use Rattle.lamp.specs.Lamp.{Call, takeDeal, sayPair, hearPairs, settle, openShares, made, reply, firsts, constant, columnOfLamp, withDeal, withPairs, atEnd, settled, opening, step, after}
 use Rattle.agreement.specs.Calls.{Run, toDeal, toPairs, toReports, whole, sinceDeal, sinceSettling, At, Begins}
 use Rattle.agreement.specs.Demand3.{Execution, Honest, Premises, HonestDealer, Speaks, Stays, Rejects, Accepts, OnF, AllReject, AllAccept, Conclusions, Demand3, shareOf, lampAt}
 use Rattle.agreement.proofs.Counting.{honest-parties}

@@ -16,7 +16,7 @@ use Rattle.lamp.specs.declared.Stage.the-variants.{Waiting, Dealt, Reported}
 use Rattle.lamp.specs.declared.Answer.the-variants.{Done, Pair, Report}
 use Rattle.lamp.specs.declared.Lamp.{Lamp}
 use Rattle.lamp.specs.declared.Reply.{Reply}
-use Rattle.lamp.specs.Deal.{rowOf, columnOf, pairFor, reportOf}
+use Rattle.consistency.specs.Deal.{rowOf, columnOf, pairFor, reportOf}
 use Rattle.lamp.specs.Lamp.{Sized, made, reply, isAt, rowOfLamp, columnOfLamp, withDeal, saidPair, withPairs, reportFrom, settled, Call, takeDeal, sayPair, hearPairs, settle, openShares, step, after}
 use Rattle.agreement.specs.Calls.{Run, toDeal, toPairs, toReports, whole, sinceDeal, sinceSettling, At, Never, isDeal, isHearing, isSettling, moves}
 use Rattle.agreement.specs.Demand3.{Brings, reportBy, pairOf}

@@ -15,7 +15,7 @@ use Rattle.polynomial.specs.Polynomial.{Residues, residues, value}
 use Rattle.polynomial.proofs.Below.{residues-true, residues-facts}
 use Rattle.parties.specs.Parties.{isParty, pointOf, member, notSent}
 use Rattle.parties.proofs.Parties.{party-facts}
-use Rattle.lamp.specs.Deal.{firstFrom, secondFrom, sound, pairFor, confirms, reportOf}
+use Rattle.consistency.specs.Deal.{firstFrom, secondFrom, sound, pairFor, confirms, reportOf}
 
 module _ (p i : ℕ) (row column : List ℕ) where
   pub record Sound : Type 0 where

@@ -36,7 +36,8 @@ use Rattle.fit.proofs.Rule.{sent-length}
 use Rattle.fit.proofs.Selection.{fit-marked, fit-hide, sent-marked}
 use Rattle.parties.specs.Parties.{sizes, isParty, parties, pointOf, points, member, entry, notSent}
 use Rattle.parties.proofs.Parties.{sizes-facts, party-facts, party-true, mem-parties, length-parties, length-points, getD-points, points-distinct, points-below, not-sent-above}
-use Rattle.lamp.specs.Lamp.{constant, repair}
+use Rattle.recovery.specs.Recovery.{repair}
+use Rattle.lamp.specs.Lamp.{constant}
 use Rattle.agreement.proofs.Counting.{marks-ones, honest-members, honest-parties, mem-keep, keep-mem}
 
 -- Of two distinct points one is not a given party's.

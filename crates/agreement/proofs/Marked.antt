@@ -13,8 +13,9 @@ use Rattle.happy.specs.Happy.{joins, better, best, largest, largestIn, happySet
 use Rattle.fit.specs.Fit.{hits, sent, received, through, fit}
 use Rattle.parties.specs.Parties.{sizes, isParty, pointOf, notSent}
 use Rattle.dealer.specs.Desk.{deal, deals, verdict, desk}
-use Rattle.lamp.specs.Deal.{sound, confirms, reportOf}
-use Rattle.lamp.specs.Lamp.{lowest, check, make, withDeal, withPairs, reportFrom, atEnd, repair, settled, opening, step}
+use Rattle.consistency.specs.Deal.{sound, confirms, reportOf}
+use Rattle.recovery.specs.Recovery.{repair}
+use Rattle.lamp.specs.Lamp.{lowest, check, make, withDeal, withPairs, reportFrom, atEnd, settled, opening, step}
 use Rattle.agreement.specs.Marked.{holds, allHold, table, traps}
 
 pub markedHold : allHold modulus (table ++ traps) ≡ true

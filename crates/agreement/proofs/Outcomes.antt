@@ -18,8 +18,9 @@ use Rattle.lamp.specs.declared.Refusal.the-variants.{DealerRejected}
 use Rattle.lamp.specs.declared.Answer.the-variants.{Accepted, Opened, Refused}
 use Rattle.lamp.specs.declared.Lamp.{Lamp}
 use Rattle.lamp.specs.declared.Reply.{Reply}
-use Rattle.lamp.specs.Deal.{firstFrom}
-use Rattle.lamp.specs.Lamp.{reply, columnOfLamp, firsts, withPairs, atEnd, constant, repair, repaired, settled, opened, opening}
+use Rattle.consistency.specs.Deal.{firstFrom}
+use Rattle.recovery.specs.Recovery.{repair}
+use Rattle.lamp.specs.Lamp.{reply, columnOfLamp, firsts, withPairs, atEnd, constant, repaired, settled, opened, opening}
 
 module _ (p : ℕ) (l : Lamp) (S : ℕ) where
   pub settled-rejects : ones S < l .n - l .t → settled p l S ≡ reply (atEnd l Closed 0 0) (Refused DealerRejected)

@@ -27,7 +27,7 @@ use Rattle.lists.specs.Choices.{count}
 use Rattle.lists.proofs.Choices.{count-yes, count-no}
 use Rattle.parties.specs.Parties.{sizes, isParty, parties, pointOf, member, entry}
 use Rattle.parties.proofs.Parties.{sizes-facts, party-facts, party-true, mem-parties}
-use Rattle.lamp.specs.Deal.{firstFrom, secondFrom, sound, pairFor, confirms, reportOf}
+use Rattle.consistency.specs.Deal.{firstFrom, secondFrom, sound, pairFor, confirms, reportOf}
 use Rattle.agreement.proofs.Counting.{ones-parties, honest-parties}
 use Rattle.agreement.proofs.Deals.{Sound, sound-facts, sound-true, pair-first, pair-second, Confirmed, confirmed, confirms-true, report-bit}
 use Rattle.agreement.proofs.Geometry.{Inside, Crossed, neighbour}

@@ -45,8 +45,9 @@ use Rattle.lamp.specs.declared.Answer.the-variants.{Accepted, Opened, Refused}
 use Rattle.lamp.specs.declared.Lamp.{Lamp}
 use Rattle.lamp.specs.declared.Reply.{Reply}
 use Rattle.lamp.specs.Answer.{numberOf, valuesOf, stageNumber}
-use Rattle.lamp.specs.Deal.{rowOf, columnOf}
-use Rattle.lamp.specs.Lamp.{withDeal, withPairs, reportFrom, takeDeal, hearPairs, rowOfLamp, Sized, reply, refuse, isAt, columnOfLamp, constant, atEnd, repair, repaired, settled, opening, opened, settle, openShares, step}
+use Rattle.consistency.specs.Deal.{rowOf, columnOf}
+use Rattle.recovery.specs.Recovery.{repair}
+use Rattle.lamp.specs.Lamp.{withDeal, withPairs, reportFrom, takeDeal, hearPairs, rowOfLamp, Sized, reply, refuse, isAt, columnOfLamp, constant, atEnd, repaired, settled, opening, opened, settle, openShares, step}
 use Rattle.agreement.specs.Demand2.{Takes, Hears, TakesRight, HearsRight, Nearest, FewAgree, pointsIn, heardIn, Stands, Settles, Opens, RejectsRight, KeepsRight, RepairsRight, OpensRight, DealsRight, Demand2}
 use Rattle.agreement.specs.Demand3.{Gives, Refuses}
 use Rattle.agreement.proofs.Counting.{marks-ones}

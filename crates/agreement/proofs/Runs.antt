@@ -24,8 +24,9 @@ use Rattle.lamp.specs.declared.Stage.the-variants.{Waiting, Dealt, Reported, Ho
 use Rattle.lamp.specs.declared.Lamp.{Lamp}
 use Rattle.lamp.specs.declared.Reply.{Reply}
 use Rattle.lamp.specs.Answer.{stageNumber}
-use Rattle.lamp.specs.Deal.{rowOf, columnOf, pairFor, reportOf}
-use Rattle.lamp.specs.Lamp.{Sized, made, isAt, rowOfLamp, columnOfLamp, withDeal, saidPair, withPairs, reportFrom, atEnd, constant, repair, repaired, settled, Call, takeDeal, sayPair, hearPairs, settle, openShares, step, after}
+use Rattle.consistency.specs.Deal.{rowOf, columnOf, pairFor, reportOf}
+use Rattle.recovery.specs.Recovery.{repair}
+use Rattle.lamp.specs.Lamp.{Sized, made, isAt, rowOfLamp, columnOfLamp, withDeal, saidPair, withPairs, reportFrom, atEnd, constant, repaired, settled, Call, takeDeal, sayPair, hearPairs, settle, openShares, step, after}
 use Rattle.agreement.specs.Calls.{Run, toDeal, toPairs, toReports, whole, sinceDeal, sinceSettling, At, Never, isDeal, isHearing, isSettling, moves}
 use Rattle.agreement.specs.Demand3.{Brings, reportBy, pairOf}
 use Rattle.agreement.proofs.Steps.{awaited, takes, hears, settles, quiet, all-quiet, after-append}

@@ -30,8 +30,9 @@ use Rattle.lamp.specs.declared.Admission.the-variants.{Pass, Fail}
 use Rattle.lamp.specs.declared.Lamp.{Lamp}
 use Rattle.lamp.specs.declared.Reply.{Reply}
 use Rattle.lamp.specs.Answer.{numberOf, stageNumber}
-use Rattle.lamp.specs.Deal.{rowOf, columnOf, reportOf}
-use Rattle.lamp.specs.Lamp.{made, reply, refuse, lowest, check, guard, isAt, withDeal, saidPair, withPairs, reportFrom, atEnd, constant, columnOfLamp, repair, repaired, settled, opening, opened, Call, takeDeal, sayPair, hearPairs, settle, openShares, step, after}
+use Rattle.consistency.specs.Deal.{rowOf, columnOf, reportOf}
+use Rattle.recovery.specs.Recovery.{repair}
+use Rattle.lamp.specs.Lamp.{made, reply, refuse, lowest, check, guard, isAt, withDeal, saidPair, withPairs, reportFrom, atEnd, constant, columnOfLamp, repaired, settled, opening, opened, Call, takeDeal, sayPair, hearPairs, settle, openShares, step, after}
 use Rattle.agreement.specs.Calls.{Run, toDeal, toPairs, toReports, whole, Never, isDeal, isHearing, isSettling}
 use Rattle.agreement.specs.Demand2.{Stands}
 use Rattle.agreement.specs.Demand3.{Brings, reportBy}

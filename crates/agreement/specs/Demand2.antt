@@ -26,7 +26,7 @@ use Rattle.lamp.specs.declared.Stage.the-variants.{Waiting, Dealt, Reported, Ho
 use Rattle.lamp.specs.declared.Lamp.{Lamp}
 use Rattle.lamp.specs.declared.Reply.{Reply}
 use Rattle.lamp.specs.Answer.{numberOf}
-use Rattle.lamp.specs.Deal.{rowOf, columnOf, firstFrom, reportOf}
+use Rattle.consistency.specs.Deal.{rowOf, columnOf, firstFrom, reportOf}
 use Rattle.lamp.specs.Lamp.{Sized, rowOfLamp, columnOfLamp, constant, takeDeal, hearPairs, settle, openShares, step}
 use Rattle.agreement.specs.Demand3.{Gives, Refuses}
 

@@ -25,7 +25,7 @@ use Rattle.lamp.specs.declared.Answer.{Answer}
 use Rattle.lamp.specs.declared.Lamp.{Lamp}
 use Rattle.lamp.specs.declared.Reply.{Reply}
 use Rattle.lamp.specs.Answer.{numberOf, valuesOf}
-use Rattle.lamp.specs.Deal.{rowOf, columnOf, firstFrom, secondFrom, pairFor, reportOf}
+use Rattle.consistency.specs.Deal.{rowOf, columnOf, firstFrom, secondFrom, pairFor, reportOf}
 use Rattle.lamp.specs.Lamp.{Call, takeDeal, sayPair, hearPairs, settle, openShares, made, step, after}
 use Rattle.agreement.specs.Calls.{Run, toDeal, toPairs, toReports, whole, sinceDeal, sinceSettling, At, Begins, Never, isDeal, isHearing, isSettling, moves}
 

@@ -16,7 +16,7 @@ use Rattle.lamp.specs.declared.Stage.the-variants.{Reported, Holding}
 use Rattle.lamp.specs.declared.Lamp.{Lamp}
 use Rattle.lamp.specs.declared.Reply.{Reply}
 use Rattle.lamp.specs.Answer.{numberOf, valuesOf, stageNumber}
-use Rattle.lamp.specs.Deal.{sound}
+use Rattle.consistency.specs.Deal.{sound}
 use Rattle.lamp.specs.Lamp.{made, make, takeDeal, hearPairs, settle, openShares, step, after}
 
 -- Equality of lists, and of what may be missing.

@@ -10,7 +10,7 @@ use lib.Dec.{eqb, leb}
 use Rattle.lists.specs.Tabulate.{tabulate}
 use Rattle.polynomial.specs.Bivariate.{at}
 use Rattle.dealer.specs.Desk as desks
-use Rattle.lamp.specs.Deal.{rowOf, columnOf, pairFor, reportOf}
+use Rattle.consistency.specs.Deal.{rowOf, columnOf, pairFor, reportOf}
 use Rattle.lamp.specs.Lamp.{Call, takeDeal, sayPair, hearPairs, settle, openShares}
 use Rattle.agreement.specs.Calls.{Run, whole}
 use Rattle.agreement.specs.Demand3.{Execution}

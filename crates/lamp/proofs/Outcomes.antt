@@ -1,4 +1,4 @@
--- What is fitted to the parties' points, and the outcomes of settling and opening by it.
+-- The outcomes of settling and opening, by what is fitted to the parties' points.
 use mathlib.Core.Path.{_≡_, refl, sym, ap, _∙_}
 use mathlib.Core.Bool.{true, false, true≢false, false≢true}
 use mathlib.Core.Option.{Option, none, some}
@@ -9,37 +9,16 @@ use borrow.Author.Tests.{le-leb, lt-leb}
 use lib.Count.{ones}
 use lib.ListN.{length, take, getD}
 use lib.Seq.{length-take-le, getD-take}
-use Rattle.lists.specs.Masks.{bit}
-use Rattle.lists.specs.Tabulate.{tabulate}
 use Rattle.lists.proofs.Padded.{getD-zeros}
-use Rattle.field.specs.Modulus.{modulus}
 use Rattle.fit.specs.declared.Fitted.{Fitted}
-use Rattle.lists.specs.Choices.{hide}
-use Rattle.fit.specs.Fit.{fit}
-use Rattle.fit.specs.Answer.{answer, fitIn}
-use Rattle.fit.proofs.Answers.{fit-within}
-use Rattle.fit.proofs.Selection.{fit-hide}
-use Rattle.parties.specs.Parties.{points, member, notSent}
-use Rattle.parties.proofs.Parties.{length-points, not-sent-above}
+use Rattle.fit.specs.Answer.{answer}
+use Rattle.parties.specs.Parties.{member}
+use Rattle.recovery.specs.Recovery.{repair}
 use Rattle.lamp.specs.declared.Stage.the-variants.{Holding, Closed}
 use Rattle.lamp.specs.declared.Refusal.the-variants.{DealerRejected, NoColumn, NoOpening}
 use Rattle.lamp.specs.declared.Answer.the-variants.{Accepted, Opened, Refused}
 use Rattle.lamp.specs.declared.Lamp.{Lamp}
-use Rattle.lamp.specs.Lamp.{reply, refuse, atEnd, repair, repaired, settled, opened}
-
--- ---- the points and values that the code lends
-pub fit-lent : (n t need : ℕ) (xs values : List ℕ) → t ≤ 3 → n ≤ length values → xs ≡ points n
-    → fitIn t need xs (take n values) ≡ answer (fit modulus t need (points n) (take n values))
-fit-lent n t need xs values h inside e =
-    ap (λ ps. fitIn t need ps (take n values)) e
-    ∙ sym (fit-within t need (points n) (take n values) h (length-points n ∙ sym (length-take-le n values inside)))
-
--- To hide what parties outside the set said is to leave their points out.
-pub repair-hidden : (n t S : ℕ) (heard : List ℕ)
-    → fit modulus t (ones S - t) (points n) (hide (notSent modulus) (tabulate (bit S) n) (take n heard)) ≡ repair modulus n t S heard
-unfolding repair
-repair-hidden n t S heard =
-    fit-hide modulus (notSent modulus) (not-sent-above modulus) (omega arith) (tabulate (bit S) n) (points n) (take n heard) t (ones S - t)
+use Rattle.lamp.specs.Lamp.{reply, refuse, atEnd, repaired, settled, opened}
 
 -- ---- what is found, by the two fields of the answer r
 module _ (l : Lamp) (r : Fitted) where

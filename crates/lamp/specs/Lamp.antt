@@ -13,13 +13,12 @@ use mathlib.Core.List.{List, [], _∷_}
 use Prim.Native.Nat.{ℕ, suc, _*_, _-_}
 use lib.Count.{ones}
 use lib.Dec.{eqb, leb}
-use lib.ListN.{length, take, getD, set, replicate}
-use Rattle.lists.specs.Masks.{bit}
+use lib.ListN.{length, take, getD, replicate}
 use Rattle.lists.specs.Tabulate.{tabulate, pad}
-use Rattle.lists.specs.Choices.{select}
-use Rattle.fit.specs.Fit.{fit}
 use Rattle.happy.specs.Happy.{happySet}
-use Rattle.parties.specs.Parties.{sizes, isParty, points, member, entry}
+use Rattle.parties.specs.Parties.{sizes, isParty, member, entry}
+use Rattle.consistency.specs.Deal.{rowOf, columnOf, firstFrom, pairFor, reportOf}
+use Rattle.recovery.specs.Recovery.{repair, openingWith}
 use Rattle.lamp.specs.declared.Stage.{Stage}
 use Rattle.lamp.specs.declared.Stage.the-variants.{Waiting, Dealt, Reported, Holding, Closed}
 use Rattle.lamp.specs.declared.Refusal.{Refusal}
@@ -31,7 +30,6 @@ use Rattle.lamp.specs.declared.Admission.the-variants.{Pass, Fail}
 use Rattle.lamp.specs.declared.Lamp.{Lamp}
 use Rattle.lamp.specs.declared.Reply.{Reply}
 use Rattle.lamp.specs.Answer.{stageNumber}
-use Rattle.lamp.specs.Deal.{rowOf, columnOf, firstFrom, pairFor, reportOf}
 
 -- The lamp as made for n, t and its number.
 abbrev pub made : ℕ → ℕ → ℕ → Lamp
@@ -153,12 +151,6 @@ atEnd l s S v = record {
 abbrev pub constant : List ℕ → ℕ
 constant f = getD f 0 0
 
--- The column that fits the points (j, first number heard from j) for j in S: at most t of them differ.
-unfoldable pub repair : ℕ → ℕ → ℕ → ℕ → List ℕ → Option (List ℕ)
-repair p n t S heard =
-    let happy = tabulate (bit S) n in
-    fit p t (ones S - t) (select happy (points n)) (select happy (take n heard))
-
 -- A party outside the happy set holds the constant of its repaired column; where none fits it is closed with 9.
 abbrev pub repaired : Lamp → ℕ → Option (List ℕ) → Reply
 repaired l S none = reply (atEnd l Closed S 0) (Refused NoColumn)
@@ -176,7 +168,7 @@ settled p l S =
 
 -- The polynomial that fits the published shares, the lamp's own share in its own place: at most t of them differ.
 unfoldable pub opening : ℕ → Lamp → List ℕ → Option (List ℕ)
-opening p l xs = fit p (l .t) (l .n - l .t) (points (l .n)) (set xs (l .number - 1) (l .share))
+opening p l xs = openingWith p (l .n) (l .t) (l .number) (l .share) xs
 
 abbrev pub opened : Lamp → Option (List ℕ) → Reply
 opened l none = refuse l NoOpening

@@ -1,10 +1,10 @@
-// What a deal gives: the numbers kept of it, whether it is sound, and the pairs said from it.
+// What a deal gives: the numbers kept of it, and the pairs said from them.
 ghost use mathlib.Core.Path.{_≡_};
 ghost use Prim.Native.Nat.{suc, _+_, _*_, _≤_};
 ghost use lib.ListN.{length, take, drop};
 ghost use Rattle.lists.specs.Tabulate.{pad};
 ghost use Rattle.field.specs.Modulus.{modulus};
-ghost use Rattle.lamp.specs.Deal.{sound, pairFor};
+ghost use Rattle.consistency.specs.Deal.{pairFor};
 ghost use Rattle.lamp.specs.Lamp.{withDeal};
 use crate::Answer;
 use crate::Lamp;
@@ -44,41 +44,12 @@ pub(crate) fn with_deal(lamp: Lamp, deal: &[u16]) -> Lamp
     }
 }
 
-// Whether party i's deal is sound: residues, and row and column meet at its own point.
-pub(crate) fn sound(i: u8, row: &[u16], column: &[u16]) -> bool
-    ensures { λ r. ⌜ r ≡ sound modulus i (now (row .entry)) (now (column .entry)) ⌝ }
-{
-    if !polynomial::residues(row) {
-        return false;
-    }
-    if !polynomial::residues(column) {
-        return false;
-    }
-    let point = parties::point(i);
-    polynomial::value(row, point) == polynomial::value(column, point)
-}
-
-// Party i's pair for party j: for itself, or with an unsound deal, nothing is sent.
-pub(crate) fn pair_for(i: u8, row: &[u16], column: &[u16], j: u8) -> Answer
-    ensures { λ r. ⌜ r ≡ Answer.Pair (pairFor modulus i (now (row .entry)) (now (column .entry)) j .0) (pairFor modulus i (now (row .entry)) (now (column .entry)) j .1) ⌝ }
-{
-    if j == i {
-        return Answer::Pair(parties::NOT_SENT, parties::NOT_SENT);
-    }
-    if !sound(i, row, column) {
-        return Answer::Pair(parties::NOT_SENT, parties::NOT_SENT);
-    }
-    let point = parties::point(j);
-    let first = polynomial::value(row, point);
-    let second = polynomial::value(column, point);
-    Answer::Pair(first, second)
-}
-
-// The same from arrays, whose first t + 1 numbers are the row and the column.
+// The pair for party j from arrays, whose first t + 1 numbers are the row and the column.
 pub(crate) fn said_pair(i: u8, t: u8, row: [u16; 4], column: [u16; 4], j: u8) -> Answer
     requires { ⌜ t ≤ 3 ⌝ }
     ensures { λ r. ⌜ r ≡ Answer.Pair (pairFor modulus i (take (suc t) row) (take (suc t) column) j .0) (pairFor modulus i (take (suc t) row) (take (suc t) column) j .1) ⌝ }
 {
     let width = t as usize + 1;
-    pair_for(i, &row[..width], &column[..width], j)
+    let pair = consistency::pair_for(i, &row[..width], &column[..width], j);
+    Answer::Pair(pair.first, pair.second)
 }

@@ -1,51 +1,15 @@
-// Hearing pairs: the ones for parties that confirm, the report, and the first numbers kept.
+// Hearing pairs: the report on them, and the first numbers kept.
 ghost use mathlib.Core.Path.{_≡_};
-ghost use mathlib.Core.Bool.{true};
 ghost use Prim.Native.Nat.{suc, _*_, _≤_};
 ghost use lib.ListN.{length, take};
 ghost use Rattle.lists.specs.Tabulate.{pad};
 ghost use Rattle.field.specs.Modulus.{modulus};
-ghost use Rattle.lamp.specs.Deal.{sound, confirms, reportOf};
+ghost use Rattle.consistency.specs.Deal.{reportOf};
 ghost use Rattle.lamp.specs.Lamp.{firsts, withPairs};
 use crate::Lamp;
 use crate::Stage;
-use crate::dealing::sound;
 
-// Whether party i, whose deal is sound, has a one for party j.
-pub(crate) fn confirms(i: u8, row: &[u16], column: &[u16], pairs: &[u16], j: u8) -> bool
-    requires { ⌜ (1 ≤ j) × (2 * j ≤ length (now pairs)) × (sound modulus i (now row) (now column) ≡ true) ⌝ }
-    ensures { λ r. ⌜ r ≡ confirms modulus i (now (row .entry)) (now (column .entry)) (now (pairs .entry)) j ⌝ }
-{
-    if i == j {
-        return false;
-    }
-    let at = 2 * (j as usize - 1);
-    let point = parties::point(j);
-    if pairs[at] != polynomial::value(column, point) {
-        return false;
-    }
-    pairs[at + 1] == polynomial::value(row, point)
-}
-
-// Party i's report on n pairs. With an unsound deal it has a one for nobody.
-pub(crate) fn report(n: u8, i: u8, row: &[u16], column: &[u16], pairs: &[u16]) -> u16
-    requires { ⌜ (n ≤ 16) × (length (now pairs) ≡ 2 * n) ⌝ }
-    ensures { λ r. ⌜ r ≡ reportOf modulus n i (now (row .entry)) (now (column .entry)) (now (pairs .entry)) ⌝ }
-{
-    if !sound(i, row, column) {
-        return 0;
-    }
-    let mut bits: u16 = 0;
-    for k in 0..n {
-        let j = k + 1;
-        if confirms(i, row, column, pairs, j) {
-            bits += 1u16 << k;
-        }
-    }
-    bits
-}
-
-// The same from arrays, whose first t + 1 numbers are the row and the column.
+// The report on n pairs from arrays, whose first t + 1 numbers are the row and the column.
 pub(crate) fn given_report(
     n: u8,
     i: u8,
@@ -58,7 +22,7 @@ pub(crate) fn given_report(
     ensures { λ r. ⌜ r ≡ reportOf modulus n i (take (suc t) row) (take (suc t) column) (now (pairs .entry)) ⌝ }
 {
     let width = t as usize + 1;
-    report(n, i, &row[..width], &column[..width], pairs)
+    consistency::report(n, i, &row[..width], &column[..width], pairs)
 }
 
 // The first number of each of n pairs, with zeros behind them.

@@ -25,8 +25,9 @@ use Rattle.lamp.specs.declared.Answer.the-variants.{Done}
 use Rattle.lamp.specs.declared.Lamp.{Lamp}
 use Rattle.lamp.specs.declared.Reply.{Reply}
 use Rattle.lamp.specs.Answer.{numberOf}
-use Rattle.lamp.specs.Deal.{rowOf, columnOf, firstFrom, reportOf}
-use Rattle.lamp.specs.Lamp.{Sized, made, reply, columnOfLamp, withDeal, firsts, withPairs, reportFrom, constant, repair, repaired, refuse, atEnd, settled, takeDeal, hearPairs, settle, step}
+use Rattle.consistency.specs.Deal.{rowOf, columnOf, firstFrom, reportOf}
+use Rattle.recovery.specs.Recovery.{repair}
+use Rattle.lamp.specs.Lamp.{Sized, made, reply, columnOfLamp, withDeal, firsts, withPairs, reportFrom, constant, repaired, refuse, atEnd, settled, takeDeal, hearPairs, settle, step}
 use Rattle.record.specs.Record.{nOf, tOf, reading}
 use Rattle.record.specs.declared.Reading.the-variants.{Fine}
 use Rattle.transcript.specs.Letters.{letters, field, line}

@@ -13,8 +13,9 @@ use Rattle.field.specs.Modulus.{modulus}
 use Rattle.happy.specs.Happy.{happySet}
 use Rattle.parties.specs.Parties.{member, entry}
 use Rattle.dealer.specs.Desk.{stretch}
-use Rattle.lamp.specs.Deal.{rowOf, columnOf, reportOf}
-use Rattle.lamp.specs.Lamp.{firsts, constant, repair}
+use Rattle.consistency.specs.Deal.{rowOf, columnOf, reportOf}
+use Rattle.recovery.specs.Recovery.{repair}
+use Rattle.lamp.specs.Lamp.{firsts, constant}
 use Rattle.record.specs.Record.{nOf, tOf}
 use Rattle.transcript.specs.Letters.{letters, field, line}
 use Rattle.transcript.specs.Lines.{sizeLine, isAccepted, verdictLines, lastLine}

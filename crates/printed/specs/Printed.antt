@@ -14,7 +14,7 @@ use Rattle.lists.specs.Choices.{count}
 use Rattle.field.specs.Modulus.{modulus}
 use Rattle.polynomial.specs.Bivariate.{at}
 use Rattle.parties.specs.Parties.{parties, pointOf, entry}
-use Rattle.lamp.specs.Deal.{rowOf, columnOf, firstFrom, secondFrom, pairFor}
+use Rattle.consistency.specs.Deal.{rowOf, columnOf, firstFrom, secondFrom, pairFor}
 use Rattle.lamp.specs.Lamp.{openShares}
 use Rattle.record.specs.Record.{nOf, tOf, reading}
 use Rattle.record.specs.declared.Reading.the-variants.{Fine}

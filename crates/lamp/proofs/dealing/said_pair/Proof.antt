@@ -1,5 +1,7 @@
 -- `lamp::dealing::said_pair` meets its contract: the first t + 1 numbers of row and column are lent.
-use mathlib.Core.Path.{sym}
+use mathlib.Core.Path.{sym, ap}
+use Rattle.consistency.specs.declared.Pair.{Pair as Said}
+use Rattle.lamp.specs.declared.Answer.the-variants.{Pair}
 use native.Mathlib.Omega.{arith}
 use lib.Seq.{length-take-le}
 use Prim.Native.Nat.{_+_}
@@ -31,7 +33,8 @@ pair-for-requires : tie.Need-pair-for-requires
 pair-for-requires c κs = search needs
 
 returns : tie.Need-returns
-returns c = rw (add-one (c .before .before .before .args .t)) at (c .pair-for .ensures)
+returns c =
+    ap (λ (q : Said). Pair (q .first) (q .second)) (rw (add-one (c .before .before .before .args .t)) at (c .pair-for .ensures))
 
 pub said-pair-spec : {M : Type 1} → statement M
 said-pair-spec =

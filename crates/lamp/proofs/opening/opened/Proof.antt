@@ -1,48 +1,32 @@
 -- `lamp::opening::opened` meets its contract: what is fitted is the opening.
-use mathlib.Core.Path.{_≡_, ap₂, _∙_}
-use native.Mathlib.Omega.{arith}
+use mathlib.Core.Path.{_≡_, sym, _∙_}
 use Rattle.field.specs.Modulus.{modulus}
-use Rattle.fit.specs.Fit.{fit}
 use Rattle.fit.specs.Answer.{answer}
-use Rattle.parties.specs.Parties.{points}
+use Rattle.recovery.proofs.Fitting.{opening-within}
 use Rattle.lamp.specs.Lamp.{opening}
-use Rattle.lamp.proofs.Checks.{sized-facts}
 use Rattle.lamp.proofs.Outcomes.{opened-found, opened-not}
 use borrow.Author.Needs.{needs}
 use Rattle.lamp.proofs.opening.opened.Statement.{statement}
 use Rattle.lamp.proofs.opening.opened.Tie as tie
 
 -- What is fitted to the shares is their opening.
-fitted : (f : tie.After-fit-parties) → f .fit-parties .result ≡ answer (opening modulus (f .before .before .before .before .before .before .args .lamp) (f .before .before .before .before .before .before .args .shares .now))
+fitted : (f : tie.After-opening) → f .opening .result ≡ answer (opening modulus (f .before .before .args .lamp) (f .before .before .args .shares .now))
 unfolding opening
 fitted f =
-    let l = f .before .before .before .before .before .before .args .lamp in
-    f .fit-parties .ensures
-    ∙ ap₂ (λ m ys. answer (fit modulus (l .t) m (points (l .n)) ys)) (f .before .less .ensures) (f .before .before .before .before .with-own .ensures)
+    let s = f .before .before in
+    f .opening .ensures ∙ sym (opening-within _ _ _ _ _ (s .pre .0 .size) (s .pre .0 .party) (s .pre .1))
 
-with-own-requires : tie.Need-with-own-requires
-with-own-requires c κs = search needs
+opening-requires : tie.Need-opening-requires
+opening-requires c κs = search needs
 
-cast-less : tie.Need-cast-less
-cast-less c = search needs
-
-cast-less-2 : tie.Need-cast-less-2
-cast-less-2 c = search needs
-
-less-requires : tie.Need-less-requires
-less-requires c κs = search needs
-
-fit-parties-requires : tie.Need-fit-parties-requires
-fit-parties-requires c κs = let s = c .before .before .before .before .before in let f = sized-facts (s .args .lamp) (s .pre .0) in (omega arith, omega arith)
-
-array-read-t12 : tie.Need-array-read-t12
-array-read-t12 c = search needs
+array-read-t8 : tie.Need-array-read-t8
+array-read-t8 c = search needs
 
 returns : tie.Need-returns
 returns c =
     let f = c .before .before in
-    let a = f .before .before .before .before .before .before .args in
-    opened-found (a .lamp) (f .fit-parties .result) (opening modulus (a .lamp) (a .shares .now)) (fitted f) (c .before .if1 .taken)
+    let a = f .before .before .args in
+    opened-found (a .lamp) (f .opening .result) (opening modulus (a .lamp) (a .shares .now)) (fitted f) (c .before .if1 .taken)
 
 refuse-requires : tie.Need-refuse-requires
 refuse-requires c κs = search needs
@@ -50,19 +34,8 @@ refuse-requires c κs = search needs
 returns-2 : tie.Need-returns-2
 returns-2 c =
     let f = c .before .before in
-    let a = f .before .before .before .before .before .before .args in
-    c .refuse .ensures ∙ opened-not (a .lamp) (f .fit-parties .result) (opening modulus (a .lamp) (a .shares .now)) (fitted f) (c .before .if1 .left)
+    let a = f .before .before .args in
+    c .refuse .ensures ∙ opened-not (a .lamp) (f .opening .result) (opening modulus (a .lamp) (a .shares .now)) (fitted f) (c .before .if1 .left)
 
 pub opened-spec : {M : Type 1} → statement M
-opened-spec =
-    tie.close
-    (tie.spec
-    with-own-requires
-    cast-less
-    cast-less-2
-    less-requires
-    fit-parties-requires
-    array-read-t12
-    returns
-    refuse-requires
-    returns-2)
+opened-spec = tie.close (tie.spec opening-requires array-read-t8 returns refuse-requires returns-2)

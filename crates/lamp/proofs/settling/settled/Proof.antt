@@ -4,7 +4,9 @@ use native.Mathlib.Omega.{arith}
 use Rattle.field.specs.Modulus.{modulus}
 use Rattle.lamp.specs.declared.Refusal.the-variants.{DealerRejected, NoColumn}
 use Rattle.lamp.specs.declared.Answer.the-variants.{Accepted, Refused}
-use Rattle.lamp.specs.Lamp.{reply, repair}
+use Rattle.recovery.specs.Recovery.{repair}
+use Rattle.recovery.proofs.Fitting.{repair-within}
+use Rattle.lamp.specs.Lamp.{reply}
 use Rattle.lamp.proofs.Checks.{sized-facts}
 use Rattle.lamp.proofs.Outcomes.{repaired-found, repaired-not, settled-rejected, settled-happy, settled-mended}
 use borrow.Author.Needs.{needs}
@@ -62,13 +64,13 @@ at-end-requires-3 c κs = search needs
 returns-3 : tie.Need-returns-3
 returns-3 c =
     let r = c .before .before .before in
-    let m = r .before .before in
+    let m = r .before .before .before in
     let n = m .before .before in
     let a = n .before .before .args in
     let column = repair modulus (a .lamp .n) (a .lamp .t) (a .set) (a .lamp .heard) in
     ap (λ l. reply l Accepted) (c .at-end3 .ensures)
-    ∙ repaired-found (a .lamp) (r .repair .result) (a .set) column (r .repair .ensures) (c .before .before .if3 .taken)
-    ∙ settled-mended modulus (a .lamp) (a .set) (omega (arith, n .count .ensures)) (sym (m .member .ensures) ∙ r .before .if2 .left)
+    ∙ repaired-found (a .lamp) (r .repair .result) (a .set) column (r .repair .ensures ∙ sym (repair-within _ _ _ _ (n .before .before .pre .size))) (c .before .before .if3 .taken)
+    ∙ settled-mended modulus (a .lamp) (a .set) (omega (arith, n .count .ensures)) (sym (m .member .ensures) ∙ r .before .before .if2 .left)
 
 at-end-requires-4 : tie.Need-at-end-requires-4
 at-end-requires-4 c κs = search needs
@@ -76,13 +78,13 @@ at-end-requires-4 c κs = search needs
 returns-4 : tie.Need-returns-4
 returns-4 c =
     let r = c .before .before in
-    let m = r .before .before in
+    let m = r .before .before .before in
     let n = m .before .before in
     let a = n .before .before .args in
     let column = repair modulus (a .lamp .n) (a .lamp .t) (a .set) (a .lamp .heard) in
     ap (λ l. reply l (Refused NoColumn)) (c .at-end4 .ensures)
-    ∙ repaired-not (a .lamp) (r .repair .result) (a .set) column (r .repair .ensures) (c .before .if3 .left)
-    ∙ settled-mended modulus (a .lamp) (a .set) (omega (arith, n .count .ensures)) (sym (m .member .ensures) ∙ r .before .if2 .left)
+    ∙ repaired-not (a .lamp) (r .repair .result) (a .set) column (r .repair .ensures ∙ sym (repair-within _ _ _ _ (n .before .before .pre .size))) (c .before .if3 .left)
+    ∙ settled-mended modulus (a .lamp) (a .set) (omega (arith, n .count .ensures)) (sym (m .member .ensures) ∙ r .before .before .if2 .left)
 
 pub settled-spec : {M : Type 1} → statement M
 settled-spec =

@@ -1,0 +1,62 @@
+-- What follows from a party's deal: whether it is sound, the pairs it says, the report it gives.
+--   rowOf t d, columnOf t d         row and column in a deal of 2(t + 1) numbers
+--   firstFrom hs j, secondFrom hs j   the two numbers heard from party j, in a list of n pairs
+--   sound p i row column            the deal is sound (document 01)
+--   pairFor p i row column j        party i's pair for j
+--   said q                          a pair as the code answers it
+--   confirms p i row column hs j    party i has a one for j
+--   reportOf p n i row column hs    party i's report
+--   reportIn p n i row column hs    the same for every input: 0 for other than n pairs, or more than sixteen
+-- Laws: proofs/Reports.
+use mathlib.Core.Bool.{Bool, cond, not, _&&_}
+use mathlib.Core.List.{List}
+use Prim.Native.Nat.{ℕ, suc, _+_, _*_, _-_}
+use lib.Dec.{eqb, leb}
+use lib.ListN.{length, take, drop, getD}
+use Rattle.lists.specs.Masks.{mask}
+use Rattle.polynomial.specs.Polynomial.{residues, value}
+use Rattle.parties.specs.Parties.{pointOf, notSent}
+use Rattle.consistency.specs.declared.Pair.{Pair}
+
+-- The row comes first in a deal, the column behind it.
+abbrev pub rowOf : ℕ → List ℕ → List ℕ
+rowOf t d = take (suc t) d
+
+abbrev pub columnOf : ℕ → List ℕ → List ℕ
+columnOf t d = drop (suc t) d
+
+-- The pair heard from party j stands at places 2(j − 1) and 2(j − 1) + 1.
+abbrev pub firstFrom : List ℕ → ℕ → ℕ
+firstFrom hs j = getD hs (2 * (j - 1)) 0
+
+abbrev pub secondFrom : List ℕ → ℕ → ℕ
+secondFrom hs j = getD hs (2 * (j - 1) + 1) 0
+
+-- "every number is below 65,521 and the row at i equals the column at i"
+unfoldable pub sound : ℕ → ℕ → List ℕ → List ℕ → Bool
+sound p i row column = residues p row && residues p column && eqb (value p row (pointOf i)) (value p column (pointOf i))
+
+-- "row at j, column at j"; "for itself, or with an unsound deal, both numbers are 65,535"
+unfoldable pub pairFor : ℕ → ℕ → List ℕ → List ℕ → ℕ → ℕ × ℕ
+pairFor p i row column j =
+    cond (not (eqb i j) && sound p i row column) (value p row (pointOf j), value p column (pointOf j)) (notSent p, notSent p)
+
+-- A pair as the code answers it.
+abbrev pub said : ℕ × ℕ → Pair
+said q = record { first = q .0; second = q .1 }
+
+-- "j is another lamp, its deal is sound, j's first number equals its column at j, and j's second equals its row at j"
+unfoldable pub confirms : ℕ → ℕ → List ℕ → List ℕ → List ℕ → ℕ → Bool
+confirms p i row column hs j =
+    not (eqb i j) && sound p i row column
+    && eqb (firstFrom hs j) (value p column (pointOf j)) && eqb (secondFrom hs j) (value p row (pointOf j))
+
+-- Bit j − 1 for party j.
+unfoldable pub reportOf : ℕ → ℕ → ℕ → List ℕ → List ℕ → List ℕ → ℕ
+reportOf p n i row column hs = mask (λ k. confirms p i row column hs (suc k)) n
+
+-- A report has sixteen bits; a list that does not hold n pairs is answered with 0.
+unfoldable pub reportIn : ℕ → ℕ → ℕ → List ℕ → List ℕ → List ℕ → ℕ
+reportIn p n i row column hs =
+    let given = reportOf p n i row column hs in
+    cond (leb n 16 && eqb (length hs) (2 * n)) given 0

@@ -1,0 +1,97 @@
+// What a party makes of its deal and of the pairs that it hears: whether the deal is sound, its pair for another party, its report.
+ghost use mathlib.Core.Path.{_≡_};
+ghost use mathlib.Core.Bool.{true};
+ghost use Prim.Native.Nat.{_*_, _≤_};
+ghost use lib.ListN.{length};
+ghost use Rattle.field.specs.Modulus.{modulus};
+ghost use Rattle.consistency.specs.Deal.{sound, pairFor, said, confirms, reportOf, reportIn};
+
+// What a party says to another: the row and the column at the other's point.
+pub struct Pair {
+    pub first: u16,
+    pub second: u16,
+}
+
+// Whether party i's deal is sound: residues, and row and column meet at its own point.
+pub fn sound(i: u8, row: &[u16], column: &[u16]) -> bool
+    ensures { λ r. ⌜ r ≡ sound modulus i (now (row .entry)) (now (column .entry)) ⌝ }
+{
+    if !polynomial::residues(row) {
+        return false;
+    }
+    if !polynomial::residues(column) {
+        return false;
+    }
+    let point = parties::point(i);
+    polynomial::value(row, point) == polynomial::value(column, point)
+}
+
+// Party i's pair for party j: for itself, or with an unsound deal, nothing is sent.
+pub fn pair_for(i: u8, row: &[u16], column: &[u16], j: u8) -> Pair
+    ensures { λ r. ⌜ r ≡ said (pairFor modulus i (now (row .entry)) (now (column .entry)) j) ⌝ }
+{
+    if j == i {
+        return Pair {
+            first: parties::NOT_SENT,
+            second: parties::NOT_SENT,
+        };
+    }
+    if !sound(i, row, column) {
+        return Pair {
+            first: parties::NOT_SENT,
+            second: parties::NOT_SENT,
+        };
+    }
+    let point = parties::point(j);
+    let first = polynomial::value(row, point);
+    let second = polynomial::value(column, point);
+    Pair { first, second }
+}
+
+// Whether party i, whose deal is sound, has a one for party j.
+fn confirms(i: u8, row: &[u16], column: &[u16], pairs: &[u16], j: u8) -> bool
+    requires { ⌜ (1 ≤ j) × (2 * j ≤ length (now pairs)) × (sound modulus i (now row) (now column) ≡ true) ⌝ }
+    ensures { λ r. ⌜ r ≡ confirms modulus i (now (row .entry)) (now (column .entry)) (now (pairs .entry)) j ⌝ }
+{
+    if i == j {
+        return false;
+    }
+    let at = 2 * (j as usize - 1);
+    let point = parties::point(j);
+    if pairs[at] != polynomial::value(column, point) {
+        return false;
+    }
+    pairs[at + 1] == polynomial::value(row, point)
+}
+
+// The parties that party i, whose deal is sound, has a one for.
+fn confirmed(n: u8, i: u8, row: &[u16], column: &[u16], pairs: &[u16]) -> u16
+    requires { ⌜ (n ≤ 16) × (length (now pairs) ≡ 2 * n) × (sound modulus i (now row) (now column) ≡ true) ⌝ }
+    ensures { λ r. ⌜ r ≡ reportOf modulus n i (now (row .entry)) (now (column .entry)) (now (pairs .entry)) ⌝ }
+{
+    let mut bits: u16 = 0;
+    for k in 0..n {
+        let j = k + 1;
+        if confirms(i, row, column, pairs, j) {
+            bits += 1u16 << k;
+        }
+    }
+    bits
+}
+
+// Party i's report on n pairs: with an unsound deal it has a one for nobody.
+// Other than n pairs, or more than the report has bits, are answered with 0.
+pub fn report(n: u8, i: u8, row: &[u16], column: &[u16], pairs: &[u16]) -> u16
+    ensures { λ r. ⌜ r ≡ reportIn modulus n i (now (row .entry)) (now (column .entry)) (now (pairs .entry)) ⌝ }
+{
+    if 16 < n {
+        return 0;
+    }
+    if pairs.len() != 2 * n as usize {
+        return 0;
+    }
+    if !sound(i, row, column) {
+        return 0;
+    }
+    confirmed(n, i, row, column, pairs)
+}

@@ -1,0 +1,101 @@
+-- `recovery::heard_from` meets its contract: the first k numbers are written, and zeros stand behind them.
+use borrow.Author.Needs.{needs}
+use mathlib.Core.Path.{_≡_, sym, _∙_}
+use Prim.Native.Nat.{ℕ, _+_, _-_, _≤_}
+use mathlib.Core.Logic.{⊎-elim}
+use native.Mathlib.Omega.{arith}
+use lib.ListN.{length, take, set}
+use Rattle.lists.specs.Masks.{bit}
+use Rattle.lists.specs.Tabulate.{tabulate, filled}
+use Rattle.lists.proofs.Padded.{fill-start, fill-next, fill-front}
+use Rattle.lists.specs.Choices.{hide}
+use Rattle.field.specs.Modulus.{modulus}
+use Rattle.parties.specs.Parties.{notSent}
+use Rattle.recovery.proofs.Arrays.{heardAt, length-heard, getD-heard, heard-member, heard-other}
+use Rattle.recovery.proofs.heard_from.Statement.{statement}
+use Rattle.recovery.proofs.heard_from.Tie as tie
+
+abbrev Inv-loop : tie.InvT-loop
+Inv-loop n set heard list₀ k₀ list k = (k ≤ n) × (list ≡ filled (heardAt (notSent modulus) set heard) 0 16 k)
+
+abbrev μ-loop : tie.MeasureT-loop
+μ-loop n set heard list₀ k₀ list k = n - k
+
+loop-holds : tie.Need-loop-holds Inv-loop μ-loop
+loop-holds c = let a = c .args in (search needs, fill-start (heardAt (notSent modulus) (a .set) (a .t3)) 16)
+
+cast-place : tie.Need-cast-place Inv-loop μ-loop
+cast-place c = search needs
+
+cast-if1 : tie.Need-cast-if1 Inv-loop μ-loop
+cast-if1 c = search needs
+
+shr-if1 : tie.Need-shr-if1 Inv-loop μ-loop
+shr-if1 c = search needs
+
+mul-list : tie.Need-mul-list Inv-loop μ-loop
+mul-list c = search needs
+
+array-read-list : tie.Need-array-read-list Inv-loop μ-loop
+array-read-list c = search needs
+
+mul-list-2 : tie.Need-mul-list-2 Inv-loop μ-loop
+mul-list-2 c = search needs
+
+array-write-list : tie.Need-array-write-list Inv-loop μ-loop
+array-write-list c = search needs
+
+mul-list-3 : tie.Need-mul-list-3 Inv-loop μ-loop
+mul-list-3 c = search needs
+
+array-write-list-2 : tie.Need-array-write-list-2 Inv-loop μ-loop
+array-write-list-2 c = search needs
+
+add-k : tie.Need-add-k Inv-loop μ-loop
+add-k c = search needs
+
+loop-less : tie.Need-loop-less Inv-loop μ-loop
+loop-less c = search needs
+
+loop-again : tie.Need-loop-again Inv-loop μ-loop
+unfolding notSent
+loop-again c =
+    let k = c .before .before .loop in
+    let a = c .before .before .before .args in
+    let turn : (v : ℕ) → v ≡ heardAt (notSent modulus) (a .set) (a .t3) (k .k) → set (k .list) (k .k) v ≡ filled (heardAt (notSent modulus) (a .set) (a .t3)) 0 16 (k .k + 1) =
+    λ v e. fill-next (heardAt (notSent modulus) (a .set) (a .t3)) 16 (k .list) (k .k) v (k .inv .1) (omega arith) e in (
+      search needs,
+      ⊎-elim
+          (λ w. w .1 ∙ turn _ (heard-member (notSent modulus) (a .set) (a .t3) (k .k) (w .0 .taken)))
+          (λ w. w .1 ∙ turn _ (heard-other (notSent modulus) (a .set) (a .t3) (k .k) (w .0 .left)))
+          (c .if1 .came),
+    )
+
+returns : tie.Need-returns Inv-loop μ-loop
+returns c =
+    let a = c .before .before .args in
+    let k = c .before .loop in
+    let inside : a .n ≤ length (a .t3) = omega arith in
+    fill-front (heardAt (notSent modulus) (a .set) (a .t3)) 16 (k .list) (k .k) (a .n) (hide (notSent modulus) (tabulate (bit (a .set)) (a .n)) (take (a .n) (a .t3))) (k .inv .1) (omega arith)
+    (length-heard (notSent modulus) (a .set) (a .n) (a .t3) inside) (getD-heard (notSent modulus) (a .set) (a .n) (a .t3) inside)
+
+pub heard-from-spec : {M : Type 1} → statement M
+heard-from-spec =
+    tie.close
+    (tie.spec
+    Inv-loop
+    μ-loop
+    loop-holds
+    cast-place
+    cast-if1
+    shr-if1
+    mul-list
+    array-read-list
+    mul-list-2
+    array-write-list
+    mul-list-3
+    array-write-list-2
+    add-k
+    loop-less
+    loop-again
+    returns)
