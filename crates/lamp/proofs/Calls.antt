@@ -1,15 +1,14 @@
 -- The calls one by one: what a call is checked for, and what an admitted call answers.
 --   admission l c   the check of the call c at the lamp l
 --   outcome p l c   the reply where that passes
-use mathlib.Core.Path.{_≡_, ap, ap₂, _∙_}
+use mathlib.Core.Path.{_≡_, ap}
 use mathlib.Core.Bool.{Bool, true, cond, not}
 use mathlib.Core.List.{List}
 use Prim.Native.Nat.{ℕ, suc, _*_}
 use borrow.Author.Tests.{eq-eqb, ne-eqb}
 use lib.Dec.{eqb}
 use lib.ListN.{length}
-use Rattle.happy.specs.Agreement.{agreements}
-use Rattle.happy.specs.Happy.{largestIn, happySet}
+use Rattle.happy.specs.Happy.{happySet}
 use Rattle.parties.specs.Parties.{isParty, entry}
 use Rattle.lamp.specs.declared.Stage.the-variants.{Waiting, Dealt, Reported, Holding}
 use Rattle.lamp.specs.declared.Refusal.{Refusal}
@@ -60,8 +59,5 @@ module _ (p : ℕ) (l : Lamp) where
     pub settle-altered : (entry rs (l .number) ≡ l .report → ⊥) → refuse l AlteredReport ≡ outcome p l (settle rs)
     settle-altered d = rw (ne-eqb (entry rs (l .number)) (l .report) d)
 
-    pub settle-found : (table : List (List Bool)) (n S : ℕ) → entry rs (l .number) ≡ l .report → table ≡ agreements rs → n ≡ length rs
-        → S ≡ largestIn table n → settled p l S ≡ outcome p l (settle rs)
-    unfolding happySet
-    settle-found table n S same a b e =
-        rw (eq-eqb (entry rs (l .number)) (l .report) same) (ap (settled p l) (e ∙ ap₂ largestIn a b))
+    pub settle-found : (S : ℕ) → entry rs (l .number) ≡ l .report → S ≡ happySet rs → settled p l S ≡ outcome p l (settle rs)
+    settle-found S same e = rw (eq-eqb (entry rs (l .number)) (l .report) same) (ap (settled p l) e)

@@ -11,7 +11,7 @@ ghost use Rattle.lamp.specs.Lamp.{make, refuse, lowest, check, step, tak
 use dealing::said_pair;
 use dealing::with_deal;
 use opening::opened;
-use reporting::with_pairs;
+use reporting::heard;
 use settling::settled;
 
 pub enum Stage {
@@ -213,13 +213,7 @@ impl Lamp {
         let checked = check(self, true, fits, stage_number(stage) == 1);
         match checked {
             Admission::Fail(why) => refuse(self, why),
-            Admission::Pass => {
-                let kept = with_pairs(self, pairs);
-                Reply {
-                    lamp: kept,
-                    answer: Answer::Report(kept.report),
-                }
-            }
+            Admission::Pass => heard(self, pairs),
         }
     }
 
@@ -228,8 +222,8 @@ impl Lamp {
         ensures { λ r. ⌜ r ≡ step modulus self (settle (now (reports .entry))) ⌝ }
     {
         let stage = self.stage;
-        let n = self.n as usize;
-        let checked = check(self, true, reports.len() == n, stage_number(stage) == 2);
+        let fits = reports.len() == self.n as usize;
+        let checked = check(self, true, fits, stage_number(stage) == 2);
         match checked {
             Admission::Fail(why) => refuse(self, why),
             Admission::Pass => {
@@ -237,8 +231,7 @@ impl Lamp {
                 if reports[place] != self.report {
                     return refuse(self, Refusal::AlteredReport);
                 }
-                let table = happy::agreements(reports);
-                settled(self, happy::largest(table, n))
+                settled(self, happy::happy_set(reports))
             }
         }
     }

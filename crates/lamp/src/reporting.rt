@@ -5,8 +5,10 @@ ghost use lib.ListN.{length, take};
 ghost use Rattle.lists.specs.Tabulate.{pad};
 ghost use Rattle.field.specs.Modulus.{modulus};
 ghost use Rattle.consistency.specs.Deal.{reportOf};
-ghost use Rattle.lamp.specs.Lamp.{firsts, withPairs};
+ghost use Rattle.lamp.specs.Lamp.{firsts, reply, reportFrom, withPairs};
+use crate::Answer;
 use crate::Lamp;
+use crate::Reply;
 use crate::Stage;
 
 // The report on n pairs from arrays, whose first t + 1 numbers are the row and the column.
@@ -39,16 +41,16 @@ pub(crate) fn firsts(n: u8, pairs: &[u16]) -> [u16; 16]
     heard
 }
 
-// The lamp after n pairs, its report among what it keeps.
-pub(crate) fn with_pairs(lamp: Lamp, pairs: &[u16]) -> Lamp
+// The outcome of hearing n pairs: the report that is given out is kept.
+pub(crate) fn heard(lamp: Lamp, pairs: &[u16]) -> Reply
     requires { ⌜ (lamp .t ≤ 3) × (lamp .n ≤ 16) × (length (now pairs) ≡ 2 * lamp .n) ⌝ }
-    ensures { λ r. ⌜ r ≡ withPairs modulus lamp (now (pairs .entry)) ⌝ }
+    ensures { λ r. ⌜ r ≡ reply (withPairs modulus lamp (now (pairs .entry))) (Answer.Report (reportFrom modulus lamp (now (pairs .entry)))) ⌝ }
 {
     let row = lamp.row;
     let column = lamp.column;
     let heard = firsts(lamp.n, pairs);
     let bits = given_report(lamp.n, lamp.number, lamp.t, row, column, pairs);
-    Lamp {
+    let kept = Lamp {
         n: lamp.n,
         t: lamp.t,
         number: lamp.number,
@@ -59,5 +61,9 @@ pub(crate) fn with_pairs(lamp: Lamp, pairs: &[u16]) -> Lamp
         report: bits,
         happy: lamp.happy,
         share: lamp.share,
+    };
+    Reply {
+        lamp: kept,
+        answer: Answer::Report(bits),
     }
 }

@@ -7,10 +7,8 @@ use borrow.Author.Tests.{eqb-true}
 use lib.Dec.{eqb}
 use lib.ListN.{length}
 use Rattle.field.specs.Modulus.{modulus}
-use Rattle.lamp.specs.declared.Answer.the-variants.{Report}
 use Rattle.lamp.proofs.Checks.{sized-facts, passed}
-use Rattle.lamp.specs.declared.Lamp.{Lamp}
-use Rattle.lamp.specs.Lamp.{reply, check, withPairs, hearPairs}
+use Rattle.lamp.specs.Lamp.{check, hearPairs}
 use Rattle.lamp.proofs.Calls.{admission, step-refused, step-admitted}
 use borrow.Author.Needs.{needs}
 use Rattle.lamp.proofs.Lamp.hear_pairs.Statement.{statement}
@@ -44,8 +42,8 @@ refuse-requires c κs = search needs
 enum-told : tie.Need-enum-told
 enum-told c = search needs
 
-with-pairs-requires : tie.Need-with-pairs-requires
-with-pairs-requires c κs =
+heard-requires : tie.Need-heard-requires
+heard-requires c κs =
     let a = c .before .before .before .before .before .before .args in
     let p = passed (a .self) _ _ _ (sym (checked (c .before .before)) ∙ c .enum-told .given .1) in
     let f = sized-facts (a .self) (p .sized) in
@@ -57,11 +55,10 @@ returns c =
     c .refuse .ensures ∙ step-refused modulus (a .self) (hearPairs (a .pairs .now)) (sym (checked (c .before .before .before .before)) ∙ c .before .before .checked .given .1)
 
 returns-2 : tie.Need-returns-2
-unfolding withPairs
 returns-2 c =
     let t = c .before in
     let a = t .before .before .before .before .before .before .args in
-    ap (λ (l : Lamp). reply l (Report (l .report))) (c .with-pairs .ensures)
+    c .heard .ensures
     ∙ step-admitted modulus (a .self) (hearPairs (a .pairs .now)) (sym (checked (t .before .before)) ∙ t .enum-told .given .1)
 
 pub hear-pairs-spec : {M : Type 1} → statement M
@@ -75,6 +72,6 @@ hear-pairs-spec =
     enum-known-checked
     refuse-requires
     enum-told
-    with-pairs-requires
+    heard-requires
     returns
     returns-2)

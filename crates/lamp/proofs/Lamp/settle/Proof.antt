@@ -34,8 +34,8 @@ within t =
     let f = sized-facts (a .self) (p .sized) in
     (omega arith, omega arith, sym (eqb-true (length (a .reports .now)) (a .self .n) (p .measured)))
 
-cast-n : tie.Need-cast-n
-cast-n c = search needs
+cast-fits : tie.Need-cast-fits
+cast-fits c = search needs
 
 stage-number-requires : tie.Need-stage-number-requires
 stage-number-requires c κs = search needs
@@ -75,15 +75,12 @@ returns c =
     ∙ settle-altered modulus (a .self) (a .reports .now) (c .before .if1 .taken)
     ∙ step-admitted modulus (a .self) (settle (a .reports .now)) (pass t)
 
-agreements-requires : tie.Need-agreements-requires
-agreements-requires c κs = search needs
-
-largest-requires : tie.Need-largest-requires
-largest-requires c κs = search needs
+happy-set-requires : tie.Need-happy-set-requires
+happy-set-requires c κs = search needs
 
 settled-requires : tie.Need-settled-requires
 settled-requires c κs =
-    let t = c .before .before .before .before .before .before in
+    let t = c .before .before .before .before .before in
     passed (t .before .before .before .before .before .before .args .self) _ _ _ (pass t) .sized
 
 returns-2 : tie.Need-returns-2
@@ -93,18 +90,18 @@ returns-2 c =
 
 returns-3 : tie.Need-returns-3
 returns-3 c =
-    let same = c .before .before .before in
+    let same = c .before .before in
     let t = same .before .before .before .before in
     let a = t .before .before .before .before .before .before .args in
     c .settled .ensures
-    ∙ settle-found modulus (a .self) (a .reports .now) _ _ _ (same .if1 .left) (c .before .before .agreements .ensures) (omega (arith, within t)) (c .before .largest .ensures)
+    ∙ settle-found modulus (a .self) (a .reports .now) _ (same .if1 .left) (c .before .happy-set .ensures)
     ∙ step-admitted modulus (a .self) (settle (a .reports .now)) (pass t)
 
 pub settle-spec : {M : Type 1} → statement M
 settle-spec =
     tie.close
     (tie.spec
-    cast-n
+    cast-fits
     stage-number-requires
     check-requires
     enum-known-checked
@@ -116,8 +113,7 @@ settle-spec =
     shared-slice-read-if1
     refuse-requires-2
     returns
-    agreements-requires
-    largest-requires
+    happy-set-requires
     settled-requires
     returns-2
     returns-3)
