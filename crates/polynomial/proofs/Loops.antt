@@ -1,44 +1,47 @@
 -- One turn of each loop of the code, as a law over plain lists.
 use mathlib.Core.Path.{_≡_, refl, sym, ap, ap₂, subst, _∙_}
-use mathlib.Core.List.{List, [], _∷_, _++_, append-assoc}
-use Prim.Native.Nat.{ℕ, zero, suc, _+_, _*_, _-_, _/_, _%_, _<_, _≤_}
-use mathlib.Core.Bool.{false}
-use native.Mathlib.Nat.{div-add-mod, mul-mod-right, mul-div-right, mul-le-mul-right, add-zero}
-use native.Mathlib.Decide.{ℕ-discrete}
-use lib.Dec.{eqb}
-use borrow.Author.Tests.{eq-eqb, ne-eqb}
+use mathlib.Core.List.{List, [], _∷_, _++_, append-assoc, zipWith}
+use Prim.Native.Nat.{ℕ, zero, suc, _+_, _*_, _-_, _%_, _<_, _≤_}
+use native.Mathlib.Nat.{mul-le-mul-right}
 use native.Mathlib.Numerals.{add-one}
 use native.Mathlib.Omega.{arith}
-use lib.ListN.{length, getD, take, drop, set, replicate, length-drop, length-append, length-set, length-replicate, take-append-drop, replicate-append-replicate}
-use lib.Seq.{drop-cons, drop-drop, take-suc, take-suc-set, take-at, drop-at, length-take-le}
+use lib.ListN.{length, getD, take, drop, set, replicate, length-drop, length-append, length-set, take-append-drop}
+use lib.Seq.{drop-cons, drop-drop, drop-length, take-suc, take-at, drop-at, length-take-le}
 use borrow.Rule.Slice.PartMut.{putMid}
 use Rattle.lists.proofs.InPlace.{write-next, write-end, rest-kept, drop-next, drop-end, lent-rest, put-rest, length-zipWith}
 use Rattle.field.specs.Arithmetic.{add, sub, mul}
+use Rattle.field.proofs.Ring.{add-zero, mul-zero, mul-comm}
 use Rattle.polynomial.specs.Polynomial.{value}
 use Rattle.polynomial.specs.Interpolation.{slopes, newton, raise, expand}
 use Rattle.polynomial.specs.Bivariate.{plusTimes, row, column}
 use Rattle.polynomial.proofs.Interpolation.{length-expand}
 
--- ---- `is_square`: a square is told by division
-pub square-zero : (len n : ℕ) → n ≡ 0 → eqb len 0 ≡ eqb len (n * n)
-square-zero len n e = ap (λ z. eqb len (z * z)) (sym e)
+-- ---- n blocks of n numbers: block u stands at u n
+block-within : (u n at len : ℕ) → u < n → at ≡ u * n → len ≡ n * n → at + n ≤ len
+block-within u n at len h e l = omega (arith, mul-le-mul-right {m = suc u} {n = n} n h)
 
-pub square-not : (len n : ℕ) → (n ≡ 0 → ⊥) → (len % n ≡ 0 → ⊥) → false ≡ eqb len (n * n)
-square-not len n positive h = sym (ne-eqb len (n * n) (λ e. h (ap (λ z. z % n) e ∙ mul-mod-right n n)))
+pub root-within : (n len : ℕ) → len ≡ n * n → n ≤ len
+root-within zero len e = omega arith
+root-within (suc n) len e = omega (arith, mul-le-mul-right {m = 1} {n = suc n} (suc n) (omega arith))
 
-pub square-root : (len n : ℕ) → (n ≡ 0 → ⊥) → len % n ≡ 0 → eqb (len / n) n ≡ eqb len (n * n)
-square-root len n positive h =
-    elim (ℕ-discrete len (n * n)) [
-      | yes e ↦ eq-eqb (len / n) n (ap (λ z. z / n) e ∙ mul-div-right n (omega arith)) ∙ sym (eq-eqb len (n * n) e)
-      | no d ↦
-          ne-eqb (len / n) n (λ e. d (sym (div-add-mod len n) ∙ ap₂ (λ a b. n * a + b) e h ∙ add-zero (n * n)))
-          ∙ sym (ne-eqb len (n * n) d)
-    ]
+-- Where the last of n blocks of n begins, and what is known where u of them are left before end.
+top-place : (n len : ℕ) → len ≡ n * n → len - n ≡ (n - 1) * n
+top-place zero len e = omega arith
+top-place (suc n) len e = let same : suc n - 1 ≡ n = omega arith in rw same (omega arith)
 
--- ---- `clear`
-pub clear-next : (out : List ℕ) (i : ℕ) → i < length out → take i out ≡ replicate i 0 → take (i + 1) (set out i 0) ≡ replicate (i + 1) 0
-clear-next out i h e =
-    rw (add-one i, take-suc-set out i 0 h) (ap (λ z. z ++ 0 ∷ []) e ∙ replicate-append-replicate i 1 0 ∙ ap (λ z. replicate z 0) (add-one i))
+left-blocks : (u n end len : ℕ) → u ≤ n → end ≡ u * n → len ≡ n * n → 0 < end → (0 < u) × (0 < n) × (n ≤ end) × (end ≤ len)
+left-blocks zero n end len h e l b = absurd (omega arith)
+left-blocks (suc u) n end len h e l b =
+    (omega arith, omega arith, omega arith, omega (arith, mul-le-mul-right {m = suc u} {n = n} n h))
+
+no-blocks : (u n : ℕ) → u ≤ n → u * n ≡ 0 → n - u ≡ n
+no-blocks zero n h e = omega arith
+no-blocks (suc u) n h e = omega arith
+
+-- The block of n numbers before end is as long as the column.
+pub column-block : (f : List ℕ) (n end : ℕ) → n ≤ end → end ≤ length f → length (take (end - (end - n)) (drop (end - n) f)) ≡ n
+column-block f n end l h =
+    length-take-le (end - (end - n)) (drop (end - n) f) (omega (arith, length-drop (end - n) f)) ∙ omega arith
 
 module _ (p : ℕ) where
   -- ---- `value`: Horner's rule from the end
@@ -48,6 +51,11 @@ module _ (p : ℕ) where
   horner f x v (suc i) low high e =
       let j : suc i - 1 ≡ i = omega arith in
       rw j (ap (λ z. add p (getD f i 0) (mul p x z)) e ∙ ap (λ z. value p z x) (sym (drop-cons f i 0 (omega arith))))
+
+  pub horner-top : (f : List ℕ) (x : ℕ) → 0 < length f → getD f (length f - 1) 0 % p ≡ value p (drop (length f - 1) f) x
+  horner-top f x h =
+      sym (ap (add p (getD f (length f - 1) 0)) (mul-zero p x) ∙ add-zero p (getD f (length f - 1) 0))
+      ∙ horner f x 0 (length f) h (omega arith) (ap (λ z. value p z x) (sym (drop-length f)))
 
   -- ---- `raise`
   raise-short : (x : ℕ) (q : List ℕ) → length q ≤ 1 → raise p x q ≡ q
@@ -162,10 +170,7 @@ module _ (p : ℕ) where
   pub expand-end : (xs ys₀ ys : List ℕ) (i : ℕ) → ExpandLoop xs ys₀ ys i → i ≡ 0 → ys ≡ expand p xs ys₀
   expand-end xs ys₀ ys i k h = k .goal ∙ ap (λ z. take z ys₀ ++ expand p (drop z xs) (drop z ys₀)) h
 
-  -- ---- `row` and `column`: block u of n numbers stands at u n
-  block-within : (u n at len : ℕ) → u < n → at ≡ u * n → len ≡ n * n → at + n ≤ len
-  block-within u n at len h e l = omega (arith, mul-le-mul-right {m = suc u} {n = n} n h)
-
+  -- ---- `row` and `column`
   pub record RowLoop (f : List ℕ) (y n : ℕ) (out : List ℕ) (u at : ℕ) : Type 0 where
     pub within : u ≤ n
     pub size : n ≡ length out
@@ -208,58 +213,73 @@ module _ (p : ℕ) where
             ∙ k .goal;
       }
 
-  pub record ColumnLoop (f : List ℕ) (x n : ℕ) (out : List ℕ) (u end : ℕ) : Type 0 where
+  -- The top block comes before the loop: times 0, whatever is multiplied by it, as x times a list of zeros.
+  top-block : (f : List ℕ) (x : ℕ) (g : List ℕ) → plusTimes p f 0 g ≡ plusTimes p f x (replicate (length g) 0)
+  unfolding zipWith
+  top-block [] x g = refl
+  top-block (c ∷ f) x [] = refl
+  top-block (c ∷ f) x (d ∷ g) = ap₂ (λ a b. add p c a ∷ b) (mul-comm p 0 d ∙ mul-zero p d ∙ sym (mul-zero p x)) (top-block f x g)
+
+  top-column : (n : ℕ) (f : List ℕ) (x : ℕ) → plusTimes p (take n f) x (replicate n 0) ≡ column p (n - (n - 1)) n f x
+  unfolding zipWith
+  top-column zero f x = refl
+  top-column (suc n) f x = let one : 1 ≡ suc n - (suc n - 1) = omega arith in ap (λ k. column p k (suc n) f x) one
+
+  -- u blocks are left, and they end at `end`.
+  pub record ColumnLoop (f : List ℕ) (x n : ℕ) (out : List ℕ) (end : ℕ) : Type 0 where
+    pub u : ℕ
     pub within : u ≤ n
     pub size : n ≡ length out
     pub square : length f ≡ n * n
     pub place : end ≡ u * n
     pub goal : out ≡ column p (n - u) n (drop end f) x
 
-  pub column-start : (f : List ℕ) (x n : ℕ) (out : List ℕ) → length f ≡ n * n → out ≡ replicate n 0 → ColumnLoop f x n out n (length f)
-  column-start f x n out e z = record {
-    within = omega arith;
-    size = sym (ap length z ∙ length-replicate n 0);
-    square = e;
-    place = e;
-    goal = z ∙ ap (λ k. column p k n (drop (length f) f) x) (let none : 0 ≡ n - n = omega arith in none);
-  }
+  pub column-start : (f : List ℕ) (x n : ℕ) (out new : List ℕ) → n ≡ length out → length f ≡ n * n
+      → new ≡ plusTimes p (take (length f - (length f - n)) (drop (length f - n) f)) 0 out → ColumnLoop f x n new (length f - n)
+  column-start f x n out new s e z =
+      let end : ℕ = length f - n in
+      let l : n ≤ length f = root-within n (length f) e in
+      let part : length f - end ≡ n = omega arith in
+      let block : List ℕ = take (length f - end) (drop end f) in
+      let size : n ≡ length new = s ∙ sym (ap length z ∙ length-zipWith _ block out (column-block f n (length f) l (omega arith) ∙ s)) in
+      let written : new ≡ plusTimes p (take n (drop end f)) x (replicate n 0) =
+      z ∙ top-block block x out ∙ ap₂ (λ a b. plusTimes p (take a (drop end f)) x (replicate b 0)) part (sym s) in
+      record {
+        u = n - 1;
+        within = omega arith;
+        size = size;
+        square = e;
+        place = top-place n (length f) e;
+        goal = written ∙ top-column n (drop end f) x;
+      }
 
-  pub column-bounds : (f : List ℕ) (x n : ℕ) (out : List ℕ) (u end : ℕ) → ColumnLoop f x n out u end → 0 < u
-      → (n ≤ end) × (end ≤ length f)
-  column-bounds f x n out zero end k h = absurd (omega arith)
-  column-bounds f x n out (suc u) end k h =
-      (omega (arith, k .place), omega (arith, k .place, k .square, mul-le-mul-right {m = suc u} {n = n} n (k .within)))
+  pub column-bounds : (f : List ℕ) (x n : ℕ) (out : List ℕ) (end : ℕ) (k : ColumnLoop f x n out end) → 0 < end
+      → (0 < k .u) × (0 < n) × (n ≤ end) × (end ≤ length f)
+  column-bounds f x n out end k h = left-blocks (k .u) n end (length f) (k .within) (k .place) (k .square) h
 
-  -- The block before end is as long as the column.
-  pub column-block : (f : List ℕ) (x n : ℕ) (out : List ℕ) (u end : ℕ) → ColumnLoop f x n out u end → 0 < u
-      → length (take (end - (end - n)) (drop (end - n) f)) ≡ length out
-  column-block f x n out u end k h =
-      let b = column-bounds f x n out u end k h in
-      length-take-le (end - (end - n)) (drop (end - n) f) (omega (arith, length-drop (end - n) f)) ∙ omega (arith, k .size)
+  pub column-end : (f : List ℕ) (x n : ℕ) (out : List ℕ) (end : ℕ) → ColumnLoop f x n out end → end ≡ 0 → out ≡ column p n n f x
+  column-end f x n out end k h =
+      let all : n - k .u ≡ n = no-blocks (k .u) n (k .within) (sym (k .place) ∙ h) in
+      k .goal ∙ ap₂ (λ a b. column p a n (drop b f) x) all h
 
-  pub column-end : (f : List ℕ) (x n : ℕ) (out : List ℕ) (u end : ℕ) → ColumnLoop f x n out u end → u ≡ 0 → out ≡ column p n n f x
-  column-end f x n out u end k h =
-      let all : n - u ≡ n = omega arith in
-      let first : end ≡ 0 = k .place ∙ ap (λ z. z * n) h ∙ omega arith in
-      k .goal ∙ ap₂ (λ a b. column p a n (drop b f) x) all first
-
-  pub column-next : (f : List ℕ) (x n : ℕ) (out new : List ℕ) (u end : ℕ) → ColumnLoop f x n out u end → 0 < u
-      → new ≡ plusTimes p (take (end - (end - n)) (drop (end - n) f)) x out → ColumnLoop f x n new (u - 1) (end - n)
-  column-next f x n out new zero end k h e = absurd (omega arith)
-  column-next f x n out new (suc u) end k h e =
-      let more : end - n + n ≡ end = omega (arith, k .place) in
-      let fewer : end - n ≡ u * n = omega (arith, k .place) in
+  pub column-next : (f : List ℕ) (x n : ℕ) (out new : List ℕ) (end : ℕ) → ColumnLoop f x n out end → 0 < end
+      → new ≡ plusTimes p (take (end - (end - n)) (drop (end - n) f)) x out → ColumnLoop f x n new (end - n)
+  column-next f x n out new end k h e =
+      let b = column-bounds f x n out end k h in
+      let more : end - n + n ≡ end = omega (arith, b) in
       let block : List ℕ = drop (end - n) f in
-      let part : end - (end - n) ≡ n = omega (arith, k .place) in
-      let left : suc (n - suc u) ≡ n - (suc u - 1) = omega (arith, k .within) in
+      let part : end - (end - n) ≡ n = omega (arith, b) in
+      let left : suc (n - k .u) ≡ n - (k .u - 1) = omega (arith, b, k .within) in
+      let one : k .u ≡ suc (k .u - 1) = omega (arith, b) in
       let written : new ≡ plusTimes p (take n block) x out = e ∙ ap (λ z. plusTimes p (take z block) x out) part in
       record {
+        u = k .u - 1;
         within = omega (arith, k .within);
-        size = k .size ∙ sym (ap length e ∙ length-zipWith _ _ out (column-block f x n out (suc u) end k h));
+        size = k .size ∙ sym (ap length e ∙ length-zipWith _ _ out (column-block f n end (b .2) (b .3) ∙ k .size));
         square = k .square;
-        place = fewer ∙ ap (λ z. z * n) (let same : u ≡ suc u - 1 = omega arith in same);
+        place = omega (arith, k .place, ap (λ z. z * n) one);
         goal =
             written
-            ∙ ap (plusTimes p (take n block) x) (k .goal ∙ ap (λ z. column p (n - suc u) n z x) (ap (λ z. drop z f) (sym more) ∙ sym (drop-drop n (end - n) f)))
+            ∙ ap (plusTimes p (take n block) x) (k .goal ∙ ap (λ z. column p (n - k .u) n z x) (ap (λ z. drop z f) (sym more) ∙ sym (drop-drop n (end - n) f)))
             ∙ ap (λ z. column p z n block x) left;
       }

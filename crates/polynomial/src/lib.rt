@@ -56,12 +56,15 @@ pub fn points(list: &[u16]) -> bool
     true
 }
 
-// The value of f at x, by Horner's rule.
+// The value of f at x, by Horner's rule from the top coefficient on.
 pub fn value(f: &[u16], x: u16) -> u16
     ensures { λ r. ⌜ r ≡ value modulus (now (f .entry)) x ⌝ }
 {
-    let mut i = f.len();
-    let mut v: u16 = 0;
+    if f.len() == 0 {
+        return 0;
+    }
+    let mut i = f.len() - 1;
+    let mut v = f[i] % field::MODULUS;
     while 0 < i {
         i -= 1;
         v = field::mul_add(x, v, f[i]);
@@ -171,16 +174,6 @@ pub fn row(f: &[u16], y: u16, out: &mut [u16])
     }
 }
 
-fn clear(out: &mut [u16])
-    ensures { λ r. ⌜ now (out .exit) ≡ replicate (length (now (out .entry))) 0 ⌝ }
-{
-    let mut i = 0;
-    while i < out.len() {
-        out[i] = 0;
-        i += 1;
-    }
-}
-
 // part + x out, in the place of out.
 fn plus_times(part: &[u16], x: u16, out: &mut [u16])
     requires { ⌜ length (now part) ≡ length (now out) ⌝ }
@@ -194,6 +187,7 @@ fn plus_times(part: &[u16], x: u16, out: &mut [u16])
 }
 
 // The coefficients of F(x, Y), written into a lent part as long as the column. F of another size leaves it alone.
+// The top part comes first, plus 0 times what the lent part held.
 pub fn column(f: &[u16], x: u16, out: &mut [u16])
     ensures { λ r. ⌜ now (out .exit) ≡ columnIn modulus (now (f .entry)) x (now (out .entry)) ⌝ }
 {
@@ -201,13 +195,11 @@ pub fn column(f: &[u16], x: u16, out: &mut [u16])
     if !is_square(f.len(), n) {
         return;
     }
-    clear(out);
-    let mut u = n;
-    let mut end = f.len();
-    while 0 < u {
+    let mut end = f.len() - n;
+    plus_times(&f[end..], 0, out);
+    while 0 < end {
         let start = end - n;
         plus_times(&f[start..end], x, out);
         end = start;
-        u -= 1;
     }
 }

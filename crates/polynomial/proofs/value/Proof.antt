@@ -5,9 +5,9 @@ use Rattle.field.specs.Modulus.{modulus}
 use mathlib.Core.Path.{_≡_, sym, ap}
 use Prim.Native.Nat.{_≤_}
 use lib.ListN.{length, drop}
-use lib.Seq.{drop-length}
+use Rattle.lists.proofs.InPlace.{drop-end}
 use Rattle.polynomial.specs.Polynomial.{value}
-use Rattle.polynomial.proofs.Loops.{horner}
+use Rattle.polynomial.proofs.Loops.{horner, horner-top}
 use Rattle.polynomial.proofs.value.Statement.{statement}
 use Rattle.polynomial.proofs.value.Tie as tie
 
@@ -17,11 +17,25 @@ Inv-loop f x i₀ v₀ i v = (i ≤ length f) × (v ≡ value modulus (drop i f)
 abbrev μ-loop : tie.MeasureT-loop
 μ-loop f x i₀ v₀ i v = i
 
-loop-holds : tie.Need-loop-holds Inv-loop μ-loop
-loop-holds c = (omega arith, ap (λ z. value modulus z (c .before .args .x)) (sym (drop-length (c .before .args .f .now))))
+returns : tie.Need-returns Inv-loop μ-loop
+returns c =
+    let a = c .before .before .args in
+    ap (λ z. value modulus z (a .x)) (sym (drop-end (a .f .now) 0 (omega arith)))
 
 sub-i : tie.Need-sub-i Inv-loop μ-loop
 sub-i c = search needs
+
+mul-v : tie.Need-mul-v Inv-loop μ-loop
+mul-v c = search needs
+
+shared-slice-read-v : tie.Need-shared-slice-read-v Inv-loop μ-loop
+shared-slice-read-v c = search needs
+
+loop-holds : tie.Need-loop-holds Inv-loop μ-loop
+loop-holds c = (omega arith, horner-top modulus (c .before .before .before .args .f .now) _ (omega arith))
+
+sub-i-2 : tie.Need-sub-i-2 Inv-loop μ-loop
+sub-i-2 c = search needs
 
 mul-mul-add : tie.Need-mul-mul-add Inv-loop μ-loop
 mul-mul-add c = search needs
@@ -40,8 +54,8 @@ loop-again c =
     let k = c .before .before .before .loop in
     (omega arith, rw (c .mul-add .ensures) (horner modulus _ _ (k .v) (k .i) (omega arith) (omega arith) (k .inv .1)))
 
-returns : tie.Need-returns Inv-loop μ-loop
-returns c = let z : c .before .loop .i ≡ 0 = omega arith in rw z at (c .before .loop .inv .1)
+returns-2 : tie.Need-returns-2 Inv-loop μ-loop
+returns-2 c = let z : c .before .loop .i ≡ 0 = omega arith in rw z at (c .before .loop .inv .1)
 
 pub value-spec : {M : Type 1} → statement M
 value-spec =
@@ -49,11 +63,15 @@ value-spec =
     (tie.spec
     Inv-loop
     μ-loop
-    loop-holds
+    returns
     sub-i
+    mul-v
+    shared-slice-read-v
+    loop-holds
+    sub-i-2
     mul-mul-add
     shared-slice-read-mul-add
     mul-add-requires
     loop-less
     loop-again
-    returns)
+    returns-2)
