@@ -19,9 +19,9 @@ use Rattle.field.specs.Arithmetic.{Prime}
 use Rattle.field.specs.Modulus.{modulus}
 use Rattle.field.proofs.Primes.{prime}
 use Rattle.polynomial.specs.Polynomial.{Poly, value}
-use Rattle.polynomial.specs.Bivariate.{at, row, column}
-use Rattle.polynomial.proofs.Crossing.{row-poly, column-poly, crossing}
-use Rattle.polynomial.proofs.Terms.{row-at, at-secret}
+use Rattle.bivariate.specs.Bivariate.{at, row, column}
+use Rattle.bivariate.proofs.Crossing.{row-poly, column-poly, crossing}
+use Rattle.bivariate.proofs.Terms.{row-at, at-secret}
 use Rattle.happy.specs.Happy.{happySet}
 use Rattle.lists.specs.Choices.{count}
 use Rattle.lists.proofs.Choices.{count-no}

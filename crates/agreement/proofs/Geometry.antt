@@ -21,11 +21,11 @@ use Rattle.lists.specs.Tabulate.{tabulate}
 use Rattle.lists.proofs.Tabulate.{length-tabulate, getD-tabulate, map-tabulate}
 use Rattle.field.specs.Arithmetic.{Prime}
 use Rattle.polynomial.specs.Polynomial.{Poly, Points, value}
-use Rattle.polynomial.specs.Bivariate.{at, row, column, LieOn}
+use Rattle.bivariate.specs.Bivariate.{at, row, column, LieOn}
 use Rattle.polynomial.proofs.Division.{value-zero}
-use Rattle.polynomial.proofs.Crossing.{row-poly, column-poly, crossing}
-use Rattle.polynomial.proofs.Bivariate.{lie-on, lie-once}
-use Rattle.polynomial.proofs.Terms.{row-at, column-at}
+use Rattle.bivariate.proofs.Crossing.{row-poly, column-poly, crossing}
+use Rattle.bivariate.proofs.Bivariate.{lie-on, lie-once}
+use Rattle.bivariate.proofs.Terms.{row-at, column-at}
 use Rattle.lists.specs.Choices.{count, keep, marked, select, hide}
 use Rattle.fit.specs.Fit.{sent, Fits, fit}
 use Rattle.lists.proofs.Choices.{count-map, length-keep, keep-sublist}

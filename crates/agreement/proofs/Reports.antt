@@ -16,8 +16,8 @@ use Rattle.lists.proofs.Masks.{mask-lt, bit-mask, bit-none}
 use Rattle.lists.proofs.Cases.{not-both, true-or-false}
 use Rattle.field.specs.Arithmetic.{Prime}
 use Rattle.polynomial.specs.Polynomial.{Poly, value}
-use Rattle.polynomial.specs.Bivariate.{row, column}
-use Rattle.polynomial.proofs.Crossing.{row-poly, column-poly, crossing}
+use Rattle.bivariate.specs.Bivariate.{row, column}
+use Rattle.bivariate.proofs.Crossing.{row-poly, column-poly, crossing}
 use Rattle.happy.specs.Agreement.{agree, Agreed}
 use Rattle.happy.specs.Clique.{Clique, Largest}
 use Rattle.happy.specs.Happy.{happySet}

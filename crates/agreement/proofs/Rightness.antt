@@ -22,8 +22,8 @@ use Rattle.field.specs.Arithmetic.{Prime}
 use Rattle.field.specs.Modulus.{modulus}
 use Rattle.field.proofs.Primes.{prime}
 use Rattle.polynomial.specs.Polynomial.{Poly, Points}
-use Rattle.polynomial.specs.Bivariate.{row, column}
-use Rattle.polynomial.proofs.Terms.{row-at, column-at}
+use Rattle.bivariate.specs.Bivariate.{row, column}
+use Rattle.bivariate.proofs.Terms.{row-at, column-at}
 use Rattle.happy.specs.Agreement.{agree}
 use Rattle.happy.specs.Clique.{Clique, Largest}
 use Rattle.happy.specs.Happy.{happySet}

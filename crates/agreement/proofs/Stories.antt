@@ -19,8 +19,8 @@ use Rattle.field.proofs.Primes.{prime}
 use Rattle.happy.specs.Agreement.{agree, agreements}
 use Rattle.happy.specs.Happy.{joins, better, best, largest, largestIn, happySet}
 use Rattle.fit.specs.Fit.{hits, sent, received, through, fit}
-use Rattle.polynomial.specs.Interpolation.{interpolate}
-use Rattle.polynomial.specs.Bivariate.{at}
+use Rattle.interpolation.specs.Interpolation.{interpolate}
+use Rattle.bivariate.specs.Bivariate.{at}
 use Rattle.field.specs.Arithmetic.{add, sub, mul, pow, inv, invWithin}
 use Rattle.parties.specs.Parties.{sizes, isParty, parties, pointOf, notSent, entry}
 use Rattle.parties.proofs.Parties.{party-facts}

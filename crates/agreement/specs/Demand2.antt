@@ -14,7 +14,7 @@ use lib.ListN.{length, take, set}
 use Rattle.lists.specs.Masks.{bit, members}
 use Rattle.lists.specs.Tabulate.{tabulate}
 use Rattle.polynomial.specs.Polynomial.{Poly, Residues, value}
-use Rattle.polynomial.specs.Bivariate.{at, row, column}
+use Rattle.bivariate.specs.Bivariate.{at, row, column}
 use Rattle.happy.specs.Agreement.{agree}
 use Rattle.happy.specs.Clique.{Clique, Largest}
 use Rattle.lists.specs.Choices.{select}

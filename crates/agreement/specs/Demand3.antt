@@ -12,7 +12,7 @@ use mathlib.Core.List.{List, [], _∷_, _++_}
 use Prim.Native.Nat.{ℕ, suc, _*_, _≤_}
 use lib.ListN.{length, getD}
 use Rattle.polynomial.specs.Polynomial.{Poly}
-use Rattle.polynomial.specs.Bivariate.{at, row, column}
+use Rattle.bivariate.specs.Bivariate.{at, row, column}
 use Rattle.happy.specs.Agreement.{agree}
 use Rattle.happy.specs.Clique.{Largest}
 use Rattle.happy.specs.Happy.{happySet}

@@ -8,7 +8,7 @@ use mathlib.Core.List.{List, [], _∷_}
 use Prim.Native.Nat.{ℕ, suc, _*_, _/_, _%_}
 use lib.Dec.{eqb, leb}
 use Rattle.lists.specs.Tabulate.{tabulate}
-use Rattle.polynomial.specs.Bivariate.{at}
+use Rattle.bivariate.specs.Bivariate.{at}
 use Rattle.dealer.specs.Desk as desks
 use Rattle.consistency.specs.Deal.{rowOf, columnOf, pairFor, reportOf}
 use Rattle.lamp.specs.Lamp.{Call, takeDeal, sayPair, hearPairs, settle, openShares}

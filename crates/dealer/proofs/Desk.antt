@@ -15,8 +15,8 @@ use borrow.Author.Tests.{eqb-true, eq-eqb, ne-eqb}
 use Rattle.lists.proofs.InPlace.{part-in-front}
 use Rattle.polynomial.specs.Polynomial.{Residues, residues}
 use Rattle.polynomial.proofs.Below.{residues-facts, residues-true, residues-not}
-use Rattle.polynomial.specs.Bivariate.{row, column}
-use Rattle.polynomial.proofs.Crossing.{length-row, length-column}
+use Rattle.bivariate.specs.Bivariate.{row, column}
+use Rattle.bivariate.proofs.Crossing.{length-row, length-column}
 use Rattle.parties.specs.Parties.{sizes, pointOf}
 use Rattle.dealer.specs.Desk.{deal, deals, stretch, verdict, numberOf, listAfter, desk}
 use Rattle.dealer.specs.declared.Dealing.{Dealing}

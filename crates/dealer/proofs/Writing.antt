@@ -10,9 +10,9 @@ use lib.ListN.{length, take, drop, length-append, length-drop}
 use lib.Seq.{take-at, drop-at, take-all, length-take-le}
 use borrow.Rule.Slice.PartMut.{putMid, same-len-mid, mid-len}
 use Rattle.lists.proofs.InPlace.{lent-rest, put-rest}
-use Rattle.polynomial.specs.Bivariate.{row, column, rowIn, columnIn}
-use Rattle.polynomial.proofs.Lent.{row-in, column-in}
-use Rattle.polynomial.proofs.Crossing.{length-row}
+use Rattle.bivariate.specs.Bivariate.{row, column, rowIn, columnIn}
+use Rattle.bivariate.proofs.Lent.{row-in, column-in}
+use Rattle.bivariate.proofs.Crossing.{length-row}
 use Rattle.parties.specs.Parties.{pointOf}
 use Rattle.dealer.specs.Desk.{deal, deals}
 use Rattle.dealer.proofs.Desk.{length-deal}

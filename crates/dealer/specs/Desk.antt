@@ -13,7 +13,7 @@ use Prim.Native.Nat.{ℕ, zero, suc, _*_, _-_}
 use lib.Dec.{eqb}
 use lib.ListN.{length, take, drop}
 use Rattle.polynomial.specs.Polynomial.{residues}
-use Rattle.polynomial.specs.Bivariate.{row, column}
+use Rattle.bivariate.specs.Bivariate.{row, column}
 use Rattle.parties.specs.Parties.{sizes, pointOf}
 use Rattle.dealer.specs.declared.Dealing.{Dealing}
 use Rattle.dealer.specs.declared.Dealing.the-variants.{Written, WrongSize, WrongLength, NotResidue}

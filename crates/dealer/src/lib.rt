@@ -41,8 +41,8 @@ fn write_deal(list: &[u16], width: usize, i: u8, out: &mut [u16])
     ensures { λ r. ⌜ now (out .exit) ≡ deal modulus width (now (list .entry)) i ⌝ }
 {
     let point = parties::point(i);
-    polynomial::row(list, point, &mut out[..width]);
-    polynomial::column(list, point, &mut out[width..]);
+    bivariate::row(list, point, &mut out[..width]);
+    bivariate::column(list, point, &mut out[width..]);
 }
 
 // The deals of parties 1 to n, each in its own part of the lent list.

@@ -13,9 +13,9 @@ use lib.Seq.{length-take-le, take-suc-set}
 use Rattle.lists.proofs.Padded.{four}
 use Rattle.lists.proofs.InPlace.{drop-end, drop-next, rest-kept}
 use Rattle.field.specs.Modulus.{modulus}
-use Rattle.polynomial.specs.Interpolation.{newton, interpolate, interpolateIn}
-use Rattle.polynomial.proofs.Interpolation.{length-newton, length-expand}
-use Rattle.polynomial.proofs.Lent.{interpolate-in}
+use Rattle.interpolation.specs.Interpolation.{newton, interpolate, interpolateIn}
+use Rattle.interpolation.proofs.Interpolation.{length-newton, length-expand}
+use Rattle.interpolation.proofs.Lent.{interpolate-in}
 use Rattle.fit.specs.declared.Fitted.{Fitted}
 use Rattle.fit.specs.Fit.{hits, sent, received, through, firstFitting, fit}
 use Rattle.fit.specs.Answer.{answer, candidates, found, Searching, fitIn}

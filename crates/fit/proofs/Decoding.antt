@@ -14,7 +14,7 @@ use Rattle.lists.proofs.All.{all-of, all-at}
 use Rattle.field.specs.Arithmetic.{Prime}
 use Rattle.polynomial.specs.Polynomial.{Poly, Points, Residues, value}
 use Rattle.polynomial.proofs.Division.{value-lt}
-use Rattle.polynomial.proofs.Interpolation.{interpolate-poly, interpolate-only}
+use Rattle.interpolation.proofs.Interpolation.{interpolate-poly, interpolate-only}
 use Rattle.lists.specs.Choices.{count, choices}
 use Rattle.fit.specs.Fit.{pointsOf, xsOf, ysOf, meets, hits, sent, received, Fits, through, firstFitting, fit}
 use Rattle.lists.proofs.Choices.{count-length, length-keep, count-keep, count-take, count-both, count-sublist, count-map, first-some, first-none, choices-sublist, choices-passing, keep-sublist, keep-passing}

@@ -7,7 +7,7 @@ use Prim.Native.Nat.{ℕ, _+_, _-_}
 use lib.ListN.{take}
 use Rattle.field.specs.Arithmetic.{add, sub, mul, inv, invWithin}
 use Rattle.field.specs.Modulus.{modulus}
-use Rattle.polynomial.specs.Interpolation.{interpolate}
+use Rattle.interpolation.specs.Interpolation.{interpolate}
 use Rattle.lists.specs.Choices.{hide}
 use Rattle.fit.specs.Fit.{hits, sent, received, through, fit}
 use Rattle.fit.specs.Answer.{answer, fitIn}

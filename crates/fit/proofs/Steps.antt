@@ -9,7 +9,7 @@ use lib.Seq.{take-nil}
 use Rattle.lists.proofs.All.{map-map}
 use Rattle.lists.proofs.InPlace.{drop-next}
 use Rattle.lists.proofs.Sublists.{take-take}
-use Rattle.polynomial.specs.Interpolation.{interpolate}
+use Rattle.interpolation.specs.Interpolation.{interpolate}
 use Rattle.lists.specs.Choices.{choices}
 use Rattle.fit.specs.Fit.{xsOf, ysOf, received}
 use Rattle.fit.specs.Answer.{candidates}

@@ -12,7 +12,7 @@ use lib.Dec.{leb, eqb}
 use lib.ListN.{length, take, drop, replicate}
 use Rattle.lists.specs.Tabulate.{pad}
 use Rattle.field.specs.Modulus.{modulus}
-use Rattle.polynomial.specs.Interpolation.{interpolate}
+use Rattle.interpolation.specs.Interpolation.{interpolate}
 use Rattle.fit.specs.declared.Fitted.{Fitted}
 use Rattle.lists.specs.Choices.{choices}
 use Rattle.fit.specs.Fit.{xsOf, ysOf, received, firstFitting, fit}

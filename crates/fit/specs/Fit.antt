@@ -13,7 +13,7 @@ use Prim.Native.Nat.{ℕ, suc, _+_, _-_, _≤_}
 use lib.Dec.{leb, ltb, eqb}
 use lib.ListN.{take}
 use Rattle.polynomial.specs.Polynomial.{Poly, value}
-use Rattle.polynomial.specs.Interpolation.{interpolate}
+use Rattle.interpolation.specs.Interpolation.{interpolate}
 use Rattle.lists.specs.Choices.{count, keep, first, choices}
 
 -- The points with the coordinates xs and ys.

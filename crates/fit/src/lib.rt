@@ -6,7 +6,7 @@ ghost use Prim.Native.Nat.{_-_, _≤_, _<_};
 ghost use lib.Dec.{leb};
 ghost use lib.ListN.{length, take, drop, replicate};
 ghost use Rattle.field.specs.Modulus.{modulus};
-ghost use Rattle.polynomial.specs.Interpolation.{interpolate};
+ghost use Rattle.interpolation.specs.Interpolation.{interpolate};
 ghost use Rattle.fit.specs.Fit.{hits, sent, firstFitting, fit};
 ghost use Rattle.fit.specs.Answer.{answer, found, Searching, fitIn};
 ghost use Rattle.fit.specs.Grouping.{Behind, Grouping};
@@ -72,7 +72,7 @@ fn test(xs: &[u16], ys: &[u16], need: usize, c: usize, cx: [u16; 4], cy: [u16; 4
     ensures { λ r. ⌜ r ≡ answer (firstFitting modulus need (now (xs .entry)) (now (ys .entry)) (interpolate modulus (take c cx) (take c cy) ∷ [])) ⌝ }
 {
     let mut f = cy;
-    polynomial::interpolate(&cx[..c], &mut f[..c]);
+    interpolation::interpolate(&cx[..c], &mut f[..c]);
     if enough(f[0], f[1], f[2], f[3], xs, ys, need) {
         Fitted {
             found: true,

@@ -12,7 +12,7 @@ use Rattle.lists.specs.All.{All}
 use Rattle.lists.specs.Masks.{mask}
 use Rattle.lists.specs.Tabulate.{tabulate}
 use Rattle.field.specs.Arithmetic.{add, sub, mul, inv, invWithin}
-use Rattle.polynomial.specs.Interpolation.{interpolate}
+use Rattle.interpolation.specs.Interpolation.{interpolate}
 use Rattle.happy.specs.Agreement.{agree, agreements}
 use Rattle.happy.specs.Happy.{joins, better, best, largest, largestIn, happySet}
 use Rattle.fit.specs.Fit.{hits, sent, received, through, fit}

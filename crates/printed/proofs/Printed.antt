@@ -9,9 +9,9 @@ use native.Mathlib.Omega.{arith}
 use lib.Dec.{lit<}
 use Rattle.field.specs.Modulus.{modulus}
 use Rattle.field.proofs.Primes.{prime}
-use Rattle.polynomial.specs.Bivariate.{row}
-use Rattle.polynomial.proofs.Crossing.{row-poly}
-use Rattle.polynomial.proofs.Terms.{row-at}
+use Rattle.bivariate.specs.Bivariate.{row}
+use Rattle.bivariate.proofs.Crossing.{row-poly}
+use Rattle.bivariate.proofs.Terms.{row-at}
 use Rattle.lists.proofs.Cases.{true-or-false}
 use Rattle.parties.specs.Parties.{pointOf}
 use Rattle.parties.proofs.Parties.{party-facts}

@@ -12,7 +12,7 @@ use Prim.Native.Nat.{ℕ, suc, _≤_}
 use lib.ListN.{getD}
 use Rattle.lists.specs.Choices.{count}
 use Rattle.field.specs.Modulus.{modulus}
-use Rattle.polynomial.specs.Bivariate.{at}
+use Rattle.bivariate.specs.Bivariate.{at}
 use Rattle.parties.specs.Parties.{parties, pointOf, entry}
 use Rattle.consistency.specs.Deal.{rowOf, columnOf, firstFrom, secondFrom, pairFor}
 use Rattle.lamp.specs.Lamp.{openShares}

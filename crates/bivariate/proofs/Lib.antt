@@ -1,0 +1,5 @@
+pub mod Crossing
+pub mod Bivariate
+pub mod Terms
+pub mod Lent
+mod Loops
