@@ -29,11 +29,11 @@ use Rattle.parties.specs.Parties.{sizes, isParty, parties, pointOf, points, mem
 use Rattle.parties.proofs.Parties.{sizes-facts, party-facts, party-true, mem-parties}
 use Rattle.dealer.specs.Desk.{desk, deal, stretch}
 use Rattle.dealer.proofs.Desk.{take-deal, drop-deal, desk-written, desk-stretch}
-use Rattle.lamp.specs.declared.Stage.the-variants.{Holding, Closed}
-use Rattle.lamp.specs.declared.Answer.the-variants.{Accepted as Accepted-answer, Opened}
+use Rattle.answers.specs.declared.Stage.the-variants.{Holding, Closed}
+use Rattle.answers.specs.declared.Answer.the-variants.{Accepted as Accepted-answer, Opened}
 use Rattle.lamp.specs.declared.Lamp.{Lamp}
 use Rattle.lamp.specs.declared.Reply.{Reply}
-use Rattle.lamp.specs.Answer.{numberOf, valuesOf}
+use Rattle.answers.specs.Answer.{numberOf, valuesOf}
 use Rattle.consistency.specs.Deal.{rowOf, columnOf, firstFrom}
 use Rattle.recovery.specs.Recovery.{repair}
 use Rattle.lamp.specs.Lamp.{Call, takeDeal, sayPair, hearPairs, settle, openShares, made, reply, firsts, constant, columnOfLamp, withDeal, withPairs, atEnd, settled, opening, step, after}

@@ -12,8 +12,8 @@ use lib.Seq.{take-at, length-take-le}
 use borrow.Author.Tests.{eq-eqb}
 use Rattle.happy.specs.Happy.{happySet}
 use Rattle.parties.specs.Parties.{sizes, isParty, entry}
-use Rattle.lamp.specs.declared.Stage.the-variants.{Waiting, Dealt, Reported}
-use Rattle.lamp.specs.declared.Answer.the-variants.{Done, Pair, Report}
+use Rattle.answers.specs.declared.Stage.the-variants.{Waiting, Dealt, Reported}
+use Rattle.answers.specs.declared.Answer.the-variants.{Done, Pair, Report}
 use Rattle.lamp.specs.declared.Lamp.{Lamp}
 use Rattle.lamp.specs.declared.Reply.{Reply}
 use Rattle.consistency.specs.Deal.{rowOf, columnOf, pairFor, reportOf}

@@ -15,7 +15,8 @@ use Rattle.parties.specs.Parties.{sizes, isParty, pointOf, notSent}
 use Rattle.dealer.specs.Desk.{deal, deals, verdict, desk}
 use Rattle.consistency.specs.Deal.{sound, confirms, reportOf}
 use Rattle.recovery.specs.Recovery.{repair}
-use Rattle.lamp.specs.Lamp.{lowest, check, make, withDeal, withPairs, reportFrom, atEnd, settled, opening, step}
+use Rattle.answers.specs.Answer.{lowest}
+use Rattle.lamp.specs.Lamp.{check, make, withDeal, withPairs, reportFrom, atEnd, settled, opening, step}
 use Rattle.agreement.specs.Marked.{holds, allHold, table, traps}
 
 pub markedHold : allHold modulus (table ++ traps) ≡ true

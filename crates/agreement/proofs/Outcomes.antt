@@ -13,9 +13,9 @@ use Rattle.lists.specs.Tabulate.{tabulate, pad}
 use Rattle.lists.proofs.Tabulate.{length-tabulate, getD-tabulate}
 use Rattle.parties.specs.Parties.{isParty, member, entry}
 use Rattle.parties.proofs.Parties.{party-facts}
-use Rattle.lamp.specs.declared.Stage.the-variants.{Holding, Closed}
-use Rattle.lamp.specs.declared.Refusal.the-variants.{DealerRejected}
-use Rattle.lamp.specs.declared.Answer.the-variants.{Accepted, Opened, Refused}
+use Rattle.answers.specs.declared.Stage.the-variants.{Holding, Closed}
+use Rattle.answers.specs.declared.Refusal.the-variants.{DealerRejected}
+use Rattle.answers.specs.declared.Answer.the-variants.{Accepted, Opened, Refused}
 use Rattle.lamp.specs.declared.Lamp.{Lamp}
 use Rattle.lamp.specs.declared.Reply.{Reply}
 use Rattle.consistency.specs.Deal.{firstFrom}

@@ -38,13 +38,13 @@ use Rattle.parties.specs.Parties.{sizes, isParty, pointOf, points, member, entr
 use Rattle.parties.proofs.Parties.{sizes-facts, party-facts, length-points}
 use Rattle.dealer.specs.Desk.{deal, desk, numberOf as numberOfDealing}
 use Rattle.dealer.proofs.Desk.{length-deals, desk-written, desk-writes, desk-list, desk-stretch, desk-size, desk-length, desk-residue, desk-refused}
-use Rattle.lamp.specs.declared.Stage.{Stage}
-use Rattle.lamp.specs.declared.Stage.the-variants.{Reported, Holding, Closed}
-use Rattle.lamp.specs.declared.Refusal.the-variants.{DealerRejected, NoColumn, NoOpening}
-use Rattle.lamp.specs.declared.Answer.the-variants.{Accepted, Opened, Refused}
+use Rattle.answers.specs.declared.Stage.{Stage}
+use Rattle.answers.specs.declared.Stage.the-variants.{Reported, Holding, Closed}
+use Rattle.answers.specs.declared.Refusal.the-variants.{DealerRejected, NoColumn, NoOpening}
+use Rattle.answers.specs.declared.Answer.the-variants.{Accepted, Opened, Refused}
 use Rattle.lamp.specs.declared.Lamp.{Lamp}
 use Rattle.lamp.specs.declared.Reply.{Reply}
-use Rattle.lamp.specs.Answer.{numberOf, valuesOf, stageNumber}
+use Rattle.answers.specs.Answer.{numberOf, valuesOf, stageNumber}
 use Rattle.consistency.specs.Deal.{rowOf, columnOf}
 use Rattle.recovery.specs.Recovery.{repair}
 use Rattle.lamp.specs.Lamp.{withDeal, withPairs, reportFrom, takeDeal, hearPairs, rowOfLamp, Sized, reply, refuse, isAt, columnOfLamp, constant, atEnd, repaired, settled, opening, opened, settle, openShares, step}

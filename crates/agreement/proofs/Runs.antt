@@ -19,11 +19,11 @@ use Rattle.lists.proofs.Cases.{true-or-false, not-both}
 use Rattle.happy.specs.Happy.{happySet}
 use Rattle.parties.specs.Parties.{sizes, isParty, member, entry}
 use Rattle.parties.proofs.Parties.{sizes-facts}
-use Rattle.lamp.specs.declared.Stage.{Stage}
-use Rattle.lamp.specs.declared.Stage.the-variants.{Waiting, Dealt, Reported, Holding, Closed}
+use Rattle.answers.specs.declared.Stage.{Stage}
+use Rattle.answers.specs.declared.Stage.the-variants.{Waiting, Dealt, Reported, Holding, Closed}
 use Rattle.lamp.specs.declared.Lamp.{Lamp}
 use Rattle.lamp.specs.declared.Reply.{Reply}
-use Rattle.lamp.specs.Answer.{stageNumber}
+use Rattle.answers.specs.Answer.{stageNumber}
 use Rattle.consistency.specs.Deal.{rowOf, columnOf, pairFor, reportOf}
 use Rattle.recovery.specs.Recovery.{repair}
 use Rattle.lamp.specs.Lamp.{Sized, made, isAt, rowOfLamp, columnOfLamp, withDeal, saidPair, withPairs, reportFrom, atEnd, constant, repaired, settled, Call, takeDeal, sayPair, hearPairs, settle, openShares, step, after}

@@ -19,20 +19,20 @@ use borrow.Author.Tests.{eq-eqb, eqb-true}
 use Rattle.lists.proofs.Cases.{not-both}
 use Rattle.happy.specs.Happy.{happySet}
 use Rattle.parties.specs.Parties.{sizes, isParty, member, entry}
-use Rattle.lamp.specs.declared.Stage.{Stage}
-use Rattle.lamp.specs.declared.Stage.the-variants.{Waiting, Dealt, Reported, Holding, Closed}
-use Rattle.lamp.specs.declared.Refusal.{Refusal}
-use Rattle.lamp.specs.declared.Refusal.the-variants.{WrongSize, WrongNumber, WrongLength, WrongStage, AlteredReport}
-use Rattle.lamp.specs.declared.Answer.{Answer}
-use Rattle.lamp.specs.declared.Answer.the-variants.{Done, Pair, Report, Refused}
-use Rattle.lamp.specs.declared.Admission.{Admission}
-use Rattle.lamp.specs.declared.Admission.the-variants.{Pass, Fail}
+use Rattle.answers.specs.declared.Stage.{Stage}
+use Rattle.answers.specs.declared.Stage.the-variants.{Waiting, Dealt, Reported, Holding, Closed}
+use Rattle.answers.specs.declared.Refusal.{Refusal}
+use Rattle.answers.specs.declared.Refusal.the-variants.{WrongSize, WrongNumber, WrongLength, WrongStage, AlteredReport}
+use Rattle.answers.specs.declared.Answer.{Answer}
+use Rattle.answers.specs.declared.Answer.the-variants.{Done, Pair, Report, Refused}
+use Rattle.answers.specs.declared.Admission.{Admission}
+use Rattle.answers.specs.declared.Admission.the-variants.{Pass, Fail}
 use Rattle.lamp.specs.declared.Lamp.{Lamp}
 use Rattle.lamp.specs.declared.Reply.{Reply}
-use Rattle.lamp.specs.Answer.{numberOf, stageNumber}
+use Rattle.answers.specs.Answer.{numberOf, stageNumber, lowest}
 use Rattle.consistency.specs.Deal.{rowOf, columnOf, reportOf}
 use Rattle.recovery.specs.Recovery.{repair}
-use Rattle.lamp.specs.Lamp.{made, reply, refuse, lowest, check, guard, isAt, withDeal, saidPair, withPairs, reportFrom, atEnd, constant, columnOfLamp, repaired, settled, opening, opened, Call, takeDeal, sayPair, hearPairs, settle, openShares, step, after}
+use Rattle.lamp.specs.Lamp.{made, reply, refuse, check, guard, isAt, withDeal, saidPair, withPairs, reportFrom, atEnd, constant, columnOfLamp, repaired, settled, opening, opened, Call, takeDeal, sayPair, hearPairs, settle, openShares, step, after}
 use Rattle.agreement.specs.Calls.{Run, toDeal, toPairs, toReports, whole, Never, isDeal, isHearing, isSettling}
 use Rattle.agreement.specs.Demand2.{Stands}
 use Rattle.agreement.specs.Demand3.{Brings, reportBy}

@@ -12,18 +12,18 @@ use borrow.Author.Tests.{eq-eqb}
 use Rattle.lists.proofs.Cases.{true-or-false}
 use Rattle.happy.specs.Happy.{happySet}
 use Rattle.parties.specs.Parties.{sizes, isParty, entry}
-use Rattle.lamp.specs.declared.Stage.{Stage}
-use Rattle.lamp.specs.declared.Stage.the-variants.{Waiting, Dealt, Reported, Holding, Closed}
-use Rattle.lamp.specs.declared.Refusal.{Refusal}
-use Rattle.lamp.specs.declared.Refusal.the-variants.{WrongLength, WrongStage, AlteredReport}
-use Rattle.lamp.specs.declared.Answer.{Answer}
-use Rattle.lamp.specs.declared.Answer.the-variants.{Done, Pair, Report, Refused}
-use Rattle.lamp.specs.declared.Admission.{Admission}
-use Rattle.lamp.specs.declared.Admission.the-variants.{Pass, Fail}
+use Rattle.answers.specs.declared.Stage.{Stage}
+use Rattle.answers.specs.declared.Stage.the-variants.{Waiting, Dealt, Reported, Holding, Closed}
+use Rattle.answers.specs.declared.Refusal.{Refusal}
+use Rattle.answers.specs.declared.Refusal.the-variants.{WrongLength, WrongStage, AlteredReport}
+use Rattle.answers.specs.declared.Answer.{Answer}
+use Rattle.answers.specs.declared.Answer.the-variants.{Done, Pair, Report, Refused}
+use Rattle.answers.specs.declared.Admission.{Admission}
+use Rattle.answers.specs.declared.Admission.the-variants.{Pass, Fail}
 use Rattle.lamp.specs.declared.Lamp.{Lamp}
 use Rattle.lamp.specs.declared.Reply.{Reply}
-use Rattle.lamp.specs.Answer.{refusalNumber}
-use Rattle.lamp.specs.Lamp.{Sized, reply, refuse, lowest, check, guard, isAt, withDeal, saidPair, withPairs, reportFrom, settled, opening, opened, Call, takeDeal, sayPair, hearPairs, settle, openShares, step, after}
+use Rattle.answers.specs.Answer.{refusalNumber, lowest}
+use Rattle.lamp.specs.Lamp.{Sized, reply, refuse, check, guard, isAt, withDeal, saidPair, withPairs, reportFrom, settled, opening, opened, Call, takeDeal, sayPair, hearPairs, settle, openShares, step, after}
 use Rattle.agreement.specs.Calls.{Never, moves}
 
 abbrev pub awaited : Lamp → Call → Bool

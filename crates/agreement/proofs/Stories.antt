@@ -27,9 +27,9 @@ use Rattle.parties.proofs.Parties.{party-facts}
 use Rattle.dealer.specs.Desk.{deal, desk, verdict, numberOf as numberOfDealing}
 use Rattle.dealer.proofs.Desk.{length-deal, desk-stretch}
 use Rattle.lamp.specs.declared.Reply.{Reply}
-use Rattle.lamp.specs.Answer.{numberOf, valuesOf}
+use Rattle.answers.specs.Answer.{numberOf, valuesOf, lowest}
 use Rattle.recovery.specs.Recovery.{repair}
-use Rattle.lamp.specs.Lamp.{settle, openShares, step, check, lowest, withDeal, withPairs, reportFrom, settled, opening, atEnd}
+use Rattle.lamp.specs.Lamp.{settle, openShares, step, check, withDeal, withPairs, reportFrom, settled, opening, atEnd}
 use Rattle.consistency.specs.Deal.{rowOf, columnOf, firstFrom, secondFrom, sound, pairFor, confirms, reportOf}
 use Rattle.agreement.specs.Calls.{whole, toReports, sinceSettling, Never, isDeal, isHearing, isSettling}
 use Rattle.agreement.specs.Demand3.{Honest, Premises, HonestDealer, AllReject, AllAccept, lampAt, answerAt, Demand3}

@@ -8,7 +8,7 @@ use Prim.Native.Nat.{ℕ}
 use Rattle.parties.specs.Parties.{sizes, isParty}
 use Rattle.lamp.specs.declared.Lamp.{Lamp}
 use Rattle.lamp.specs.declared.Reply.{Reply}
-use Rattle.lamp.specs.Answer.{numberOf, refusalNumber}
+use Rattle.answers.specs.Answer.{numberOf, refusalNumber}
 use Rattle.lamp.specs.Lamp.{Sized, made, refuse, Call, takeDeal, hearPairs, settle, step, after}
 use Rattle.agreement.specs.Calls.{Run, toDeal, toPairs, toReports, At, Never, isDeal, isHearing, isSettling, moves}
 use Rattle.agreement.specs.Demand3.{Execution, Brings, reportBy, Stray, Refuses}

@@ -21,11 +21,11 @@ use Rattle.lists.specs.Choices.{select}
 use Rattle.fit.specs.Fit.{misses}
 use Rattle.parties.specs.Parties.{sizes, isParty, pointOf, points, member, entry}
 use Rattle.dealer.specs.Desk as desks
-use Rattle.lamp.specs.declared.Stage.{Stage}
-use Rattle.lamp.specs.declared.Stage.the-variants.{Waiting, Dealt, Reported, Holding, Closed}
+use Rattle.answers.specs.declared.Stage.{Stage}
+use Rattle.answers.specs.declared.Stage.the-variants.{Waiting, Dealt, Reported, Holding, Closed}
 use Rattle.lamp.specs.declared.Lamp.{Lamp}
 use Rattle.lamp.specs.declared.Reply.{Reply}
-use Rattle.lamp.specs.Answer.{numberOf}
+use Rattle.answers.specs.Answer.{numberOf}
 use Rattle.consistency.specs.Deal.{rowOf, columnOf, firstFrom, reportOf}
 use Rattle.lamp.specs.Lamp.{Sized, rowOfLamp, columnOfLamp, constant, takeDeal, hearPairs, settle, openShares, step}
 use Rattle.agreement.specs.Demand3.{Gives, Refuses}

@@ -19,12 +19,12 @@ use Rattle.happy.specs.Happy.{happySet}
 use Rattle.lists.specs.Choices.{count}
 use Rattle.parties.specs.Parties.{sizes, isParty, parties, pointOf, member, entry}
 use Rattle.dealer.specs.Desk as desks
-use Rattle.lamp.specs.declared.Stage.{Stage}
-use Rattle.lamp.specs.declared.Stage.the-variants.{Holding, Closed}
-use Rattle.lamp.specs.declared.Answer.{Answer}
+use Rattle.answers.specs.declared.Stage.{Stage}
+use Rattle.answers.specs.declared.Stage.the-variants.{Holding, Closed}
+use Rattle.answers.specs.declared.Answer.{Answer}
 use Rattle.lamp.specs.declared.Lamp.{Lamp}
 use Rattle.lamp.specs.declared.Reply.{Reply}
-use Rattle.lamp.specs.Answer.{numberOf, valuesOf}
+use Rattle.answers.specs.Answer.{numberOf, valuesOf}
 use Rattle.consistency.specs.Deal.{rowOf, columnOf, firstFrom, secondFrom, pairFor, reportOf}
 use Rattle.lamp.specs.Lamp.{Call, takeDeal, sayPair, hearPairs, settle, openShares, made, step, after}
 use Rattle.agreement.specs.Calls.{Run, toDeal, toPairs, toReports, whole, sinceDeal, sinceSettling, At, Begins, Never, isDeal, isHearing, isSettling, moves}

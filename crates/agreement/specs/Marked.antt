@@ -12,10 +12,10 @@ use lib.ListN.{length, take, drop, replicate}
 use Rattle.lists.specs.Tabulate.{pad}
 use Rattle.parties.specs.Parties.{entry}
 use Rattle.dealer.specs.Desk as desks
-use Rattle.lamp.specs.declared.Stage.the-variants.{Reported, Holding}
+use Rattle.answers.specs.declared.Stage.the-variants.{Reported, Holding}
 use Rattle.lamp.specs.declared.Lamp.{Lamp}
 use Rattle.lamp.specs.declared.Reply.{Reply}
-use Rattle.lamp.specs.Answer.{numberOf, valuesOf, stageNumber}
+use Rattle.answers.specs.Answer.{numberOf, valuesOf, stageNumber}
 use Rattle.consistency.specs.Deal.{sound}
 use Rattle.lamp.specs.Lamp.{made, make, takeDeal, hearPairs, settle, openShares, step, after}
 

@@ -1,8 +1,8 @@
 // What a call answers and what the lamp holds after it, as a line of text on standard output.
+use answers::Answer;
+use answers::Stage;
 use dealer::Dealing;
-use lamp::Answer;
 use lamp::Lamp;
-use lamp::Stage;
 use libc::STDOUT_FILENO;
 
 fn word(letters: &[u8]) {
@@ -37,7 +37,7 @@ pub(crate) fn answer(answer: Answer) {
             word(b"ok");
             number(secret);
         }
-        Answer::Refused(why) => refused(lamp::refusal_number(why) as u16),
+        Answer::Refused(why) => refused(answers::refusal_number(why) as u16),
     }
 }
 

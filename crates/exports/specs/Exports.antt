@@ -15,8 +15,8 @@ use Rattle.field.specs.Modulus.{modulus}
 use Rattle.fit.specs.Fit.{fit}
 use Rattle.parties.specs.Parties.{sizes, points}
 use Rattle.dealer.specs.Desk.{numberOf, desk}
-use Rattle.lamp.specs.declared.Refusal.the-variants.{WrongSize, WrongLength, NoColumn, NoOpening}
-use Rattle.lamp.specs.Answer.{refusalNumber}
+use Rattle.answers.specs.declared.Refusal.the-variants.{WrongSize, WrongLength, NoColumn, NoOpening}
+use Rattle.answers.specs.Answer.{refusalNumber}
 use Rattle.lamp.specs.Lamp.{constant}
 use Rattle.transcript.specs.Lines.{orZero}
 

@@ -10,12 +10,12 @@ use lib.Dec.{eqb}
 use lib.ListN.{length}
 use Rattle.happy.specs.Happy.{happySet}
 use Rattle.parties.specs.Parties.{isParty, entry}
-use Rattle.lamp.specs.declared.Stage.the-variants.{Waiting, Dealt, Reported, Holding}
-use Rattle.lamp.specs.declared.Refusal.{Refusal}
-use Rattle.lamp.specs.declared.Refusal.the-variants.{AlteredReport}
-use Rattle.lamp.specs.declared.Answer.the-variants.{Done, Pair, Report}
-use Rattle.lamp.specs.declared.Admission.{Admission}
-use Rattle.lamp.specs.declared.Admission.the-variants.{Pass, Fail}
+use Rattle.answers.specs.declared.Stage.the-variants.{Waiting, Dealt, Reported, Holding}
+use Rattle.answers.specs.declared.Refusal.{Refusal}
+use Rattle.answers.specs.declared.Refusal.the-variants.{AlteredReport}
+use Rattle.answers.specs.declared.Answer.the-variants.{Done, Pair, Report}
+use Rattle.answers.specs.declared.Admission.{Admission}
+use Rattle.answers.specs.declared.Admission.the-variants.{Pass, Fail}
 use Rattle.lamp.specs.declared.Lamp.{Lamp}
 use Rattle.lamp.specs.declared.Reply.{Reply}
 use Rattle.lamp.specs.Lamp.{reply, refuse, check, isAt, withDeal, saidPair, reportFrom, withPairs, settled, opening, opened, Call, takeDeal, sayPair, hearPairs, settle, openShares, step}

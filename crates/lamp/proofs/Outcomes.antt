@@ -14,9 +14,9 @@ use Rattle.fit.specs.declared.Fitted.{Fitted}
 use Rattle.fit.specs.Answer.{answer}
 use Rattle.parties.specs.Parties.{member}
 use Rattle.recovery.specs.Recovery.{repair}
-use Rattle.lamp.specs.declared.Stage.the-variants.{Holding, Closed}
-use Rattle.lamp.specs.declared.Refusal.the-variants.{DealerRejected, NoColumn, NoOpening}
-use Rattle.lamp.specs.declared.Answer.the-variants.{Accepted, Opened, Refused}
+use Rattle.answers.specs.declared.Stage.the-variants.{Holding, Closed}
+use Rattle.answers.specs.declared.Refusal.the-variants.{DealerRejected, NoColumn, NoOpening}
+use Rattle.answers.specs.declared.Answer.the-variants.{Accepted, Opened, Refused}
 use Rattle.lamp.specs.declared.Lamp.{Lamp}
 use Rattle.lamp.specs.Lamp.{reply, refuse, atEnd, repaired, settled, opened}
 

@@ -1,7 +1,6 @@
 -- The lamp (document 01): one party's state and its calls, refused or not, at every state.
 --   made n t i        the lamp as made
 --   Sized l           its size and number are within document 01's
---   lowest            the lowest of the refusals 1 to 4 that applies
 --   settled p l S     what settling with the happy set S gives
 --   Call, step p l c  a call, and the lamp and answer that it gives back
 --   after p l cs      the lamp after a list of calls
@@ -19,17 +18,17 @@ use Rattle.happy.specs.Happy.{happySet}
 use Rattle.parties.specs.Parties.{sizes, isParty, member, entry}
 use Rattle.consistency.specs.Deal.{rowOf, columnOf, firstFrom, pairFor, reportOf}
 use Rattle.recovery.specs.Recovery.{repair, openingWith}
-use Rattle.lamp.specs.declared.Stage.{Stage}
-use Rattle.lamp.specs.declared.Stage.the-variants.{Waiting, Dealt, Reported, Holding, Closed}
-use Rattle.lamp.specs.declared.Refusal.{Refusal}
-use Rattle.lamp.specs.declared.Refusal.the-variants.{WrongSize, WrongNumber, WrongLength, WrongStage, AlteredReport, DealerRejected, NoColumn, NoOpening}
-use Rattle.lamp.specs.declared.Answer.{Answer}
-use Rattle.lamp.specs.declared.Answer.the-variants.{Done, Pair, Report, Accepted, Opened, Refused}
-use Rattle.lamp.specs.declared.Admission.{Admission}
-use Rattle.lamp.specs.declared.Admission.the-variants.{Pass, Fail}
+use Rattle.answers.specs.declared.Stage.{Stage}
+use Rattle.answers.specs.declared.Stage.the-variants.{Waiting, Dealt, Reported, Holding, Closed}
+use Rattle.answers.specs.declared.Refusal.{Refusal}
+use Rattle.answers.specs.declared.Refusal.the-variants.{WrongSize, WrongNumber, WrongLength, WrongStage, AlteredReport, DealerRejected, NoColumn, NoOpening}
+use Rattle.answers.specs.declared.Answer.{Answer}
+use Rattle.answers.specs.declared.Answer.the-variants.{Done, Pair, Report, Accepted, Opened, Refused}
+use Rattle.answers.specs.declared.Admission.{Admission}
+use Rattle.answers.specs.declared.Admission.the-variants.{Pass, Fail}
 use Rattle.lamp.specs.declared.Lamp.{Lamp}
 use Rattle.lamp.specs.declared.Reply.{Reply}
-use Rattle.lamp.specs.Answer.{stageNumber}
+use Rattle.answers.specs.Answer.{stageNumber, lowest}
 
 -- The lamp as made for n, t and its number.
 abbrev pub made : ℕ → ℕ → ℕ → Lamp
@@ -59,11 +58,6 @@ reply l a = record { lamp = l; answer = a }
 -- A refusal that leaves the lamp as it is.
 abbrev pub refuse : Lamp → Refusal → Reply
 refuse l why = reply l (Refused why)
-
--- "The lowest number that applies": 1 for the size, 2 for a number, 3 for a list's length, 4 for the stage.
-unfoldable pub lowest : Bool → Bool → Bool → Bool → Admission
-lowest size number list stage =
-    cond size (cond number (cond list (cond stage Pass (Fail WrongStage)) (Fail WrongLength)) (Fail WrongNumber)) (Fail WrongSize)
 
 -- The check of a call at the lamp l, with what the call says of numbers, of its list and of the stage.
 unfoldable pub check : Lamp → Bool → Bool → Bool → Admission

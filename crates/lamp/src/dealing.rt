@@ -6,9 +6,9 @@ ghost use Rattle.lists.specs.Tabulate.{pad};
 ghost use Rattle.field.specs.Modulus.{modulus};
 ghost use Rattle.consistency.specs.Deal.{pairFor};
 ghost use Rattle.lamp.specs.Lamp.{withDeal};
-use crate::Answer;
 use crate::Lamp;
-use crate::Stage;
+use answers::Answer;
+use answers::Stage;
 
 // `count` numbers of the list from the place `from` on, with zeros behind them.
 pub(crate) fn copied(list: &[u16], from: usize, count: usize) -> [u16; 4]

@@ -6,48 +6,18 @@ mod settling;
 
 ghost use mathlib.Core.Path.{_≡_};
 ghost use Rattle.field.specs.Modulus.{modulus};
-ghost use Rattle.lamp.specs.Answer.{refusalNumber, stageNumber};
-ghost use Rattle.lamp.specs.Lamp.{make, refuse, lowest, check, step, takeDeal, sayPair, hearPairs, settle, openShares};
+ghost use Rattle.lamp.specs.Lamp.{make, refuse, check, step, takeDeal, sayPair, hearPairs, settle, openShares};
+use answers::Admission;
+use answers::Answer;
+use answers::Refusal;
+use answers::Stage;
+use answers::lowest;
+use answers::stage_number;
 use dealing::said_pair;
 use dealing::with_deal;
 use opening::opened;
 use reporting::heard;
 use settling::settled;
-
-pub enum Stage {
-    Waiting,
-    Dealt,
-    Reported,
-    Holding,
-    Closed,
-}
-
-// Why a call is refused; document 01's number of each is `refusalNumber` in the definitions.
-pub enum Refusal {
-    WrongSize,
-    WrongNumber,
-    WrongLength,
-    WrongStage,
-    AlteredReport,
-    DealerRejected,
-    NoColumn,
-    NoOpening,
-}
-
-pub enum Answer {
-    Done,
-    Pair(u16, u16),
-    Report(u16),
-    Accepted,
-    Opened(u16),
-    Refused(Refusal),
-}
-
-// Whether a call is admitted.
-pub enum Admission {
-    Pass,
-    Fail(Refusal),
-}
 
 // Row and column as dealt, with zeros behind them; the first number heard from each party; the report given out.
 pub struct Lamp {
@@ -66,54 +36,6 @@ pub struct Lamp {
 pub struct Reply {
     pub lamp: Lamp,
     pub answer: Answer,
-}
-
-// Document 01's number of a refusal.
-pub fn refusal_number(why: Refusal) -> u8
-    ensures { λ r. ⌜ r ≡ refusalNumber why ⌝ }
-{
-    match why {
-        Refusal::WrongSize => 1,
-        Refusal::WrongNumber => 2,
-        Refusal::WrongLength => 3,
-        Refusal::WrongStage => 4,
-        Refusal::AlteredReport => 7,
-        Refusal::DealerRejected => 8,
-        Refusal::NoColumn => 9,
-        Refusal::NoOpening => 10,
-    }
-}
-
-// The stages in order, from 0.
-fn stage_number(stage: Stage) -> u8
-    ensures { λ r. ⌜ r ≡ stageNumber stage ⌝ }
-{
-    match stage {
-        Stage::Waiting => 0,
-        Stage::Dealt => 1,
-        Stage::Reported => 2,
-        Stage::Holding => 3,
-        Stage::Closed => 4,
-    }
-}
-
-// The refusal of the lowest number that applies, if one does.
-fn lowest(size: bool, number: bool, list: bool, stage: bool) -> Admission
-    ensures { λ r. ⌜ r ≡ lowest size number list stage ⌝ }
-{
-    if !size {
-        return Admission::Fail(Refusal::WrongSize);
-    }
-    if !number {
-        return Admission::Fail(Refusal::WrongNumber);
-    }
-    if !list {
-        return Admission::Fail(Refusal::WrongLength);
-    }
-    if !stage {
-        return Admission::Fail(Refusal::WrongStage);
-    }
-    Admission::Pass
 }
 
 // What is wrong with a call, the lamp's own size and number included.

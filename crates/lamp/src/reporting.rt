@@ -6,10 +6,10 @@ ghost use Rattle.lists.specs.Tabulate.{pad};
 ghost use Rattle.field.specs.Modulus.{modulus};
 ghost use Rattle.consistency.specs.Deal.{reportOf};
 ghost use Rattle.lamp.specs.Lamp.{firsts, reply, reportFrom, withPairs};
-use crate::Answer;
 use crate::Lamp;
 use crate::Reply;
-use crate::Stage;
+use answers::Answer;
+use answers::Stage;
 
 // The report on n pairs from arrays, whose first t + 1 numbers are the row and the column.
 pub(crate) fn given_report(

@@ -4,11 +4,11 @@ ghost use Prim.Native.Nat.{_≤_};
 ghost use Rattle.field.specs.Modulus.{modulus};
 ghost use Rattle.parties.specs.Parties.{member};
 ghost use Rattle.lamp.specs.Lamp.{atEnd, settled, Sized};
-use crate::Answer;
 use crate::Lamp;
-use crate::Refusal;
 use crate::Reply;
-use crate::Stage;
+use answers::Answer;
+use answers::Refusal;
+use answers::Stage;
 
 pub(crate) fn at_end(lamp: Lamp, stage: Stage, happy: u16, share: u16) -> Lamp
     ensures { λ r. ⌜ r ≡ atEnd lamp stage happy share ⌝ }

@@ -20,11 +20,11 @@ use Rattle.fit.specs.Fit.{fit}
 use Rattle.parties.specs.Parties.{points, member, entry}
 use Rattle.parties.proofs.Parties.{party-true}
 use Rattle.dealer.specs.Desk.{stretch}
-use Rattle.lamp.specs.declared.Refusal.the-variants.{AlteredReport}
-use Rattle.lamp.specs.declared.Answer.the-variants.{Done}
+use Rattle.answers.specs.declared.Refusal.the-variants.{AlteredReport}
+use Rattle.answers.specs.declared.Answer.the-variants.{Done}
 use Rattle.lamp.specs.declared.Lamp.{Lamp}
 use Rattle.lamp.specs.declared.Reply.{Reply}
-use Rattle.lamp.specs.Answer.{numberOf}
+use Rattle.answers.specs.Answer.{numberOf}
 use Rattle.consistency.specs.Deal.{rowOf, columnOf, firstFrom, reportOf}
 use Rattle.recovery.specs.Recovery.{repair}
 use Rattle.lamp.specs.Lamp.{Sized, made, reply, columnOfLamp, withDeal, firsts, withPairs, reportFrom, constant, repaired, refuse, atEnd, settled, takeDeal, hearPairs, settle, step}

@@ -20,7 +20,8 @@ use Rattle.parties.specs.Parties.{sizes, isParty, pointOf, entry, notSent}
 use Rattle.parties.proofs.Parties.{party-facts}
 use Rattle.consistency.specs.Deal.{firstFrom, secondFrom, sound, pairFor, confirms, reportOf}
 use Rattle.recovery.specs.Recovery.{repair}
-use Rattle.lamp.specs.Lamp.{lowest, check, withDeal, reportFrom, withPairs, atEnd, settled, step}
+use Rattle.answers.specs.Answer.{lowest}
+use Rattle.lamp.specs.Lamp.{check, withDeal, reportFrom, withPairs, atEnd, settled, step}
 use Rattle.record.specs.declared.Reading.the-variants.{Fine}
 use Rattle.record.specs.Bytes.{numbers, bytesOf, standAt}
 use Rattle.record.specs.Record.{directory, directoryRight, reading, sectionOf, recordOf}

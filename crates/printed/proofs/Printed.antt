@@ -15,7 +15,7 @@ use Rattle.bivariate.proofs.Terms.{row-at}
 use Rattle.lists.proofs.Cases.{true-or-false}
 use Rattle.parties.specs.Parties.{pointOf}
 use Rattle.parties.proofs.Parties.{party-facts}
-use Rattle.lamp.specs.Answer.{numberOf}
+use Rattle.answers.specs.Answer.{numberOf}
 use Rattle.record.specs.Record.{nOf, tOf, reading}
 use Rattle.record.specs.declared.Reading.the-variants.{Fine}
 use Rattle.transcript.specs.Letters.{letters, field, line}

@@ -15,12 +15,12 @@ use Rattle.fit.specs.declared.Fitted.{Fitted}
 use Rattle.fit.specs.Fit.{fit}
 use Rattle.fit.specs.Answer.{answer}
 use Rattle.parties.specs.Parties.{points}
-use Rattle.lamp.specs.declared.Refusal.{Refusal}
-use Rattle.lamp.specs.declared.Refusal.the-variants.{WrongSize, WrongNumber, WrongLength, WrongStage, AlteredReport, DealerRejected, NoColumn, NoOpening}
-use Rattle.lamp.specs.declared.Answer.{Answer}
-use Rattle.lamp.specs.declared.Answer.the-variants.{Done, Pair, Report, Accepted, Opened, Refused}
+use Rattle.answers.specs.declared.Refusal.{Refusal}
+use Rattle.answers.specs.declared.Refusal.the-variants.{WrongSize, WrongNumber, WrongLength, WrongStage, AlteredReport, DealerRejected, NoColumn, NoOpening}
+use Rattle.answers.specs.declared.Answer.{Answer}
+use Rattle.answers.specs.declared.Answer.the-variants.{Done, Pair, Report, Accepted, Opened, Refused}
 use Rattle.lamp.specs.declared.Reply.{Reply}
-use Rattle.lamp.specs.Answer.{refusalNumber, numberOf}
+use Rattle.answers.specs.Answer.{refusalNumber, numberOf}
 use Rattle.transcript.specs.Letters.{letters, field, line}
 use Rattle.transcript.specs.Lines.{name, names, happyLine, verdictLines, outcome, lampLine, orZero, openedLine, lastLine}
 

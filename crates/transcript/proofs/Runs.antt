@@ -10,9 +10,9 @@ use lib.ListN.{length, take, drop, length-drop}
 use lib.Seq.{take-all, length-take-le}
 use Rattle.parties.specs.Parties.{sizes}
 use Rattle.parties.proofs.Parties.{sizes-facts}
-use Rattle.lamp.specs.declared.Admission.{Admission}
-use Rattle.lamp.specs.declared.Admission.the-variants.{Pass, Fail}
-use Rattle.lamp.specs.declared.Answer.the-variants.{Done}
+use Rattle.answers.specs.declared.Admission.{Admission}
+use Rattle.answers.specs.declared.Admission.the-variants.{Pass, Fail}
+use Rattle.answers.specs.declared.Answer.the-variants.{Done}
 use Rattle.lamp.specs.Lamp.{made, make, check, guard, reply}
 use Rattle.record.specs.Record.{sectionLength, sectionOf}
 use Rattle.record.specs.Bytes.{numbers, over}

@@ -14,9 +14,9 @@ use Rattle.lists.specs.Masks.{bit}
 use Rattle.field.specs.Modulus.{modulus}
 use Rattle.fit.specs.Fit.{fit}
 use Rattle.parties.specs.Parties.{points}
-use Rattle.lamp.specs.declared.Refusal.the-variants.{DealerRejected, NoOpening}
+use Rattle.answers.specs.declared.Refusal.the-variants.{DealerRejected, NoOpening}
 use Rattle.lamp.specs.declared.Reply.{Reply}
-use Rattle.lamp.specs.Answer.{refusalNumber, numberOf}
+use Rattle.answers.specs.Answer.{refusalNumber, numberOf}
 use Rattle.lamp.specs.Lamp.{constant}
 use Rattle.transcript.specs.Letters.{letters, field, line}
 

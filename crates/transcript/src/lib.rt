@@ -8,7 +8,7 @@ ghost use Rattle.field.specs.Modulus.{modulus};
 ghost use Rattle.happy.specs.Happy.{happySet};
 ghost use Rattle.parties.specs.Parties.{sizes, points};
 ghost use Rattle.record.specs.Record.{nOf, tOf, reading, numberOf as readingNumber};
-ghost use Rattle.lamp.specs.Answer.{numberOf};
+ghost use Rattle.answers.specs.Answer.{numberOf};
 ghost use Rattle.lamp.specs.Lamp.{made, after};
 ghost use Rattle.transcript.specs.Letters.{Added};
 ghost use Rattle.transcript.specs.Lines.{sizeLine, isAccepted, name, names, verdictLines, lampLine, orZero, lastLine};
@@ -19,7 +19,7 @@ mod pieces;
 use crate::pieces::put;
 use crate::pieces::put_field;
 use crate::pieces::put_line;
-use lamp::Answer;
+use answers::Answer;
 use lamp::Lamp;
 use lamp::Reply;
 use record::Reading;
@@ -94,7 +94,7 @@ fn number_of(answer: Answer) -> u8
         Answer::Report(bits) => 0,
         Answer::Accepted => 0,
         Answer::Opened(secret) => 0,
-        Answer::Refused(why) => lamp::refusal_number(why),
+        Answer::Refused(why) => answers::refusal_number(why),
     }
 }
 

@@ -1,7 +1,7 @@
 // The lamps of a run. Each is made anew and brought to the stage that is asked for: what it does depends on its number and on the messages it is given alone.
 ghost use Prim.Native.Nat.{_≤_};
 use crate::text;
-use lamp::Answer;
+use answers::Answer;
 use lamp::Lamp;
 use lamp::Reply;
 

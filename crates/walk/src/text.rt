@@ -1,6 +1,6 @@
 // What the desk and the lamps answer, as lines of text on standard output.
+use answers::Answer;
 use dealer::Dealing;
-use lamp::Answer;
 use lamp::Lamp;
 use lamp::Reply;
 use libc::STDOUT_FILENO;
@@ -61,7 +61,7 @@ pub(crate) fn answer(i: u8, reply: Reply) {
             word(b" opened");
             number(secret);
         }
-        Answer::Refused(why) => refused(lamp::refusal_number(why) as u16),
+        Answer::Refused(why) => refused(answers::refusal_number(why) as u16),
     }
     word(b"\n");
 }

@@ -8,7 +8,7 @@ use lib.ListN.{length}
 use Rattle.field.specs.Modulus.{modulus}
 use Rattle.lamp.proofs.Checks.{sized-facts, passed}
 use Prim.Native.Nat.{_≤_}
-use Rattle.lamp.specs.declared.Admission.the-variants.{Pass}
+use Rattle.answers.specs.declared.Admission.the-variants.{Pass}
 use Rattle.lamp.specs.Lamp.{check, settle}
 use Rattle.lamp.proofs.Calls.{admission, step-refused, step-admitted, settle-altered, settle-found}
 use borrow.Author.Needs.{needs}

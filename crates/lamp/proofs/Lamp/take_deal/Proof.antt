@@ -8,7 +8,7 @@ use borrow.Author.Tests.{eqb-true}
 use lib.Dec.{eqb}
 use lib.ListN.{length}
 use Rattle.field.specs.Modulus.{modulus}
-use Rattle.lamp.specs.declared.Answer.the-variants.{Done}
+use Rattle.answers.specs.declared.Answer.the-variants.{Done}
 use Rattle.lamp.proofs.Checks.{sized-facts, passed}
 use Rattle.lamp.specs.Lamp.{reply, check, takeDeal}
 use Rattle.lamp.proofs.Calls.{admission, step-refused, step-admitted}

@@ -1,8 +1,8 @@
--- `lamp::lowest` meets its contract: the first test that fails settles the answer.
+-- `answers::lowest` meets its contract: the first test that fails settles the answer.
 use borrow.Author.Tests.{not-true, not-false}
-use Rattle.lamp.specs.Lamp.{lowest}
-use Rattle.lamp.proofs.lowest.Statement.{statement}
-use Rattle.lamp.proofs.lowest.Tie as tie
+use Rattle.answers.specs.Answer.{lowest}
+use Rattle.answers.proofs.lowest.Statement.{statement}
+use Rattle.answers.proofs.lowest.Tie as tie
 
 returns : tie.Need-returns
 unfolding lowest
