@@ -67,11 +67,13 @@ pub fn value(f: &[u16], x: u16) -> u16
     v
 }
 
-// a + b x + c x² + d x³: Horner's rule for four coefficients, without a loop.
+// a + b x + c x² + d x³: Horner's rule for four coefficients, without a loop and by one reduction. Products of four numbers of 16
+// bits, and what is added to them, still fit 64.
 pub fn cubic(a: u16, b: u16, c: u16, d: u16, x: u16) -> u16
     ensures { λ r. ⌜ r ≡ value modulus (a ∷ b ∷ c ∷ d ∷ []) x ⌝ }
 {
-    let high = field::mul_add(x, d, c);
-    let middle = field::mul_add(x, high, b);
-    field::mul_add(x, middle, a)
+    let by = x as u64;
+    let high = by * d as u64 + c as u64;
+    let middle = by * high + b as u64;
+    ((by * middle + a as u64) % field::MODULUS as u64) as u16
 }

@@ -1,28 +1,85 @@
--- `polynomial::cubic` meets its contract: each step is one of Horner's.
-use mathlib.Core.Path.{ap, _∙_}
+-- `polynomial::cubic` meets its contract: each step is one of Horner's, reduced or not, and no step leaves 64 bits.
+use mathlib.Core.Path.{_≡_, refl, sym, ap, _∙_}
+use Prim.Native.Nat.{ℕ, _+_, _*_, _%_, _≤_}
+use native.Mathlib.Nat.{mul-le-mul, add-mod-mod}
+use native.Mathlib.Omega.{arith}
 use Rattle.field.specs.Arithmetic.{add, mul}
 use Rattle.field.specs.Modulus.{modulus}
+use Rattle.field.proofs.Ring.{add-residue}
+use Rattle.field.proofs.Remainders.{mul-mod-mod}
 use Rattle.polynomial.proofs.Division.{value-cubic}
 use borrow.Author.Needs.{needs}
 use Rattle.polynomial.proofs.cubic.Statement.{statement}
 use Rattle.polynomial.proofs.cubic.Tie as tie
 
-mul-add-requires : tie.Need-mul-add-requires
-mul-add-requires c κs = search needs
+-- A step of Horner's rule whose value so far is not reduced.
+step : (p x w v c : ℕ) → w % p ≡ v % p → (x * w + c) % p ≡ add p c (mul p x v)
+unfolding add mul
+step p x w v c e =
+    ap (λ (n : ℕ). n % p) (omega arith)
+    ∙ sym (add-mod-mod c (x * w) p)
+    ∙ ap (λ (n : ℕ). (c + n) % p) (sym (mul-mod-mod x w p) ∙ ap (λ (n : ℕ). x * n % p) e ∙ mul-mod-mod x v p)
 
-mul-add-requires-2 : tie.Need-mul-add-requires-2
-mul-add-requires-2 c κs = search needs
+steps : (p a b c d x : ℕ) → (x * (x * (x * d + c) + b) + a) % p ≡ add p a (mul p x (add p b (mul p x (add p c (mul p x d)))))
+steps p a b c d x =
+    let again : (w v : ℕ) (k : ℕ) → w % p ≡ v % p → (x * w + k) % p ≡ add p k (mul p x v) % p =
+    λ w v k e. step p x w v k e ∙ sym (add-residue p k (mul p x v)) in
+    step p x _ _ a (again _ _ b (again d d c refl))
 
-mul-add-requires-3 : tie.Need-mul-add-requires-3
-mul-add-requires-3 c κs = search needs
+-- How large a step's number gets: three steps from 16 bits stay in 64.
+next-le : (x w c m : ℕ) → x ≤ 65535 → c ≤ 65535 → w ≤ m → x * w + c ≤ 65535 * m + 65535
+next-le x w c m hx hc hw = omega (arith, mul-le-mul {n₁ = x} {m₁ = w} {n₂ = 65535} {m₂ = m} hx hw)
+
+high-le : (s : tie.Start) → let a = s .args in a .x * a .d + a .c ≤ 4294901760
+high-le s = next-le _ _ _ 65535 (omega arith) (omega arith) (omega arith)
+
+middle-le : (s : tie.Start) → let a = s .args in a .x * (a .x * a .d + a .c) + a .b ≤ 281466386907135
+middle-le s = next-le _ _ _ 4294901760 (omega arith) (omega arith) (high-le s)
+
+all-le : (s : tie.Start) → let a = s .args in a .x * (a .x * (a .x * a .d + a .c) + a .b) + a .a ≤ 18445899665959157760
+all-le s = next-le _ _ _ 281466386907135 (omega arith) (omega arith) (middle-le s)
+
+mul-high : tie.Need-mul-high
+mul-high c = omega (arith, high-le c)
+
+add-high : tie.Need-add-high
+add-high c = omega (arith, high-le c)
+
+mul-middle : tie.Need-mul-middle
+mul-middle c = omega (arith, middle-le c)
+
+add-middle : tie.Need-add-middle
+add-middle c = omega (arith, middle-le c)
+
+mul-result : tie.Need-mul-result
+mul-result c = omega (arith, all-le c)
+
+add-result : tie.Need-add-result
+add-result c = omega (arith, all-le c)
+
+cast-result : tie.Need-cast-result
+cast-result c = search needs
+
+rem-result : tie.Need-rem-result
+rem-result c = search needs
+
+cast-result-2 : tie.Need-cast-result-2
+cast-result-2 c = search needs
 
 returns : tie.Need-returns
-returns c =
-    let s = c .before .before .before .args in
-    c .mul-add3 .ensures
-    ∙ ap (λ v. add modulus (s .a) (mul modulus (s .x) v)) (c .before .mul-add2 .ensures)
-    ∙ ap (λ v. add modulus (s .a) (mul modulus (s .x) (add modulus (s .b) (mul modulus (s .x) v)))) (c .before .before .mul-add .ensures)
-    ∙ value-cubic modulus (s .a) (s .b) (s .c) (s .d) (s .x)
+returns c = let s = c .args in steps modulus (s .a) (s .b) (s .c) (s .d) (s .x) ∙ value-cubic modulus (s .a) (s .b) (s .c) (s .d) (s .x)
 
 pub cubic-spec : {M : Type 1} → statement M
-cubic-spec = tie.close (tie.spec mul-add-requires mul-add-requires-2 mul-add-requires-3 returns)
+cubic-spec =
+    tie.close
+    (tie.spec
+    mul-high
+    add-high
+    mul-middle
+    add-middle
+    mul-result
+    add-result
+    cast-result
+    rem-result
+    cast-result-2
+    returns)
