@@ -26,6 +26,18 @@ fn nothing() -> Fitted
     }
 }
 
+// The same, written anew. A call's answer that is returned as it is would be copied as a block that cuts across its two parts, and the
+// processor waits until both are in memory.
+fn copied(f: Fitted) -> Fitted
+    ensures { λ r. ⌜ r ≡ f ⌝ }
+{
+    let g = f.coefficients;
+    Fitted {
+        found: f.found,
+        coefficients: g,
+    }
+}
+
 // Whether at least `need` of the points agree with a + b X + c X² + d X³. The loop goes from the end, and stops as soon as too many
 // have differed: with a wrong polynomial that is soon.
 fn enough(a: u16, b: u16, c: u16, d: u16, xs: &[u16], ys: &[u16], need: usize) -> bool
@@ -138,17 +150,17 @@ fn search(
     ensures { λ r. ⌜ r ≡ answer (found modulus need (now (xs .entry)) (now (ys .entry)) more spare (take c cx) (take c cy) i) ⌝ }
 {
     if spare == 0 {
-        return straight(xs, ys, need, i, more, c, cx, cy);
+        return copied(straight(xs, ys, need, i, more, c, cx, cy));
     }
     if more == 0 {
-        return straight(xs, ys, need, i, 0, c, cx, cy);
+        return copied(straight(xs, ys, need, i, 0, c, cx, cy));
     }
     if xs.len() <= i {
         return nothing();
     }
     let y = ys[i];
     if field::MODULUS <= y {
-        return search(xs, ys, need, i + 1, more, spare, c, cx, cy);
+        return copied(search(xs, ys, need, i + 1, more, spare, c, cx, cy));
     }
     let mut dx = cx;
     let mut dy = cy;
@@ -156,13 +168,9 @@ fn search(
     dy[c] = y;
     let with_it = search(xs, ys, need, i + 1, more - 1, spare, c + 1, dx, dy);
     if with_it.found {
-        let g = with_it.coefficients;
-        return Fitted {
-            found: with_it.found,
-            coefficients: g,
-        };
+        return copied(with_it);
     }
-    search(xs, ys, need, i + 1, more, spare - 1, c, cx, cy)
+    copied(search(xs, ys, need, i + 1, more, spare - 1, c, cx, cy))
 }
 
 // The place behind the next k values sent from place i on.
@@ -200,17 +208,13 @@ fn groups(t: usize, need: usize, xs: &[u16], ys: &[u16], sent: usize, spare: usi
         wrong -= 1;
         let group = straight(xs, ys, need, i, t + 1, 0, [0; 4], [0; 4]);
         if group.found {
-            let g = group.coefficients;
-            return Fitted {
-                found: group.found,
-                coefficients: g,
-            };
+            return copied(group);
         }
         if wrong == 0 {
             return nothing();
         }
     }
-    search(xs, ys, need, i, t + 1, wrong, 0, [0; 4], [0; 4])
+    copied(search(xs, ys, need, i, t + 1, wrong, 0, [0; 4], [0; 4]))
 }
 
 // The polynomial of degree at most t that agrees with at least `need` of the points (xs[i], ys[i]), if one is found.
@@ -227,11 +231,7 @@ pub fn fit(t: usize, need: usize, xs: &[u16], ys: &[u16]) -> Fitted
     }
     let first = straight(xs, ys, need, 0, t + 1, 0, [0; 4], [0; 4]);
     if first.found {
-        let g = first.coefficients;
-        return Fitted {
-            found: first.found,
-            coefficients: g,
-        };
+        return copied(first);
     }
     let n = sent(ys);
     if n <= need {
@@ -240,8 +240,8 @@ pub fn fit(t: usize, need: usize, xs: &[u16], ys: &[u16]) -> Fitted
     let spare = n - need;
     if spare + t < need {
         if polynomial::points(xs) {
-            return groups(t, need, xs, ys, n, spare);
+            return copied(groups(t, need, xs, ys, n, spare));
         }
     }
-    search(xs, ys, need, 0, t + 1, spare, 0, [0; 4], [0; 4])
+    copied(search(xs, ys, need, 0, t + 1, spare, 0, [0; 4], [0; 4]))
 }

@@ -13,6 +13,7 @@ use borrow.Fn.PlainCycle.{Measures, is, falls, and}
 use Rattle.fit.proofs.search.Reads as search′
 use Rattle.fit.proofs.search.Kinds as search-kinds
 use Rattle.fit.proofs.+search.Lts-search as search-lts
+use Rattle.fit.proofs.copied.Reads as copied-reads
 use Rattle.fit.proofs.nothing.Reads as nothing-reads
 use Rattle.fit.proofs.straight.Reads as straight-reads
 use Rattle.fit.proofs.+search.{statement}
@@ -30,7 +31,7 @@ search-below t = and 2 search-kinds.ps (falls 2 search-kinds.ps _<_ μ-search t)
 -- What the callees are known by.
 abbrev claims : ℕ → search-lts.Claims
 claims t =
-    (straight-reads.Asked, straight-reads.Learnt, nothing-reads.Asked, nothing-reads.Learnt, search-below t, search′.Post)
+    (straight-reads.Asked, straight-reads.Learnt, copied-reads.Asked, copied-reads.Learnt, nothing-reads.Asked, nothing-reads.Learnt, search-below t, search′.Post)
 
 -- The arrays hold four numbers each.
 sizes : (t : ℕ) (s : search-lts.Start (claims t) (search-at t) search′.Post) → (length (s .args .cx) ≡ 4) × (length (s .args .cy) ≡ 4)
@@ -53,23 +54,31 @@ module _ (t : ℕ) where
   straight-requires : search-lts.Need-straight-requires (claims t) (search-at t) search′.Post
   straight-requires c κs = c .before .before .before .pre .1
 
+  copied-requires : search-lts.Need-copied-requires (claims t) (search-at t) search′.Post
+  copied-requires c κs = search needs
+
   returns : search-lts.Need-returns (claims t) (search-at t) search′.Post
   returns c =
-      let s = c .before .before .before .before .args in
-      c .straight .ensures
+      let s = c .before .before .before .before .before .args in
+      c .copied .ensures
+      ∙ c .before .straight .ensures
       ∙ ap (λ n. answer (found modulus (s .need) (s .xs .now) (s .ys .now) (s .more) n (take (s .c) (s .cx)) (take (s .c) (s .cy)) (s .i)))
-      (sym (c .before .if1 .taken))
+      (sym (c .before .before .if1 .taken))
 
   straight-requires-2 : search-lts.Need-straight-requires-2 (claims t) (search-at t) search′.Post
   straight-requires-2 c κs =
       let k = c .before .before .before .before .pre .1 in
       record { sizes = k .sizes; inside = k .inside; room = omega (arith, k .room); zeros = k .zeros }
 
+  copied-requires-2 : search-lts.Need-copied-requires-2 (claims t) (search-at t) search′.Post
+  copied-requires-2 c κs = search needs
+
   returns-2 : search-lts.Need-returns-2 (claims t) (search-at t) search′.Post
   returns-2 c =
-      let s = c .before .before .before .before .before .args in
-      c .straight2 .ensures
-      ∙ ap answer (sym (found-one modulus _ _ _ 0 0 _ _ (s .i) refl) ∙ found-one modulus _ _ _ _ _ _ _ (s .i) (c .before .if2 .taken))
+      let s = c .before .before .before .before .before .before .args in
+      c .copied2 .ensures
+      ∙ c .before .straight2 .ensures
+      ∙ ap answer (sym (found-one modulus _ _ _ 0 0 _ _ (s .i) refl) ∙ found-one modulus _ _ _ _ _ _ _ (s .i) (c .before .before .if2 .taken))
 
   nothing-requires : search-lts.Need-nothing-requires (claims t) (search-at t) search′.Post
   nothing-requires c κs = search needs
@@ -93,10 +102,15 @@ module _ (t : ℕ) where
       let s = c .before .before .before .before .before .before .before in
       (omega arith, record { sizes = s .pre .1 .sizes; inside = omega arith; room = omega arith; zeros = s .pre .1 .zeros })
 
+  copied-requires-3 : search-lts.Need-copied-requires-3 (claims t) (search-at t) search′.Post
+  copied-requires-3 c κs = search needs
+
   returns-4 : search-lts.Need-returns-4 (claims t) (search-at t) search′.Post
   returns-4 c =
-      let s = c .before .before .before .before .before .before .before .before in
-      c .search .ensures ∙ ap answer (found-unsent modulus _ _ _ (omega arith) (s .args .i) (omega arith) _ _ _ _ (c .before .if4 .taken))
+      let s = c .before .before .before .before .before .before .before .before .before in
+      c .copied3 .ensures
+      ∙ c .before .search .ensures
+      ∙ ap answer (found-unsent modulus _ _ _ (omega arith) (s .args .i) (omega arith) _ _ _ _ (c .before .before .if4 .taken))
 
   mul-dx : search-lts.Need-mul-dx (claims t) (search-at t) search′.Post
   mul-dx c = search needs
@@ -131,8 +145,11 @@ module _ (t : ℕ) where
       let zeros = zeros-next (s .args .c) _ (s .args .cy) (omega arith) (sizes t s .1) (s .pre .1 .zeros) in
       (omega arith, record { sizes = s .pre .1 .sizes; inside = omega arith; room = omega arith; zeros = zeros })
 
+  copied-requires-4 : search-lts.Need-copied-requires-4 (claims t) (search-at t) search′.Post
+  copied-requires-4 c κs = search needs
+
   returns-5 : search-lts.Need-returns-5 (claims t) (search-at t) search′.Post
-  returns-5 c = taken t (c .before .before) .with-it (c .before .if5 .taken)
+  returns-5 c = c .copied4 .ensures ∙ taken t (c .before .before) .with-it (c .before .if5 .taken)
 
   add-search-4 : search-lts.Need-add-search-4 (claims t) (search-at t) search′.Post
   add-search-4 c = search needs
@@ -145,16 +162,22 @@ module _ (t : ℕ) where
       let s = c .before .before .before .before .before .before .before .before .before .before in
       (omega arith, record { sizes = s .pre .1 .sizes; inside = omega arith; room = omega arith; zeros = s .pre .1 .zeros })
 
+  copied-requires-5 : search-lts.Need-copied-requires-5 (claims t) (search-at t) search′.Post
+  copied-requires-5 c κs = search needs
+
   returns-6 : search-lts.Need-returns-6 (claims t) (search-at t) search′.Post
-  returns-6 c = c .search3 .ensures ∙ taken t (c .before .before) .without-it (c .before .if5 .left)
+  returns-6 c =
+      c .copied5 .ensures ∙ c .before .search3 .ensures ∙ taken t (c .before .before .before) .without-it (c .before .before .if5 .left)
 
 pub +search-spec : {M : Type 1} → statement M
 +search-spec = close μ-search λ t. search-lts.spec (claims t)
     (search-at t)
     search′.Post
     (straight-requires t)
+    (copied-requires t)
     (returns t)
     (straight-requires-2 t)
+    (copied-requires-2 t)
     (returns-2 t)
     (nothing-requires t)
     (returns-3 t)
@@ -162,6 +185,7 @@ pub +search-spec : {M : Type 1} → statement M
     (shared-slice-read-y t)
     (add-search t)
     (search-requires t)
+    (copied-requires-3 t)
     (returns-4 t)
     (mul-dx t)
     (shared-slice-read-dx t)
@@ -173,8 +197,10 @@ pub +search-spec : {M : Type 1} → statement M
     (sub-search t)
     (add-search-3 t)
     (search-requires-2 t)
+    (copied-requires-4 t)
     (returns-5 t)
     (add-search-4 t)
     (sub-search-2 t)
     (search-requires-3 t)
+    (copied-requires-5 t)
     (returns-6 t)

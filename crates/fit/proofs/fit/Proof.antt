@@ -29,10 +29,14 @@ add-straight c = search needs
 straight-requires : tie.Need-straight-requires
 straight-requires c κs = record { sizes = omega arith; inside = omega arith; room = omega arith; zeros = refl }
 
+copied-requires : tie.Need-copied-requires
+copied-requires c κs = search needs
+
 returns-3 : tie.Need-returns-3
 returns-3 c =
     let tried = c .before .before in
-    fit-first _ _ _ _ _ (tried .before .before .if1 .left) (tried .before .if2 .left) (tried .straight .ensures) (c .before .if3 .taken)
+    c .copied .ensures
+    ∙ fit-first _ _ _ _ _ (tried .before .before .if1 .left) (tried .before .if2 .left) (tried .straight .ensures) (c .before .if3 .taken)
 
 sent-requires : tie.Need-sent-requires
 sent-requires c κs = search needs
@@ -67,10 +71,13 @@ groups-requires c κs =
     (c .before .before .before .if4 .left) (c .before .before .if5 .taken) (sym (c .before .points .ensures) ∙ c .if6 .taken)
     (tried .straight .ensures) (counted .before .if3 .left)
 
+copied-requires-2 : tie.Need-copied-requires-2
+copied-requires-2 c κs = search needs
+
 returns-5 : tie.Need-returns-5
 returns-5 c =
-    let sized = c .before .before .before .before .before .before .before .before in
-    c .groups .ensures ∙ fit-within _ _ _ _ (sized .before .if1 .left) (sized .if2 .left)
+    let sized = c .before .before .before .before .before .before .before .before .before in
+    c .copied2 .ensures ∙ c .before .groups .ensures ∙ fit-within _ _ _ _ (sized .before .if1 .left) (sized .if2 .left)
 
 add-search : tie.Need-add-search
 add-search c = search needs
@@ -78,11 +85,14 @@ add-search c = search needs
 search-requires : tie.Need-search-requires
 search-requires c κs = record { sizes = omega arith; inside = omega arith; room = omega arith; zeros = refl }
 
+copied-requires-3 : tie.Need-copied-requires-3
+copied-requires-3 c κs = search needs
+
 returns-6 : tie.Need-returns-6
 returns-6 c =
-    let counted = c .before .before .before in
+    let counted = c .before .before .before .before in
     let sized = counted .before .before .before in
-    c .search .ensures ∙ fit-search _ _ _ _ _ _ (sized .before .if1 .left) (sized .if2 .left) (counted .sent .ensures) refl
+    c .copied3 .ensures ∙ c .before .search .ensures ∙ fit-search _ _ _ _ _ _ (sized .before .if1 .left) (sized .if2 .left) (counted .sent .ensures) refl
 
 pub fit-spec : {M : Type 1} → statement M
 fit-spec =
@@ -94,6 +104,7 @@ fit-spec =
     returns-2
     add-straight
     straight-requires
+    copied-requires
     returns-3
     sent-requires
     nothing-requires-3
@@ -102,7 +113,9 @@ fit-spec =
     add-if5
     points-requires
     groups-requires
+    copied-requires-2
     returns-5
     add-search
     search-requires
+    copied-requires-3
     returns-6)

@@ -62,11 +62,15 @@ straight-requires c κs =
     let k = c .before .before .loop .inv .0 in
     record { sizes = k .sizes; inside = omega (arith, c .behind .ensures .within, k .sizes); room = omega arith; zeros = refl }
 
+copied-requires : tie.Need-copied-requires Inv-loop μ-loop
+copied-requires c κs = search needs
+
 returns : tie.Need-returns Inv-loop μ-loop
 returns c =
     let group = c .before .before in
     let k = group .before .before .before .loop in
-    groups-found modulus prime _ _ _ _ (k .i) (k .left) (k .wrong) (k .inv .0) 0 (group .before .behind .result) _ (group .straight .ensures)
+    c .copied .ensures
+    ∙ groups-found modulus prime _ _ _ _ (k .i) (k .left) (k .wrong) (k .inv .0) 0 (group .before .behind .result) _ (group .straight .ensures)
     (c .before .if1 .taken)
 
 nothing-requires : tie.Need-nothing-requires Inv-loop μ-loop
@@ -91,10 +95,13 @@ search-requires c κs =
     let k = c .before .loop .inv .0 in
     record { sizes = k .sizes; inside = k .inside; room = omega arith; zeros = refl }
 
+copied-requires-2 : tie.Need-copied-requires-2 Inv-loop μ-loop
+copied-requires-2 c κs = search needs
+
 returns-3 : tie.Need-returns-3 Inv-loop μ-loop
 returns-3 c =
-    let k = c .before .before .loop in
-    c .search .ensures ∙ groups-last modulus prime _ _ _ _ (k .i) (k .left) (k .wrong) (k .inv .0)
+    let k = c .before .before .before .loop in
+    c .copied2 .ensures ∙ c .before .search .ensures ∙ groups-last modulus prime _ _ _ _ (k .i) (k .left) (k .wrong) (k .inv .0)
 
 pub groups-spec : {M : Type 1} → statement M
 groups-spec =
@@ -113,6 +120,7 @@ groups-spec =
     sub-wrong
     add-straight
     straight-requires
+    copied-requires
     returns
     nothing-requires
     returns-2
@@ -120,4 +128,5 @@ groups-spec =
     loop-again
     add-search
     search-requires
+    copied-requires-2
     returns-3)
