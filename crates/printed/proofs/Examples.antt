@@ -23,8 +23,9 @@ use Rattle.recovery.specs.Recovery.{repair}
 use Rattle.answers.specs.Answer.{lowest}
 use Rattle.lamp.specs.Lamp.{check, withDeal, reportFrom, withPairs, atEnd, settled, step}
 use Rattle.record.specs.declared.Reading.the-variants.{Fine}
-use Rattle.record.specs.Bytes.{numbers, bytesOf, standAt}
-use Rattle.record.specs.Record.{directory, directoryRight, reading, sectionOf, recordOf}
+use Rattle.record.specs.Bytes.{numbers, standAt}
+use Rattle.record.specs.Record.{directory, directoryRight, reading, sectionOf}
+use Rattle.writer.specs.Writer.{bytesOf, recordOf}
 use Rattle.transcript.specs.Letters.{letters, decimal}
 use Rattle.transcript.specs.Lines.{name, names, verdictLines, lampLine, lastLine}
 use Rattle.transcript.specs.Transcript.{numbersOf, run, lampLines, textOf, textBy, text}

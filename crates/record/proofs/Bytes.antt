@@ -1,16 +1,15 @@
--- Laws of numbers in bytes: lengths, places, that numbers below 65,536 and their bytes give each other back, and what `standAt` and `over` say.
-use mathlib.Core.Path.{_≡_, refl, sym, ap, ap₂, _∙_}
+-- Laws of numbers in bytes: lengths, places, that two bytes give a number below 65,536, and what `standAt` and `over` say.
+use mathlib.Core.Path.{_≡_, refl, ap, _∙_}
 use mathlib.Core.Bool.{true, and-eq-true-iff}
 use mathlib.Core.List.{List, [], _∷_, _++_}
-use Prim.Native.Nat.{ℕ, zero, suc, _+_, _*_, _/_, _%_, _≤_, _<_}
-use native.Mathlib.Nat.{mod-lt}
+use Prim.Native.Nat.{ℕ, zero, suc, _+_, _*_, _/_, _≤_, _<_}
 use native.Mathlib.Omega.{arith}
 use lib.Dec.{eqb}
 use lib.ListN.{length, getD, take, drop}
 use lib.Seq.{take-at, drop-at}
 use borrow.Author.Tests.{eqb-true, eq-eqb}
 use Rattle.lists.specs.All.{All}
-use Rattle.record.specs.Bytes.{numberAt, numbers, numberIn, bytesOf, standAt, over}
+use Rattle.record.specs.Bytes.{numberAt, numbers, numberIn, standAt, over}
 
 -- ---- The numbers of a list of bytes
 
@@ -49,51 +48,11 @@ numbers-take (suc k) (high ∷ low ∷ bytes) =
 pub numbers-part : (from count : ℕ) (bytes : List ℕ) → numbers (take (2 * count) (drop (2 * from) bytes)) ≡ take count (drop from (numbers bytes))
 numbers-part from count bytes = numbers-take count (drop (2 * from) bytes) ∙ ap (take count) (numbers-drop from bytes)
 
--- ---- The bytes of a list of numbers
-
-pub length-bytes : (xs : List ℕ) → length (bytesOf xs) ≡ 2 * length xs
-unfolding bytesOf
-length-bytes [] = refl
-length-bytes (x ∷ xs) = ap (λ z. suc (suc z)) (length-bytes xs) ∙ omega arith
-
-pub bytes-append : (xs ys : List ℕ) → bytesOf (xs ++ ys) ≡ bytesOf xs ++ bytesOf ys
-unfolding bytesOf
-bytes-append [] ys = refl
-bytes-append (x ∷ xs) ys = ap (λ z. x / 256 % 256 ∷ x % 256 ∷ z) (bytes-append xs ys)
-
-pub bytes-below : (xs : List ℕ) → All (λ b. b < 256) (bytesOf xs)
-unfolding bytesOf
-bytes-below [] = tt
-bytes-below (x ∷ xs) = (mod-lt (x / 256) (omega arith), (mod-lt x (omega arith), bytes-below xs))
-
 pub numbers-below : (bytes : List ℕ) → All (λ b. b < 256) bytes → All (λ x. x < 65536) (numbers bytes)
 unfolding numbers
 numbers-below [] h = tt
 numbers-below (high ∷ []) h = tt
 numbers-below (high ∷ low ∷ bytes) (a, (b, h)) = (omega arith, numbers-below bytes h)
-
--- ---- Each gives the other back
-
-pub numbers-bytes : (xs : List ℕ) → All (λ x. x < 65536) xs → numbers (bytesOf xs) ≡ xs
-unfolding numbers bytesOf
-numbers-bytes [] h = refl
-numbers-bytes (x ∷ xs) (small, h) =
-    let whole : x / 256 % 256 * 256 + x % 256 ≡ x = omega arith in
-    ap₂ _∷_ whole (numbers-bytes xs h)
-
-pub bytes-numbers : (bytes : List ℕ) → All (λ b. b < 256) bytes → length bytes % 2 ≡ 0 → bytesOf (numbers bytes) ≡ bytes
-unfolding numbers bytesOf
-bytes-numbers [] h even = refl
-bytes-numbers (high ∷ []) h even = absurd (omega arith)
-bytes-numbers (high ∷ low ∷ bytes) (a, (b, h)) even =
-    let first : (high * 256 + low) / 256 % 256 ≡ high = omega arith in
-    let second : (high * 256 + low) % 256 ≡ low = omega arith in
-    ap₂ _∷_ first (ap₂ _∷_ second (bytes-numbers bytes h (omega arith)))
-
--- The k-th number of the bytes of xs is the k-th of xs.
-pub bytes-place : (xs : List ℕ) → All (λ x. x < 65536) xs → (k : ℕ) → k < length xs → numberAt (bytesOf xs) (2 * k) ≡ getD xs k 0
-bytes-place xs h k l =
-    sym (number-place (bytesOf xs) k (omega (arith, length-bytes xs))) ∙ ap (λ z. getD z k 0) (numbers-bytes xs h)
 
 -- ---- Numbers that stand from a place on
 

@@ -1,7 +1,4 @@
 pub mod Answers
-pub mod Buffer
 pub mod Bytes
 pub mod Loops
-pub mod RoundTrip
 pub mod Sections
-pub mod WayBack

@@ -2,13 +2,12 @@
 --   numberAt bytes at       the number at a place
 --   numbers bytes           all numbers, two bytes for each
 --   numberIn bytes k        the k-th of them, 0 behind the last
---   bytesOf xs              the bytes of a list of numbers
 --   standAt bytes at xs     the numbers xs stand in the bytes from a place on
 --   over xs ys              ys with xs written over its front, as far as both reach
 -- Laws: proofs/Bytes.
 use mathlib.Core.Bool.{Bool, true, _&&_}
 use mathlib.Core.List.{List, [], _∷_}
-use Prim.Native.Nat.{ℕ, _+_, _*_, _/_, _%_}
+use Prim.Native.Nat.{ℕ, _+_, _*_}
 use lib.Dec.{eqb}
 use lib.ListN.{getD}
 
@@ -25,11 +24,6 @@ numbers (high ∷ low ∷ bytes) = (high * 256 + low) ∷ numbers bytes
 -- The k-th number, 0 behind the last.
 abbrev pub numberIn : List ℕ → ℕ → ℕ
 numberIn bytes k = getD (numbers bytes) k 0
-
--- Two bytes for each number, the high one first.
-unfoldable pub bytesOf : List ℕ → List ℕ
-bytesOf [] = []
-bytesOf (x ∷ xs) = x / 256 % 256 ∷ x % 256 ∷ bytesOf xs
 
 -- The numbers xs stand one behind the other from a place on.
 unfoldable pub standAt : List ℕ → ℕ → List ℕ → Bool

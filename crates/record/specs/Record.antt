@@ -5,28 +5,21 @@
 --   nOf bytes, tOf bytes                      the sizes that the bytes give
 --   IsRecord bytes                            the bytes are a record
 --   reading bytes                             what the reader answers
---   numberOf, writingNumber                   document 01's number of the reader's and of the writer's answer
+--   numberOf                                  document 01's number of the reader's answer
 --   sectionOf bytes k                         the bytes of section k, none of a refused record
---   recordOf n t deals pairs reports shares   the whole record
---   Contents n t deals ..                     the lists can be a record's
---   lengthsFit, writable                      the lengths that writing it takes, and these with the sizes
---   writing n t deals .. out                  the buffer afterwards, and what the writer answers
 --   isFine answer                             the record is not refused
--- Laws: proofs/Sections, proofs/Answers, proofs/Buffer, proofs/RoundTrip, proofs/WayBack.
+-- Laws: proofs/Sections, proofs/Answers.
 use mathlib.Core.Path.{_≡_}
 use mathlib.Core.Bool.{Bool, true, false, cond, _&&_}
 use mathlib.Core.Option.{Option, none, some}
-use mathlib.Core.List.{List, [], _∷_, _++_}
-use Prim.Native.Nat.{ℕ, zero, suc, _+_, _*_, _≤_, _<_}
+use mathlib.Core.List.{List, [], _∷_}
+use Prim.Native.Nat.{ℕ, zero, suc, _+_, _*_, _≤_}
 use lib.Dec.{eqb, leb, ltb}
 use lib.ListN.{length, getD, take, drop}
-use Rattle.lists.specs.All.{All}
 use Rattle.parties.specs.Parties.{sizes}
-use Rattle.record.specs.Bytes.{numberAt, bytesOf, standAt, over}
+use Rattle.record.specs.Bytes.{numberAt, standAt}
 use Rattle.record.specs.declared.Reading.{Reading}
 use Rattle.record.specs.declared.Reading.the-variants.{Fine, WrongSize, WrongDirectory}
-use Rattle.record.specs.declared.Writing.{Writing}
-use Rattle.record.specs.declared.Writing.the-variants.{Written, WrongLength}
 
 -- Deals 4n(t+1) bytes, round two 4n², reports 2n, published shares 2n.
 abbrev pub sectionLength : ℕ → ℕ → ℕ → ℕ
@@ -80,12 +73,6 @@ numberOf Fine = none
 numberOf WrongSize = some 1
 numberOf WrongDirectory = some 6
 
--- Document 01's number of a writer's answer; none where the record is written.
-abbrev pub writingNumber : Writing → Option ℕ
-writingNumber (Written count) = none
-writingNumber Writing.WrongSize = some 1
-writingNumber WrongLength = some 3
-
 -- Whether the record is not refused.
 abbrev pub isFine : Reading → Bool
 isFine Fine = true
@@ -96,38 +83,3 @@ isFine WrongDirectory = false
 unfoldable pub sectionOf : List ℕ → ℕ → List ℕ
 sectionOf bytes k =
     cond (leb k 3 && isFine (reading bytes)) (take (numberAt bytes (4 + 4 * k)) (drop (numberAt bytes (2 + 4 * k)) bytes)) []
-
--- The whole record: the sizes, then the directory and the sections in numbers of 16 bits.
-unfoldable pub recordOf : ℕ → ℕ → List ℕ → List ℕ → List ℕ → List ℕ → List ℕ
-recordOf n t deals pairs reports shares = n ∷ t ∷ bytesOf (directory n t ++ deals ++ pairs ++ reports ++ shares)
-
--- Lists that a record can hold: 2n(t+1), 2n², n and n numbers of 16 bits.
-pub record Contents (n t : ℕ) (deals pairs reports shares : List ℕ) : Type 0 where
-  pub size : sizes n t ≡ true
-  pub first : length deals ≡ 2 * n * (t + 1)
-  pub second : length pairs ≡ 2 * n * n
-  pub third : length reports ≡ n
-  pub fourth : length shares ≡ n
-  pub small : All (All (λ x. x < 65536)) (deals ∷ pairs ∷ reports ∷ shares ∷ [])
-
--- The four lists have a record's lengths, 2n(t+1), 2n², n and n numbers, and the buffer has room for it.
-unfoldable pub lengthsFit : ℕ → ℕ → ℕ → ℕ → ℕ → ℕ → ℕ → Bool
-lengthsFit n t deals pairs reports shares room =
-    eqb deals (2 * n * (t + 1))
-    && eqb pairs (2 * n * n)
-    && eqb reports n
-    && eqb shares n
-    && leb (sectionStart n t 4) room
-
--- A record is written: no test refuses.
-unfoldable pub writable : ℕ → ℕ → ℕ → ℕ → ℕ → ℕ → ℕ → Bool
-writable n t deals pairs reports shares room = sizes n t && lengthsFit n t deals pairs reports shares room
-
--- The buffer afterwards, and the answer: the record over the buffer's front, and its length. The size is tested first; a refusal leaves the buffer alone.
-unfoldable pub writing : ℕ → ℕ → List ℕ → List ℕ → List ℕ → List ℕ → List ℕ → List ℕ × Writing
-writing n t deals pairs reports shares out =
-    cond (sizes n t)
-    (cond (lengthsFit n t (length deals) (length pairs) (length reports) (length shares) (length out))
-    (over (recordOf n t deals pairs reports shares) out, Written (sectionStart n t 4))
-    (out, WrongLength))
-    (out, Writing.WrongSize)

@@ -1,25 +1,17 @@
-// The record: reads one, hands back its sections as parts of the caller's bytes, and writes one.
+// The record's reader: whether bytes are a record, its sections as parts of the caller's bytes, and their numbers.
 ghost use mathlib.Core.Path.{_≡_};
 ghost use mathlib.Core.Bool.{true};
-ghost use mathlib.Core.List.{_++_};
-ghost use Prim.Native.Nat.{_+_, _*_, _/_, _%_, _≤_};
-ghost use lib.ListN.{length, take, drop};
+ghost use Prim.Native.Nat.{_+_, _*_, _≤_};
+ghost use lib.ListN.{length};
 ghost use Rattle.parties.specs.Parties.{sizes};
-ghost use Rattle.record.specs.Bytes.{numberAt, numbers, numberIn, bytesOf, standAt, over};
-ghost use Rattle.record.specs.Record.{sectionStart, directory, directoryRight, reading, isFine, sectionOf, recordOf, lengthsFit, writable, writing};
+ghost use Rattle.record.specs.Bytes.{numberAt, numbers, numberIn, standAt, over};
+ghost use Rattle.record.specs.Record.{directory, directoryRight, reading, isFine, sectionOf};
 
 // What the reader answers. Document 01's number of each refusal is `numberOf` in the definitions.
 pub enum Reading {
     Fine,
     WrongSize,
     WrongDirectory,
-}
-
-// What the writer answers: the record's length, or why nothing is written. Document 01's number of each refusal is `writingNumber` in the definitions.
-pub enum Writing {
-    Written(usize),
-    WrongSize,
-    WrongLength,
 }
 
 // A byte as a number of 16 bits, with the bound that the sum below needs.
@@ -151,119 +143,4 @@ pub fn numbers(part: &[u8], out: &mut [u16])
         out[i] = number_at(part, 2 * i);
         i += 1;
     }
-}
-
-// A number's high byte.
-fn high(x: u16) -> u8
-    ensures { λ r. ⌜ r ≡ x / 256 % 256 ⌝ }
-{
-    (x / 256 % 256) as u8
-}
-
-// A number's low byte.
-fn low(x: u16) -> u8
-    ensures { λ r. ⌜ r ≡ x % 256 ⌝ }
-{
-    (x % 256) as u8
-}
-
-// Writes the numbers from a place on and answers the place behind them.
-fn put(list: &[u16], at: usize, out: &mut [u8]) -> usize
-    requires { ⌜ at + 2 * length (now list) ≤ length (now out) ⌝ }
-    ensures place { λ r. ⌜ r ≡ at + 2 * length (now (list .entry)) ⌝ }
-    ensures written { λ r. ⌜ now (out .exit) ≡ take at (now (out .entry)) ++ (bytesOf (now (list .entry)) ++ drop r (now (out .entry))) ⌝ }
-{
-    let mut i = 0;
-    let mut place = at;
-    while i < list.len() {
-        let x = list[i];
-        out[place] = high(x);
-        out[place + 1] = low(x);
-        place += 2;
-        i += 1;
-    }
-    place
-}
-
-// Whether the four lists have a record's lengths and the buffer has room for it.
-fn lengths_fit(
-    n: u8,
-    t: u8,
-    deals: usize,
-    pairs: usize,
-    reports: usize,
-    shares: usize,
-    room: usize,
-) -> bool
-    requires { ⌜ sizes n t ≡ true ⌝ }
-    ensures { λ r. ⌜ r ≡ lengthsFit n t deals pairs reports shares room ⌝ }
-{
-    let size = n as usize;
-    let width = t as usize + 1;
-    if deals != 2 * size * width {
-        return false;
-    }
-    if pairs != 2 * size * size {
-        return false;
-    }
-    if reports != size {
-        return false;
-    }
-    if shares != size {
-        return false;
-    }
-    18 + 4 * size * width + 4 * size * size + 2 * size + 2 * size <= room
-}
-
-// Writes the record over the front of the buffer and answers its length.
-fn fill(
-    n: u8,
-    t: u8,
-    deals: &[u16],
-    pairs: &[u16],
-    reports: &[u16],
-    shares: &[u16],
-    out: &mut [u8],
-) -> usize
-    requires { ⌜ writable n t (length (now deals)) (length (now pairs)) (length (now reports)) (length (now shares)) (length (now out)) ≡ true ⌝ }
-    ensures end { λ r. ⌜ r ≡ sectionStart n t 4 ⌝ }
-    ensures written { λ r. ⌜ now (out .exit) ≡ over (recordOf n t (now (deals .entry)) (now (pairs .entry)) (now (reports .entry)) (now (shares .entry))) (now (out .entry)) ⌝ }
-{
-    out[0] = n;
-    out[1] = t;
-    let numbers = directory(n, t);
-    let first = put(&numbers[..8], 2, out);
-    let second = put(deals, first, out);
-    let third = put(pairs, second, out);
-    let fourth = put(reports, third, out);
-    put(shares, fourth, out)
-}
-
-// Writes a record over the front of the lent buffer, which may be longer. A refusal leaves the buffer alone.
-pub fn write(
-    n: u8,
-    t: u8,
-    deals: &[u16],
-    pairs: &[u16],
-    reports: &[u16],
-    shares: &[u16],
-    out: &mut [u8],
-) -> Writing
-    ensures { λ r. ⌜ (now (out .exit), r) ≡ writing n t (now (deals .entry)) (now (pairs .entry)) (now (reports .entry)) (now (shares .entry)) (now (out .entry)) ⌝ }
-{
-    if !parties::sizes(n, t) {
-        return Writing::WrongSize;
-    }
-    if !lengths_fit(
-        n,
-        t,
-        deals.len(),
-        pairs.len(),
-        reports.len(),
-        shares.len(),
-        out.len(),
-    ) {
-        return Writing::WrongLength;
-    }
-    Writing::Written(fill(n, t, deals, pairs, reports, shares, out))
 }

@@ -12,13 +12,15 @@ use lib.Dec.{eqb, leb}
 use lib.ListN.{length, take, drop, set, length-append}
 use borrow.Author.Tests.{eqb-true, leb-true}
 use Rattle.parties.specs.Parties.{sizes}
-use Rattle.record.specs.Bytes.{bytesOf, over}
-use Rattle.record.specs.Record.{sectionLength, sectionStart, directory, recordOf, lengthsFit, writable, writingNumber, writing}
-use Rattle.record.specs.declared.Writing.{Writing}
-use Rattle.record.specs.declared.Writing.the-variants.{Written, WrongLength}
-use Rattle.record.proofs.Bytes.{length-bytes, bytes-append, over-room}
+use Rattle.record.specs.Bytes.{over}
+use Rattle.record.specs.Record.{sectionLength, sectionStart, directory}
+use Rattle.writer.specs.Writer.{bytesOf, directoryBy, recordOf, lengthsFit, writable, writingNumber, writing}
+use Rattle.writer.specs.declared.Writing.{Writing}
+use Rattle.writer.specs.declared.Writing.the-variants.{Written, WrongLength}
+use Rattle.record.proofs.Bytes.{over-room}
+use Rattle.writer.proofs.Bytes.{length-bytes, bytes-append}
 use Rattle.record.proofs.Sections.{length-directory, record-head, section-before-end}
-use Rattle.record.proofs.Loops.{Begun, begun-start, begun-byte, begun-put, begun-length}
+use Rattle.writer.proofs.Loops.{Begun, begun-start, begun-byte, begun-put, begun-length}
 
 -- ---- What is writable
 
@@ -55,6 +57,25 @@ writable-facts n t deals pairs reports shares room e =
       whole = leb-true _ _ whole;
     }
 
+-- As the code adds up the room: two bytes for each number behind the head.
+pub room-sum : (n t deals pairs : ℕ) → deals ≡ 2 * n * (t + 1) → pairs ≡ 2 * n * n → 18 + 2 * (deals + pairs + n + n) ≡ sectionStart n t 4
+room-sum n t deals pairs e f = omega (arith, double n (t + 1), double n n)
+
+-- ---- The buffer after the head
+
+-- The sizes and a directory, as `put` leaves it behind two stores.
+pub head-put : (n t : ℕ) (out : List ℕ) → 18 ≤ length out → (a b c : ℕ) (list : List ℕ) (r : ℕ) (new : List ℕ) → list ≡ directoryBy a b c
+    → r ≡ 2 + 2 * length list → new ≡ take 2 (set (set out 0 n) 1 t) ++ (bytesOf list ++ drop r (set (set out 0 n) 1 t))
+    → (length new ≡ length out) × ((r ≡ 18) × (new ≡ (n ∷ t ∷ bytesOf (directoryBy a b c)) ++ drop 18 out))
+head-put n t out h a b c list r new e p w =
+    let start = begun-start out 0 (omega arith) in
+    let one = begun-byte (take 0 out) 0 out out start n (omega arith) in
+    let two = begun-byte (n ∷ []) 1 out (set out 0 n) one t (omega arith) in
+    let eight : length list ≡ 8 = ap length e in
+    let end : r ≡ 18 = omega arith in
+    let all = begun-put (n ∷ t ∷ []) 2 out (set (set out 0 n) 1 t) two list r new (omega arith) p w in
+    (begun-length (n ∷ t ∷ bytesOf list) r out new all, (end, all .holds ∙ ap₂ (λ z m. (n ∷ t ∷ bytesOf z) ++ drop m out) e end))
+
 -- ---- The buffer after each section
 
 pub record Stage (n t : ℕ) (out front : List ℕ) (k r : ℕ) (new : List ℕ) : Type 0 where
@@ -63,19 +84,19 @@ pub record Stage (n t : ℕ) (out front : List ℕ) (k r : ℕ) (new : List ℕ)
 
 module _ (n t : ℕ) (out : List ℕ) (whole : sectionStart n t 4 ≤ length out) where
   -- The sizes and the directory.
-  pub stage-head : (list : List ℕ) (r : ℕ) (new : List ℕ) → list ≡ directory n t → r ≡ 2 + 2 * length list
-      → new ≡ take 2 (set (set out 0 n) 1 t) ++ (bytesOf list ++ drop r (set (set out 0 n) 1 t))
+  pub stage-head : (a b r : ℕ) (new : List ℕ) → a ≡ sectionLength n t 0 → b ≡ sectionLength n t 1 → r ≡ 18
+      → new ≡ (n ∷ t ∷ bytesOf (directoryBy a b (2 * n))) ++ drop 18 out
       → Stage n t out (n ∷ t ∷ bytesOf (directory n t)) 0 r new
-  stage-head list r new e p w =
-      let long = record-head n t in
-      let start = begun-start out 0 (omega arith) in
-      let one = begun-byte (take 0 out) 0 out out start n (omega arith) in
-      let two = begun-byte (n ∷ []) 1 out (set out 0 n) one t (omega arith) in
-      let eight : length list ≡ 8 = ap length e ∙ length-directory n t in
-      let all = begun-put (n ∷ t ∷ []) 2 out (set (set out 0 n) 1 t) two list r new (omega arith) p w in
+  unfolding directory
+  stage-head a b r new ea eb e w =
+      let same : directoryBy a b (2 * n) ≡ directory n t = ap₂ (λ x y. directoryBy x y (2 * n)) ea eb in
       record {
-        place = omega arith;
-        begun = subst (λ z. Begun (n ∷ t ∷ bytesOf z) r out new) e all;
+        place = e;
+        begun = record {
+          place = ap (λ z. suc (suc z)) (length-bytes (directory n t)) ∙ sym e;
+          room = omega (arith, record-head n t);
+          holds = w ∙ ap₂ (λ z m. (n ∷ t ∷ bytesOf z) ++ drop m out) same (sym e);
+        };
       }
 
   module _ (front : List ℕ) (k r : ℕ) (new : List ℕ) (s : Stage n t out front k r new) (h : k ≤ 3) (xs : List ℕ) (l : 2 * length xs ≡ sectionLength n t k) where

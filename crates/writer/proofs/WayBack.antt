@@ -9,13 +9,15 @@ use lib.Seq.{ext-getD, getD-take, getD-drop, drop-drop, length-take-le}
 use Rattle.lists.specs.All.{All}
 use Rattle.lists.proofs.All.{all-take, all-drop}
 use Rattle.lists.proofs.InPlace.{drop-end}
 use Rattle.record.specs.declared.Reading.the-variants.{Fine}
-use Rattle.record.specs.Bytes.{numberAt, numbers, bytesOf}
-use Rattle.record.specs.Record.{sectionLength, sectionStart, directory, nOf, tOf, reading, sectionOf, recordOf, Contents}
-use Rattle.record.proofs.Bytes.{length-numbers, number-place, bytes-append, numbers-below, bytes-numbers}
+use Rattle.record.specs.Bytes.{numberAt, numbers}
+use Rattle.record.specs.Record.{sectionLength, sectionStart, directory, nOf, tOf, reading, sectionOf}
+use Rattle.writer.specs.Writer.{bytesOf, recordOf, Contents}
+use Rattle.record.proofs.Bytes.{length-numbers, number-place, numbers-below}
+use Rattle.writer.proofs.Bytes.{bytes-append, bytes-numbers}
 use Rattle.record.proofs.Sections.{length-directory, record-head}
 use Rattle.record.proofs.Answers.{fine-passed, section-at, length-section}
-use Rattle.record.proofs.Buffer.{double}
+use Rattle.writer.proofs.Buffer.{double}
 
 two-first : (bytes : List ℕ) → 2 ≤ length bytes → nOf bytes ∷ tOf bytes ∷ drop 2 bytes ≡ bytes
 two-first [] h = absurd (omega arith)

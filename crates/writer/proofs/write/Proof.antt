@@ -1,4 +1,4 @@
--- `record::write` meets its contract: the sizes are tested, then the lengths, and only then the buffer is written.
+-- `writer::write` meets its contract: the sizes are tested, then the lengths, and only then the buffer is written.
 use mathlib.Core.Path.{_≡_, sym, ap₂, _∙_}
 use mathlib.Core.Bool.{true}
 use mathlib.Core.List.{List}
@@ -7,12 +7,12 @@ use lib.ListN.{length}
 use borrow.Author.Needs.{needs}
 use borrow.Author.Tests.{not-true, not-false}
 use Rattle.parties.specs.Parties.{sizes}
-use Rattle.record.specs.Record.{writable}
-use Rattle.record.specs.declared.Writing.{Writing}
-use Rattle.record.specs.declared.Writing.the-variants.{Written}
-use Rattle.record.proofs.Buffer.{writing-size, writing-length, writing-written}
-use Rattle.record.proofs.write.Statement.{statement}
-use Rattle.record.proofs.write.Tie as tie
+use Rattle.writer.specs.Writer.{writable}
+use Rattle.writer.specs.declared.Writing.{Writing}
+use Rattle.writer.specs.declared.Writing.the-variants.{Written}
+use Rattle.writer.proofs.Buffer.{writing-size, writing-length, writing-written}
+use Rattle.writer.proofs.write.Statement.{statement}
+use Rattle.writer.proofs.write.Tie as tie
 
 -- The sizes have passed.
 sized : (c : tie.Else1) → let s = c .before .before .before .before .before .before .before in sizes (s .args .n) (s .args .t) ≡ true

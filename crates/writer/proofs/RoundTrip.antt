@@ -8,15 +8,17 @@ use lib.ListN.{length, getD, take, drop, length-append, List·getD-append}
 use lib.Seq.{take-at, drop-at}
 use borrow.Author.Tests.{eq-eqb}
 use Rattle.lists.specs.All.{All}
 use Rattle.record.specs.declared.Reading.the-variants.{Fine}
-use Rattle.record.specs.Bytes.{numberAt, numbers, bytesOf, standAt, over}
-use Rattle.record.specs.Record.{sectionLength, sectionStart, directory, directoryRight, nOf, tOf, reading, sectionOf, recordOf, Contents, writable, writing}
-use Rattle.record.specs.declared.Writing.{Writing}
-use Rattle.record.specs.declared.Writing.the-variants.{Written}
-use Rattle.record.proofs.Bytes.{length-bytes, bytes-append, bytes-place, numbers-bytes, stand-true, over-front, over-rest}
+use Rattle.record.specs.Bytes.{numberAt, numbers, standAt, over}
+use Rattle.record.specs.Record.{sectionLength, sectionStart, directory, directoryRight, nOf, tOf, reading, sectionOf}
+use Rattle.writer.specs.Writer.{bytesOf, recordOf, Contents, writable, writing}
+use Rattle.writer.specs.declared.Writing.{Writing}
+use Rattle.writer.specs.declared.Writing.the-variants.{Written}
+use Rattle.record.proofs.Bytes.{stand-true, over-front, over-rest}
+use Rattle.writer.proofs.Bytes.{length-bytes, bytes-append, bytes-place, numbers-bytes}
 use Rattle.record.proofs.Sections.{length-directory, directory-below, record-head}
 use Rattle.record.proofs.Answers.{reading-fine, section-at}
-use Rattle.record.proofs.Buffer.{Writable, double, writable-facts, length-record, writing-written, only-writable}
+use Rattle.writer.proofs.Buffer.{Writable, double, writable-facts, length-record, writing-written, only-writable}
 
 -- A number that stands in the front bytes.
 front-place : (xs ys : List ℕ) (at : ℕ) → at + 1 < length xs → numberAt (xs ++ ys) at ≡ numberAt xs at

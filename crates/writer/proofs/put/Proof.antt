@@ -1,11 +1,11 @@
--- `record::put` meets its contract. The bytes of the first i numbers are written.
+-- `writer::put` meets its contract. The bytes of the first i numbers are written.
 use borrow.Author.Needs.{needs}
 use Prim.Native.Nat.{_-_}
 use native.Mathlib.Omega.{arith}
 use lib.ListN.{length, length-set}
-use Rattle.record.proofs.Loops.{Putting, put-start, put-next, put-end}
-use Rattle.record.proofs.put.Statement.{statement}
-use Rattle.record.proofs.put.Tie as tie
+use Rattle.writer.proofs.Loops.{Putting, put-start, put-next, put-end}
+use Rattle.writer.proofs.put.Statement.{statement}
+use Rattle.writer.proofs.put.Tie as tie
 
 abbrev Inv-loop : tie.InvT-loop
 Inv-loop list at out₀ i₀ place₀ out i place = Putting list at out₀ out i place

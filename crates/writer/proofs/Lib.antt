@@ -1,0 +1,5 @@
+pub mod Buffer
+pub mod Bytes
+pub mod Loops
+pub mod RoundTrip
+pub mod WayBack

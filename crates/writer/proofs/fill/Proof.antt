@@ -1,0 +1,118 @@
+-- `writer::fill` meets its contract: after each section the buffer is written so far, and behind that it is as it was.
+use mathlib.Core.List.{List, _∷_, _++_}
+use Prim.Native.Nat.{ℕ, _≤_}
+use native.Mathlib.Omega.{arith}
+use lib.ListN.{length}
+use Rattle.writer.specs.Writer.{bytesOf}
+use Rattle.record.specs.Record.{sectionStart, directory}
+use Rattle.record.proofs.Sections.{sections-small, record-head}
+use Rattle.writer.proofs.Loops.{begun-length}
+use Rattle.writer.proofs.Buffer.{Writable, writable-facts, Stage, stage-head, stage-room, stage-next, stage-end}
+use Rattle.writer.proofs.fill.Statement.{statement}
+use Rattle.writer.proofs.fill.Tie as tie
+
+-- ---- The way back from each place: to where the lists are known, and to the start
+abbrev start : tie.After-slice-known → tie.Start
+start c = c .before .before .before .before .before
+
+abbrev fitted₁ : tie.After-put-head → tie.After-slice-known
+fitted₁ c = c .before .before
+
+abbrev fitted₂ : tie.After-put → tie.After-slice-known
+fitted₂ c = fitted₁ (c .before .before .before .before)
+
+abbrev fitted₃ : tie.After-put2 → tie.After-slice-known
+fitted₃ c = fitted₂ (c .before .before .before .before)
+
+abbrev fitted₄ : tie.After-put3 → tie.After-slice-known
+fitted₄ c = fitted₃ (c .before .before .before .before)
+
+abbrev fitted₅ : tie.After-put4 → tie.After-slice-known
+fitted₅ c = fitted₄ (c .before .before .before .before)
+
+-- ---- All is writable
+fit : (c : tie.After-slice-known) → let s = start c in Writable (s .args .n) (s .args .t) (length (s .args .deals .now)) (length (s .args .pairs .now)) (length (s .args .reports .now)) (length (s .args .shares .now)) (length (s .args .out .now))
+fit c = writable-facts _ _ _ _ _ _ _ (start c .pre)
+
+room : (c : tie.After-slice-known) → 18 ≤ length (start c .args .out .now)
+room c = let s = start c in omega (arith, fit c .whole, record-head (s .args .n) (s .args .t))
+
+-- Every offset has 16 bits.
+small : (c : tie.After-slice-known) → sectionStart (start c .args .n) (start c .args .t) 4 ≤ 2000
+small c = omega (arith, sections-small (start c .args .n) (start c .args .t) (fit c .size))
+
+-- ---- The buffer after the directory, and after each section
+abbrev At : tie.Start → List ℕ → ℕ → ℕ → List ℕ → Type 0
+At s front k r new = Stage (s .args .n) (s .args .t) (s .args .out .now) front k r new
+
+abbrev head : tie.Start → List ℕ
+head s = s .args .n ∷ s .args .t ∷ bytesOf (directory (s .args .n) (s .args .t))
+
+abbrev upto-deals : tie.Start → List ℕ
+upto-deals s = head s ++ bytesOf (s .args .deals .now)
+
+abbrev upto-pairs : tie.Start → List ℕ
+upto-pairs s = upto-deals s ++ bytesOf (s .args .pairs .now)
+
+abbrev upto-reports : tie.Start → List ℕ
+upto-reports s = upto-pairs s ++ bytesOf (s .args .reports .now)
+
+abbrev upto-shares : tie.Start → List ℕ
+upto-shares s = upto-reports s ++ bytesOf (s .args .shares .now)
+
+stage₁ : (c : tie.After-put-head) → At (start (fitted₁ c)) (head (start (fitted₁ c))) 0 (c .put-head .result) (c .put-head .last .1 .1 .1 .1 .0)
+stage₁ c = stage-head _ _ _ (fit (fitted₁ c) .whole) _ _ _ _ (fit (fitted₁ c) .first) (fit (fitted₁ c) .second) (c .put-head .ensures .0) (c .put-head .ensures .1)
+
+stage₂ : (c : tie.After-put) → At (start (fitted₂ c)) (upto-deals (start (fitted₂ c))) 1 (c .put .result) (c .put .last .1 .1 .0)
+stage₂ c = stage-next _ _ _ (fit (fitted₂ c) .whole) _ 0 _ _ (stage₁ (c .before .before .before .before)) (omega arith) _ (fit (fitted₂ c) .first) _ _ (c .put .ensures .0) (c .put .ensures .1)
+
+stage₃ : (c : tie.After-put2) → At (start (fitted₃ c)) (upto-pairs (start (fitted₃ c))) 2 (c .put2 .result) (c .put2 .last .1 .1 .0)
+stage₃ c = stage-next _ _ _ (fit (fitted₃ c) .whole) _ 1 _ _ (stage₂ (c .before .before .before .before)) (omega arith) _ (fit (fitted₃ c) .second) _ _ (c .put2 .ensures .0) (c .put2 .ensures .1)
+
+stage₄ : (c : tie.After-put3) → At (start (fitted₄ c)) (upto-reports (start (fitted₄ c))) 3 (c .put3 .result) (c .put3 .last .1 .1 .0)
+stage₄ c = stage-next _ _ _ (fit (fitted₄ c) .whole) _ 2 _ _ (stage₃ (c .before .before .before .before)) (omega arith) _ (fit (fitted₄ c) .third) _ _ (c .put3 .ensures .0) (c .put3 .ensures .1)
+
+stage₅ : (c : tie.After-put4) → At (start (fitted₅ c)) (upto-shares (start (fitted₅ c))) 4 (c .put4 .result) (c .put4 .last .1 .1 .0)
+stage₅ c = stage-next _ _ _ (fit (fitted₅ c) .whole) _ 3 _ _ (stage₄ (c .before .before .before .before)) (omega arith) _ (fit (fitted₅ c) .fourth) _ _ (c .put4 .ensures .0) (c .put4 .ensures .1)
+
+-- ---- The needs
+put-head-requires : tie.Need-put-head-requires
+put-head-requires c κs = let e = c .before in (room e, omega (arith, fit e .first, fit e .second, small e))
+
+put-requires : tie.Need-put-requires
+put-requires c κs =
+    let e = fitted₁ (c .before .before .before) in
+    stage-room _ _ _ (fit e .whole) _ 0 _ _ (stage₁ (c .before .before .before)) (omega arith) (start e .args .deals .now) (fit e .first)
+
+put-requires-2 : tie.Need-put-requires-2
+put-requires-2 c κs =
+    let e = fitted₂ (c .before .before .before) in
+    stage-room _ _ _ (fit e .whole) _ 1 _ _ (stage₂ (c .before .before .before)) (omega arith) (start e .args .pairs .now) (fit e .second)
+
+put-requires-3 : tie.Need-put-requires-3
+put-requires-3 c κs =
+    let e = fitted₃ (c .before .before .before) in
+    stage-room _ _ _ (fit e .whole) _ 2 _ _ (stage₃ (c .before .before .before)) (omega arith) (start e .args .reports .now) (fit e .third)
+
+put-requires-4 : tie.Need-put-requires-4
+put-requires-4 c κs =
+    let e = fitted₄ (c .before .before .before) in
+    stage-room _ _ _ (fit e .whole) _ 3 _ _ (stage₄ (c .before .before .before)) (omega arith) (start e .args .shares .now) (fit e .fourth)
+
+same-length : tie.Need-same-length
+same-length c = begun-length _ _ _ _ (stage₅ (c .before .before) .begun)
+
+returns : tie.Need-returns
+returns c = stage-end _ _ _ _ _ _ _ (fit (fitted₅ (c .before .before))) _ _ (stage₅ (c .before .before))
+
+pub fill-spec : {M : Type 1} → statement M
+fill-spec =
+    tie.close
+    (tie.spec
+    put-head-requires
+    put-requires
+    put-requires-2
+    put-requires-3
+    put-requires-4
+    same-length
+    returns)
