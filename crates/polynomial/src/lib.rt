@@ -32,20 +32,26 @@ fn absent(x: u16, list: &[u16]) -> bool
     true
 }
 
-// Whether the numbers of the list are distinct residues.
+// Whether the numbers of the list are distinct residues. A number below all those behind it is none of them: in a list that rises
+// nothing is compared twice.
 pub fn points(list: &[u16]) -> bool
     ensures { λ r. ⌜ r ≡ points modulus (now (list .entry)) ⌝ }
 {
+    let mut low = field::MODULUS;
     let mut i = list.len();
     while 0 < i {
         let behind = i;
         i -= 1;
         let x = list[i];
-        if field::MODULUS <= x {
-            return false;
-        }
-        if !absent(x, &list[behind..]) {
-            return false;
+        if x < low {
+            low = x;
+        } else {
+            if field::MODULUS <= x {
+                return false;
+            }
+            if !absent(x, &list[behind..]) {
+                return false;
+            }
         }
     }
     true

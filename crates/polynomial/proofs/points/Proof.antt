@@ -1,14 +1,16 @@
--- `polynomial::points` meets its contract. The loop goes from the end: the numbers from i on are distinct residues.
+-- `polynomial::points` meets its contract. The loop goes from the end: the numbers from i on are distinct residues, none below `low`.
 use borrow.Author.Needs.{needs}
 use native.Mathlib.Omega.{arith}
-use mathlib.Core.Path.{_≡_, refl, sym, ap, ap₂, _∙_}
-use mathlib.Core.Bool.{Bool, true, false, _&&_, and-false}
-use mathlib.Core.List.{List}
-use Prim.Native.Nat.{ℕ, _≤_, _<_}
+use mathlib.Core.Path.{_≡_, refl, sym, ap, ap₂, subst, _∙_}
+use mathlib.Core.Bool.{Bool, true, false, not, _&&_, and-false}
+use mathlib.Core.List.{List, [], _∷_}
+use Prim.Native.Nat.{ℕ, _-_, _≤_, _<_}
 use lib.Dec.{ltb}
-use lib.ListN.{drop}
-use borrow.Author.Tests.{lt-ltb, le-ltb, not-true, not-false}
-use Rattle.lists.proofs.InPlace.{lent-rest}
+use lib.ListN.{length, getD, drop}
+use lib.Seq.{drop-length}
+use borrow.Author.Tests.{lt-ltb, le-ltb, ne-eqb, not-true, not-false}
+use Rattle.lists.specs.All.{All}
+use Rattle.lists.proofs.InPlace.{lent-rest, drop-back}
 use Rattle.lists.proofs.FromEnd.{Passed, passed-start, passed-next, passed-not, passed-end}
 use Rattle.field.specs.Modulus.{modulus}
 use Rattle.polynomial.specs.Polynomial.{absent, points}
@@ -28,14 +30,41 @@ twice a rest e = ap (λ b. ltb a modulus && b) e ∙ and-false (ltb a modulus)
 fresh : (a : ℕ) (rest : List ℕ) → a < modulus → absent a rest ≡ true → fine a rest ≡ true
 fresh a rest h e = ap₂ _&&_ (lt-ltb a modulus h) e
 
+-- Every number is at least low.
+abbrev Above : ℕ → List ℕ → Type 0
+Above low = All (λ a. low ≤ a)
+
+below-absent : (x low : ℕ) (xs : List ℕ) → x < low → Above low xs → absent x xs ≡ true
+below-absent x low [] h k = refl
+below-absent x low (a ∷ xs) h (l, k) = ap₂ (λ u v. not u && v) (ne-eqb a x (λ e. omega arith)) (below-absent x low xs h k)
+
+lowered : (x low : ℕ) (xs : List ℕ) → x ≤ low → Above low xs → Above x xs
+lowered x low [] h k = k
+lowered x low (a ∷ xs) h (l, k) = (omega arith, lowered x low xs h k)
+
+-- With the number before place i.
+above-back : (low i : ℕ) (xs : List ℕ) → 0 < i → i ≤ length xs → low ≤ getD xs (i - 1) 0 → Above low (drop i xs) → Above low (drop (i - 1) xs)
+above-back low i xs h l e k = subst (Above low) (sym (drop-back xs i 0 h l)) (e, k)
+
+record Rising (xs : List ℕ) (low i : ℕ) : Type 0 where
+  passed : Passed (points modulus) xs i
+  residue : low ≤ modulus
+  above : Above low (drop i xs)
+
 abbrev Inv-loop : tie.InvT-loop
-Inv-loop list i₀ i = Passed (points modulus) list i
+Inv-loop list low₀ i₀ low i = Rising list low i
 
 abbrev μ-loop : tie.MeasureT-loop
-μ-loop list i₀ i = i
+μ-loop list low₀ i₀ low i = i
 
 loop-holds : tie.Need-loop-holds Inv-loop μ-loop
-loop-holds c = passed-start fine (points modulus) refl (λ a xs. refl) (c .before .args .list .now)
+loop-holds c =
+    let xs = c .before .args .list .now in
+    record {
+      passed = passed-start fine (points modulus) refl (λ a xs. refl) xs;
+      residue = omega arith;
+      above = subst (Above modulus) (sym (drop-length xs)) tt;
+    }
 
 sub-i : tie.Need-sub-i Inv-loop μ-loop
 sub-i c = search needs
@@ -46,11 +75,29 @@ mul-x c = search needs
 shared-slice-read-x : tie.Need-shared-slice-read-x Inv-loop μ-loop
 shared-slice-read-x c = search needs
 
-returns : tie.Need-returns Inv-loop μ-loop
-returns c =
+loop-less : tie.Need-loop-less Inv-loop μ-loop
+loop-less c = search needs
+
+loop-again : tie.Need-loop-again Inv-loop μ-loop
+loop-again c =
     let k = c .before .before .before .loop in
     let xs = c .before .before .before .before .before .args .list .now in
-    passed-not fine (points modulus) refl (λ a xs. refl) xs (k .i) (omega arith) (k .inv .within) (large _ (drop (k .i) xs) (c .if1 .taken))
+    let p = k .inv .passed in
+    let x : ℕ = getD xs (k .i - 1) 0 in
+    let lower : x < k .low = c .if1 .taken in
+    record {
+      passed =
+          passed-next fine (points modulus) refl (λ a xs. refl) xs (k .i) (omega arith) (p .within) (p .rest)
+          (fresh x (drop (k .i) xs) (omega (arith, k .inv .residue)) (below-absent x (k .low) (drop (k .i) xs) lower (k .inv .above)));
+      residue = omega (arith, k .inv .residue);
+      above = above-back x (k .i) xs (omega arith) (p .within) (omega arith) (lowered x (k .low) (drop (k .i) xs) (omega arith) (k .inv .above));
+    }
+
+returns : tie.Need-returns Inv-loop μ-loop
+returns c =
+    let k = c .before .before .before .before .loop in
+    let xs = c .before .before .before .before .before .before .args .list .now in
+    passed-not fine (points modulus) refl (λ a xs. refl) xs (k .i) (omega arith) (k .inv .passed .within) (large _ (drop (k .i) xs) (c .if2 .taken))
 
 mul-absent : tie.Need-mul-absent Inv-loop μ-loop
 mul-absent c = search needs
@@ -69,24 +116,30 @@ absent-requires c κs = search needs
 
 returns-2 : tie.Need-returns-2 Inv-loop μ-loop
 returns-2 c =
-    let k = c .before .before .before .before .before .before .loop in
-    let xs = c .before .before .before .before .before .before .before .before .args .list .now in
-    passed-not fine (points modulus) refl (λ a xs. refl) xs (k .i) (omega arith) (k .inv .within)
-    (twice _ (drop (k .i) xs) (ap (absent _) (sym (lent-rest (k .i) xs)) ∙ sym (c .before .absent .ensures) ∙ not-true (c .before .absent .result) (c .if2 .taken)))
+    let k = c .before .before .before .before .before .before .before .loop in
+    let xs = c .before .before .before .before .before .before .before .before .before .args .list .now in
+    passed-not fine (points modulus) refl (λ a xs. refl) xs (k .i) (omega arith) (k .inv .passed .within)
+    (twice _ (drop (k .i) xs) (ap (absent _) (sym (lent-rest (k .i) xs)) ∙ sym (c .before .absent .ensures) ∙ not-true (c .before .absent .result) (c .if3 .taken)))
 
-loop-less : tie.Need-loop-less Inv-loop μ-loop
-loop-less c = search needs
+loop-less-2 : tie.Need-loop-less-2 Inv-loop μ-loop
+loop-less-2 c = search needs
 
-loop-again : tie.Need-loop-again Inv-loop μ-loop
-loop-again c =
-    let k = c .before .before .before .before .before .before .loop in
-    let xs = c .before .before .before .before .before .before .before .before .args .list .now in
-    passed-next fine (points modulus) refl (λ a xs. refl) xs (k .i) (omega arith) (k .inv .within) (k .inv .rest)
-    (fresh _ (drop (k .i) xs) (c .before .before .before .if1 .left)
-    (ap (absent _) (sym (lent-rest (k .i) xs)) ∙ sym (c .before .absent .ensures) ∙ not-false (c .before .absent .result) (c .if2 .left)))
+loop-again-2 : tie.Need-loop-again-2 Inv-loop μ-loop
+loop-again-2 c =
+    let k = c .before .before .before .before .before .before .before .loop in
+    let xs = c .before .before .before .before .before .before .before .before .before .args .list .now in
+    let p = k .inv .passed in
+    record {
+      passed =
+          passed-next fine (points modulus) refl (λ a xs. refl) xs (k .i) (omega arith) (p .within) (p .rest)
+          (fresh _ (drop (k .i) xs) (c .before .before .before .if2 .left)
+          (ap (absent _) (sym (lent-rest (k .i) xs)) ∙ sym (c .before .absent .ensures) ∙ not-false (c .before .absent .result) (c .if3 .left)));
+      residue = k .inv .residue;
+      above = above-back (k .low) (k .i) xs (omega arith) (p .within) (c .before .before .before .before .if1 .left) (k .inv .above);
+    }
 
 returns-3 : tie.Need-returns-3 Inv-loop μ-loop
-returns-3 c = let k = c .before .loop in passed-end fine (points modulus) refl (λ a xs. refl) _ (k .i) (omega arith) (k .inv)
+returns-3 c = let k = c .before .loop in passed-end fine (points modulus) refl (λ a xs. refl) _ (k .i) (omega arith) (k .inv .passed)
 
 pub points-spec : {M : Type 1} → statement M
 points-spec =
@@ -98,6 +151,8 @@ points-spec =
     sub-i
     mul-x
     shared-slice-read-x
+    loop-less
+    loop-again
     returns
     mul-absent
     sub-absent
@@ -105,6 +160,6 @@ points-spec =
     part-absent-end
     absent-requires
     returns-2
-    loop-less
-    loop-again
+    loop-less-2
+    loop-again-2
     returns-3)
