@@ -30,7 +30,7 @@ use Rattle.recovery.specs.Recovery.{repair}
 use Rattle.lamp.specs.Lamp.{Sized, made, reply, columnOfLamp, withDeal, firsts, withPairs, reportFrom, constant, repaired, refuse, atEnd, settled, takeDeal, hearPairs, settle, step}
 use Rattle.record.specs.Record.{nOf, tOf, reading}
 use Rattle.record.specs.declared.Reading.the-variants.{Fine}
-use Rattle.transcript.specs.Letters.{letters, field, line}
+use Rattle.text.specs.Letters.{letters, field, line}
 use Rattle.transcript.specs.Lines.{outcome, sizeLine, verdictLines, lampLine, lastLine}
 use Rattle.transcript.specs.Transcript.{numbersOf, run, lampLines, textOf, textBy, text, Whole}
 use Rattle.transcript.proofs.Runs.{whole-sizes, whole-facts, deals-count, pairs-count, reports-count, part-room}

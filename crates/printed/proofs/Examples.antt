@@ -26,7 +26,7 @@ use Rattle.record.specs.declared.Reading.the-variants.{Fine}
 use Rattle.record.specs.Bytes.{numbers, standAt}
 use Rattle.record.specs.Record.{directory, directoryRight, reading, sectionOf}
 use Rattle.writer.specs.Writer.{bytesOf, recordOf}
-use Rattle.transcript.specs.Letters.{letters, decimal}
+use Rattle.text.specs.Letters.{letters, decimal}
 use Rattle.transcript.specs.Lines.{name, names, verdictLines, lampLine, lastLine}
 use Rattle.transcript.specs.Transcript.{numbersOf, run, lampLines, textOf, textBy, text}
 use Rattle.printed.specs.Direct.{itsPairs, itsReport}

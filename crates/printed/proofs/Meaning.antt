@@ -20,7 +20,7 @@ use Rattle.field.specs.Modulus.{modulus}
 use Rattle.field.proofs.Primes.{prime}
 use Rattle.polynomial.specs.Polynomial.{Points}
 use Rattle.fit.specs.Fit.{fit}
-use Rattle.transcript.specs.Letters.{letters, digit, decimal, field, line}
+use Rattle.text.specs.Letters.{letters, digit, decimal, field, line}
 use Rattle.record.specs.Record.{reading, numberOf}
 use Rattle.transcript.specs.Lines.{name, names, openedLine, lastLine}
 use Rattle.transcript.specs.Transcript.{textOf, textBy, text}

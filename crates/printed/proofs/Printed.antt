@@ -18,7 +18,7 @@ use Rattle.parties.proofs.Parties.{party-facts}
 use Rattle.answers.specs.Answer.{numberOf}
 use Rattle.record.specs.Record.{nOf, tOf, reading}
 use Rattle.record.specs.declared.Reading.the-variants.{Fine}
-use Rattle.transcript.specs.Letters.{letters, field, line}
+use Rattle.text.specs.Letters.{letters, field, line}
 use Rattle.transcript.specs.Lines.{outcome, verdictLines, lampLine, openedLine, lastLine}
 use Rattle.transcript.specs.Transcript.{numbersOf, run, textOf, textBy, text, Whole}
 use Rattle.transcript.proofs.Runs.{whole-sizes, reports-count, shares-count}

@@ -17,7 +17,7 @@ use Rattle.consistency.specs.Deal.{rowOf, columnOf, reportOf}
 use Rattle.recovery.specs.Recovery.{repair}
 use Rattle.lamp.specs.Lamp.{firsts, constant}
 use Rattle.record.specs.Record.{nOf, tOf}
-use Rattle.transcript.specs.Letters.{letters, field, line}
+use Rattle.text.specs.Letters.{letters, field, line}
 use Rattle.transcript.specs.Lines.{sizeLine, isAccepted, verdictLines, lastLine}
 use Rattle.transcript.specs.Transcript.{numbersOf, received}
 

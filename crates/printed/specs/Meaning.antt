@@ -4,7 +4,7 @@
 -- Laws: proofs/Meaning.
 use mathlib.Core.List.{List, [], _∷_, _++_}
 use Prim.Native.Nat.{ℕ, _+_, _*_, _-_}
-use Rattle.transcript.specs.Letters.{letters, field}
+use Rattle.text.specs.Letters.{letters, field}
 
 -- Each digit counts ten times less than the one before it; 48 is the digit 0.
 abbrev pub spelt : ℕ → List ℕ → ℕ

@@ -18,7 +18,7 @@ use Rattle.consistency.specs.Deal.{rowOf, columnOf, firstFrom, secondFrom, pair
 use Rattle.lamp.specs.Lamp.{openShares}
 use Rattle.record.specs.Record.{nOf, tOf, reading}
 use Rattle.record.specs.declared.Reading.the-variants.{Fine}
-use Rattle.transcript.specs.Letters.{letters, field, line}
+use Rattle.text.specs.Letters.{letters, field, line}
 use Rattle.transcript.specs.Lines.{sizeLine, happyLine, lampLine, lastLine}
 use Rattle.transcript.specs.Transcript.{numbersOf, run, lampLines, text}
 use Rattle.agreement.specs.Calls.{Run, whole}

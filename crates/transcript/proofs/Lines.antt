@@ -3,11 +3,9 @@ use mathlib.Core.Path.{_≡_, refl, sym, ap, _∙_}
 use mathlib.Core.Bool.{Bool, true, false, not, true≢false, false≢true}
 use mathlib.Core.Option.{Option, none, some}
 use mathlib.Core.List.{List, [], _++_}
-use Prim.Native.Nat.{ℕ, _+_, _-_, _/_, _%_, _^_, _≤_}
+use Prim.Native.Nat.{ℕ, _+_, _-_, _/_, _%_, _^_}
 use native.Mathlib.Numerals.{add-one}
-use native.Mathlib.Omega.{arith}
 use borrow.Author.Tests.{eq-eqb, ne-eqb}
-use lib.Dec.{lit≤}
 use lib.ListN.{length, getD}
 use Rattle.lists.proofs.Padded.{getD-zeros}
 use Rattle.field.specs.Modulus.{modulus}
@@ -15,14 +13,13 @@ use Rattle.fit.specs.declared.Fitted.{Fitted}
 use Rattle.fit.specs.Fit.{fit}
 use Rattle.fit.specs.Answer.{answer}
 use Rattle.parties.specs.Parties.{points}
-use Rattle.answers.specs.declared.Refusal.{Refusal}
 use Rattle.answers.specs.declared.Refusal.the-variants.{WrongSize, WrongNumber, WrongLength, WrongStage, AlteredReport, DealerRejected, NoColumn, NoOpening}
 use Rattle.answers.specs.declared.Answer.{Answer}
 use Rattle.answers.specs.declared.Answer.the-variants.{Done, Pair, Report, Accepted, Opened, Refused}
 use Rattle.lamp.specs.declared.Reply.{Reply}
-use Rattle.answers.specs.Answer.{refusalNumber, numberOf}
-use Rattle.transcript.specs.Letters.{letters, field, line}
-use Rattle.transcript.specs.Lines.{name, names, happyLine, verdictLines, outcome, lampLine, orZero, openedLine, lastLine}
+use Rattle.answers.specs.Answer.{numberOf}
+use Rattle.text.specs.Letters.{letters, field, line}
+use Rattle.transcript.specs.Lines.{name, names, happyLine, verdictLines, outcome, outcomeBy, lampLine, orZero, openedLine, openedBy, lastLine}
 
 -- ---- the happy lamps
 module _ (set k : ℕ) where
@@ -50,68 +47,60 @@ verdict-rejected true set n e = absurd (false≢true e)
 verdict-rejected false set n e = refl
 
 -- ---- a lamp: no refusal has the number 0
-refusal-number : (why : Refusal) → 1 ≤ refusalNumber why
-refusal-number WrongSize = lit≤ tt
-refusal-number WrongNumber = lit≤ tt
-refusal-number WrongLength = lit≤ tt
-refusal-number WrongStage = lit≤ tt
-refusal-number AlteredReport = lit≤ tt
-refusal-number DealerRejected = lit≤ tt
-refusal-number NoColumn = lit≤ tt
-refusal-number NoOpening = lit≤ tt
+outcome-by : (a : Answer) (v : ℕ) → outcomeBy (letters " share ") (orZero (numberOf a)) v ≡ outcome v (numberOf a)
+outcome-by Done v = refl
+outcome-by (Pair x y) v = refl
+outcome-by (Report x) v = refl
+outcome-by Accepted v = refl
+outcome-by (Opened x) v = refl
+outcome-by (Refused WrongSize) v = refl
+outcome-by (Refused WrongNumber) v = refl
+outcome-by (Refused WrongLength) v = refl
+outcome-by (Refused WrongStage) v = refl
+outcome-by (Refused AlteredReport) v = refl
+outcome-by (Refused DealerRejected) v = refl
+outcome-by (Refused NoColumn) v = refl
+outcome-by (Refused NoOpening) v = refl
 
-outcome-share : (a : Answer) (v : ℕ) → orZero (numberOf a) ≡ 0 → line (letters " share ") v ≡ outcome v (numberOf a)
-outcome-share Done v h = refl
-outcome-share (Pair x y) v h = refl
-outcome-share (Report x) v h = refl
-outcome-share Accepted v h = refl
-outcome-share (Opened x) v h = refl
-outcome-share (Refused why) v h = absurd (omega (arith, refusal-number why))
+pub lamp-by : (i k : ℕ) (r : Reply) → k ≡ orZero (numberOf (r .answer))
+    → field (letters "lamp ") i ++ outcomeBy (letters " share ") k (r .lamp .share) ≡ lampLine i r
+unfolding lampLine
+lamp-by i k r e =
+    ap (λ m. field (letters "lamp ") i ++ outcomeBy (letters " share ") m (r .lamp .share)) e
+    ∙ ap (λ w. field (letters "lamp ") i ++ w) (outcome-by (r .answer) (r .lamp .share))
 
-outcome-refused : (a : Answer) (v : ℕ) → (orZero (numberOf a) ≡ 0 → ⊥) → line (letters " refused ") (orZero (numberOf a)) ≡ outcome v (numberOf a)
-outcome-refused Done v h = absurd (h refl)
-outcome-refused (Pair x y) v h = absurd (h refl)
-outcome-refused (Report x) v h = absurd (h refl)
-outcome-refused Accepted v h = absurd (h refl)
-outcome-refused (Opened x) v h = absurd (h refl)
-outcome-refused (Refused why) v h = refl
+-- ---- a value or a refusal
+pub outcome-value : (word : List ℕ) (k v : ℕ) → k ≡ 0 → line word v ≡ outcomeBy word k v
+outcome-value word k v e = rw (eq-eqb k 0 e)
 
-module _ (i k : ℕ) (r : Reply) (e : k ≡ orZero (numberOf (r .answer))) where
-  pub lamp-share : k ≡ 0 → field (letters "lamp ") i ++ line (letters " share ") (r .lamp .share) ≡ lampLine i r
-  unfolding lampLine
-  lamp-share h = ap (λ w. field (letters "lamp ") i ++ w) (outcome-share (r .answer) (r .lamp .share) (sym e ∙ h))
-
-  pub lamp-refused : (k ≡ 0 → ⊥) → field (letters "lamp ") i ++ line (letters " refused ") k ≡ lampLine i r
-  unfolding lampLine
-  lamp-refused h =
-      ap (λ m. field (letters "lamp ") i ++ line (letters " refused ") m) e
-      ∙ ap (λ w. field (letters "lamp ") i ++ w) (outcome-refused (r .answer) (r .lamp .share) (λ z. h (e ∙ z)))
+pub outcome-refused : (word : List ℕ) (k v : ℕ) → (k ≡ 0 → ⊥) → line (letters " refused ") k ≡ outcomeBy word k v
+outcome-refused word k v d = rw (ne-eqb k 0 d)
 
 -- ---- the opening, by the two fields of what the decoding answers
-opened-found : (r : Fitted) (o : Option (List ℕ)) → r ≡ answer o → r .found ≡ true → line (letters "opened ") (getD (r .coefficients) 0 0) ≡ openedLine o
+opened-found : (r : Fitted) (o : Option (List ℕ)) → r ≡ answer o → r .found ≡ true → openedBy 0 (getD (r .coefficients) 0 0) ≡ openedLine o
 opened-found r none e h = absurd (false≢true (sym (ap (λ (a : Fitted). a .found) e) ∙ h))
 opened-found r (some f) e h =
-    ap (λ (a : Fitted). line (letters "opened ") (getD (a .coefficients) 0 0)) e
-    ∙ ap (line (letters "opened ")) (getD-zeros f (4 - length f) 0)
+    ap (λ (a : Fitted). openedBy 0 (getD (a .coefficients) 0 0)) e
+    ∙ ap (openedBy 0) (getD-zeros f (4 - length f) 0)
 
-opened-not : (r : Fitted) (o : Option (List ℕ)) → r ≡ answer o → r .found ≡ false → line (letters "opened refused ") 10 ≡ openedLine o
+opened-not : (r : Fitted) (o : Option (List ℕ)) → r ≡ answer o → r .found ≡ false → openedBy 10 0 ≡ openedLine o
 opened-not r none e h = refl
 opened-not r (some f) e h = absurd (true≢false (sym (ap (λ (a : Fitted). a .found) e) ∙ h))
 
 module _ (n t : ℕ) (shares : List ℕ) where
-  pub last-rejected : (b : Bool) → not b ≡ true → line (letters "opened refused ") 8 ≡ lastLine b n t shares
+  pub last-rejected : (b : Bool) → not b ≡ true → openedBy 8 0 ≡ lastLine b n t shares
   unfolding lastLine
   last-rejected true e = absurd (false≢true e)
   last-rejected false e = refl
 
   pub last-found : (b : Bool) → not b ≡ false → (r : Fitted) → r ≡ answer (fit modulus t (n - t) (points n) shares) → r .found ≡ true
-      → line (letters "opened ") (getD (r .coefficients) 0 0) ≡ lastLine b n t shares
+      → openedBy 0 (getD (r .coefficients) 0 0) ≡ lastLine b n t shares
   unfolding lastLine
   last-found true s r e h = opened-found r (fit modulus t (n - t) (points n) shares) e h
   last-found false s r e h = absurd (true≢false s)
 
   pub last-not : (b : Bool) → not b ≡ false → (r : Fitted) → r ≡ answer (fit modulus t (n - t) (points n) shares) → r .found ≡ false
-      → line (letters "opened refused ") 10 ≡ lastLine b n t shares
+      → openedBy 10 0 ≡ lastLine b n t shares
   unfolding lastLine
   last-not true s r e h = opened-not r (fit modulus t (n - t) (points n) shares) e h
   last-not false s r e h = absurd (true≢false s)

@@ -9,8 +9,8 @@ use lib.ListN.{length, drop, take-append-drop}
 use Rattle.happy.specs.Happy.{happySet}
 use Rattle.record.specs.declared.Reading.{Reading}
 use Rattle.record.specs.declared.Reading.the-variants.{Fine, WrongSize, WrongDirectory}
-use Rattle.record.specs.Record.{nOf, tOf, reading, numberOf}
-use Rattle.transcript.specs.Letters.{Added, letters, line}
+use Rattle.record.specs.Record.{nOf, tOf, reading}
+use Rattle.text.specs.Letters.{Added, letters, line}
 use Rattle.transcript.specs.Lines.{sizeLine, isAccepted, verdictLines, lastLine}
 use Rattle.transcript.specs.Transcript.{numbersOf, lampLines, textOf, textBy, text, rendering}
 
@@ -21,30 +21,28 @@ unfolding textOf
 text-pieces bytes n t set good e g = rw (g, e)
 
 -- ---- by what the reader answered
-module _ (a : Reading) (bytes : List ℕ) where
-  pub text-fine : a ≡ Fine → textOf bytes (nOf bytes) (tOf bytes) ≡ textBy (numberOf a) bytes
-  unfolding textBy
-  text-fine e = rw e
+module _ (a : Reading) (bytes : List ℕ) (e : a ≡ reading bytes) where
+  pub text-fine : a ≡ Fine → textOf bytes (nOf bytes) (tOf bytes) ≡ text bytes
+  unfolding text textBy
+  text-fine f = rw (← e, f)
 
-  pub text-size : a ≡ WrongSize → line (letters "record refused ") 1 ≡ textBy (numberOf a) bytes
-  unfolding textBy
-  text-size e = rw e
+  pub text-size : a ≡ WrongSize → line (letters "record refused ") 1 ≡ text bytes
+  unfolding text textBy
+  text-size f = rw (← e, f)
 
-  pub text-directory : a ≡ WrongDirectory → line (letters "record refused ") 6 ≡ textBy (numberOf a) bytes
-  unfolding textBy
-  text-directory e = rw e
+  pub text-directory : a ≡ WrongDirectory → line (letters "record refused ") 6 ≡ text bytes
+  unfolding text textBy
+  text-directory f = rw (← e, f)
 
 -- ---- the buffer
 pub render-small : (bytes out : List ℕ) → length out < 512 → (out, 0) ≡ rendering bytes out
 unfolding rendering
 render-small bytes out h = rw (lt-leb 512 (length out) h)
 
-pub render-large : (bytes out after : List ℕ) (r : ℕ) (a : Reading) → 512 ≤ length out → a ≡ reading bytes → Added out 0 (textBy (numberOf a) bytes) after r
-    → (after, r) ≡ rendering bytes out
-unfolding rendering text
-render-large bytes out after r a h e d =
-    let it = textBy (numberOf a) bytes in
-    let long : r ≡ length it = omega (arith, d .next) in
-    let whole : after ≡ it ++ drop (length it) out =
+pub render-large : (bytes out after : List ℕ) (r : ℕ) → 512 ≤ length out → Added out 0 (text bytes) after r → (after, r) ≡ rendering bytes out
+unfolding rendering
+render-large bytes out after r h d =
+    let long : r ≡ length (text bytes) = omega (arith, d .next) in
+    let whole : after ≡ text bytes ++ drop (length (text bytes)) out =
     sym (take-append-drop r after) ∙ ap₂ _++_ (d .text) (d .rest ∙ ap (λ m. drop m out) long) in
-    rw (le-leb 512 (length out) h, ← e) (ap₂ (λ (x : List ℕ) (y : ℕ). (x, y)) whole long)
+    rw (le-leb 512 (length out) h) (ap₂ (λ (x : List ℕ) (y : ℕ). (x, y)) whole long)

@@ -3,13 +3,14 @@
 --   verdictLines accepted set n           the verdict, and the happy lamps of an accepted dealer
 --   lampLine i r                          what lamp i holds, or why it refused, by its reply
 --   openedLine f, lastLine accepted n t shares   what the published shares open
+--   outcomeBy word k v, openedBy k v      a value or a refusal, by the refusal's number
 -- Laws: proofs/Lines.
 use mathlib.Core.Bool.{Bool, cond}
 use mathlib.Core.Option.{Option, none, some}
 use mathlib.Core.List.{List, [], _++_}
 use Prim.Native.Nat.{ℕ, zero, suc, _-_}
 use lib.Count.{ones}
-use lib.Dec.{leb}
+use lib.Dec.{eqb, leb}
 use Rattle.lists.specs.Masks.{bit}
 use Rattle.field.specs.Modulus.{modulus}
 use Rattle.fit.specs.Fit.{fit}
@@ -18,7 +19,7 @@ use Rattle.answers.specs.declared.Refusal.the-variants.{DealerRejected, NoOpeni
 use Rattle.lamp.specs.declared.Reply.{Reply}
 use Rattle.answers.specs.Answer.{refusalNumber, numberOf}
 use Rattle.lamp.specs.Lamp.{constant}
-use Rattle.transcript.specs.Letters.{letters, field, line}
+use Rattle.text.specs.Letters.{letters, field, line}
 
 -- "size n t"
 abbrev pub sizeLine : ℕ → ℕ → List ℕ
@@ -63,7 +64,15 @@ abbrev pub orZero : Option ℕ → ℕ
 orZero none = 0
 orZero (some k) = k
 
+-- By that number: the word and the value where it is 0, otherwise " refused k".
+abbrev pub outcomeBy : List ℕ → ℕ → ℕ → List ℕ
+outcomeBy word refusal value = cond (eqb refusal 0) (line word value) (line (letters " refused ") refusal)
+
 -- ---- the opening
+
+-- "opened v" or "opened refused k", as the code puts it.
+abbrev pub openedBy : ℕ → ℕ → List ℕ
+openedBy refusal value = letters "opened" ++ outcomeBy (letters " ") refusal value
 
 -- "opened v", v being the constant of the polynomial that fits, or "opened refused 10".
 abbrev pub openedLine : Option (List ℕ) → List ℕ

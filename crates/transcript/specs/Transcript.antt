@@ -16,13 +16,12 @@ use lib.ListN.{length, take, drop}
 use Rattle.field.specs.Modulus.{modulus}
 use Rattle.happy.specs.Happy.{happySet}
 use Rattle.dealer.specs.Desk.{stretch}
-use Rattle.lamp.specs.declared.Lamp.{Lamp}
 use Rattle.lamp.specs.declared.Reply.{Reply}
 use Rattle.lamp.specs.Lamp.{made, Call, takeDeal, hearPairs, settle, step, after}
 use Rattle.record.specs.declared.Reading.the-variants.{Fine}
 use Rattle.record.specs.Bytes.{numbers}
 use Rattle.record.specs.Record.{nOf, tOf, reading, numberOf, sectionOf}
-use Rattle.transcript.specs.Letters.{letters, line}
+use Rattle.text.specs.Letters.{letters, line}
 use Rattle.transcript.specs.Lines.{sizeLine, isAccepted, verdictLines, lampLine, lastLine}
 
 -- The numbers of section k.

@@ -6,20 +6,16 @@ ghost use Prim.Native.Nat.{_+_, _*_, _-_, _≤_};
 ghost use lib.ListN.{length, take, drop};
 ghost use Rattle.field.specs.Modulus.{modulus};
 ghost use Rattle.happy.specs.Happy.{happySet};
+ghost use Rattle.fit.specs.Fit.{fit};
+ghost use Rattle.fit.specs.Answer.{answer};
 ghost use Rattle.parties.specs.Parties.{sizes, points};
-ghost use Rattle.record.specs.Record.{nOf, tOf, reading, numberOf as readingNumber};
 ghost use Rattle.answers.specs.Answer.{numberOf};
 ghost use Rattle.lamp.specs.Lamp.{made, after};
-ghost use Rattle.transcript.specs.Letters.{Added};
-ghost use Rattle.transcript.specs.Lines.{sizeLine, isAccepted, name, names, verdictLines, lampLine, orZero, lastLine};
-ghost use Rattle.transcript.specs.Transcript.{numbersOf, dealCall, pairsCall, run, lampLines, textOf, textBy, rendering, Whole};
-
-mod pieces;
-
-use crate::pieces::put;
-use crate::pieces::put_field;
-use crate::pieces::put_line;
+ghost use Rattle.text.specs.Letters.{Added, letters, line};
+ghost use Rattle.transcript.specs.Lines.{sizeLine, isAccepted, name, names, happyLine, verdictLines, outcomeBy, lampLine, orZero, openedBy, lastLine};
+ghost use Rattle.transcript.specs.Transcript.{numbersOf, dealCall, pairsCall, run, lampLines, textOf, text, rendering, Whole};
 use answers::Answer;
+use fit::Fitted;
 use lamp::Lamp;
 use lamp::Reply;
 use record::Reading;
@@ -32,8 +28,8 @@ fn put_size(out: &mut [u8], n: u8, t: u8) -> usize
     ensures { λ r. ⌜ Added (now (out .entry)) 0 (sizeLine n t) (now (out .exit)) r ⌝ }
     ensures short { λ r. ⌜ r ≤ 17 ⌝ }
 {
-    let next = put_field(out, 0, b"size ", n as u16);
-    put_line(out, next, b" ", t as u16)
+    let next = text::put_field(out, 0, b"size ", n as u16);
+    text::put_line(out, next, b" ", t as u16)
 }
 
 // Whether the dealer is accepted with this happy set.
@@ -51,7 +47,7 @@ fn put_name(out: &mut [u8], at: usize, set: u16, k: u8) -> usize
     ensures short { λ r. ⌜ r ≤ at + 3 ⌝ }
 {
     if (set >> k) % 2 == 1 {
-        return put_field(out, at, b" ", k as u16 + 1);
+        return text::put_field(out, at, b" ", k as u16 + 1);
     }
     at
 }
@@ -69,6 +65,17 @@ fn put_names(out: &mut [u8], at: usize, set: u16, n: u8) -> usize
     next
 }
 
+// Puts the line of the happy lamps.
+fn put_happy(out: &mut [u8], at: usize, set: u16, n: u8) -> usize
+    requires { ⌜ (n ≤ 16) × (at + 60 ≤ length (now out)) ⌝ }
+    ensures { λ r. ⌜ Added (now (out .entry)) at (happyLine set n) (now (out .exit)) r ⌝ }
+    ensures short { λ r. ⌜ r ≤ at + 54 ⌝ }
+{
+    let word = text::put(out, at, b"happy");
+    let listed = put_names(out, word, set, n);
+    text::put(out, listed, b"\n")
+}
+
 // Puts the verdict, and the happy line where the dealer is accepted.
 fn put_verdict(out: &mut [u8], at: usize, accepted: bool, set: u16, n: u8) -> usize
     requires { ⌜ (n ≤ 16) × (at + 76 ≤ length (now out)) ⌝ }
@@ -76,12 +83,22 @@ fn put_verdict(out: &mut [u8], at: usize, accepted: bool, set: u16, n: u8) -> us
     ensures short { λ r. ⌜ r ≤ at + 70 ⌝ }
 {
     if !accepted {
-        return put(out, at, b"dealer rejected\n");
+        return text::put(out, at, b"dealer rejected\n");
     }
-    let verdict = put(out, at, b"dealer accepted\n");
-    let word = put(out, verdict, b"happy");
-    let listed = put_names(out, word, set, n);
-    put(out, listed, b"\n")
+    let verdict = text::put(out, at, b"dealer accepted\n");
+    put_happy(out, verdict, set, n)
+}
+
+// Puts the word and the value, or the refusal where there is one.
+fn put_outcome(out: &mut [u8], at: usize, word: &[u8], refusal: u8, value: u16) -> usize
+    requires { ⌜ (length (now word) ≤ 9) × (at + 15 ≤ length (now out)) ⌝ }
+    ensures { λ r. ⌜ Added (now (out .entry)) at (outcomeBy (now (word .entry)) refusal value) (now (out .exit)) r ⌝ }
+    ensures short { λ r. ⌜ r ≤ at + 15 ⌝ }
+{
+    if refusal == 0 {
+        return text::put_line(out, at, word, value);
+    }
+    text::put_line(out, at, b" refused ", refusal as u16)
 }
 
 // Document 01's number of an answer, 0 where the call is accepted.
@@ -104,14 +121,31 @@ fn put_lamp(out: &mut [u8], at: usize, i: u8, reply: Reply) -> usize
     ensures { λ r. ⌜ Added (now (out .entry)) at (lampLine i reply) (now (out .exit)) r ⌝ }
     ensures short { λ r. ⌜ r ≤ at + 22 ⌝ }
 {
-    let next = put_field(out, at, b"lamp ", i as u16);
     let lamp = reply.lamp;
     let answer = reply.answer;
-    let k = number_of(answer);
-    if k == 0 {
-        return put_line(out, next, b" share ", lamp.share);
-    }
-    put_line(out, next, b" refused ", k as u16)
+    let refusal = number_of(answer);
+    let next = text::put_field(out, at, b"lamp ", i as u16);
+    put_outcome(out, next, b" share ", refusal, lamp.share)
+}
+
+// Puts what is opened, or the refusal where there is one.
+fn put_opened(out: &mut [u8], at: usize, refusal: u8, value: u16) -> usize
+    requires { ⌜ at + 21 ≤ length (now out) ⌝ }
+    ensures { λ r. ⌜ Added (now (out .entry)) at (openedBy refusal value) (now (out .exit)) r ⌝ }
+    ensures short { λ r. ⌜ r ≤ at + 21 ⌝ }
+{
+    let next = text::put(out, at, b"opened");
+    put_outcome(out, next, b" ", refusal, value)
+}
+
+// The polynomial that fits the published shares.
+fn fitted(n: u8, t: u8, shares: &[u16]) -> Fitted
+    requires { ⌜ (sizes n t ≡ true) × (length (now shares) ≡ n) ⌝ }
+    ensures { λ r. ⌜ r ≡ answer (fit modulus t (n - t) (points n) (now (shares .entry))) ⌝ }
+{
+    let xs = parties::points();
+    let count = n as usize;
+    fit::fit(t as usize, (n - t) as usize, &xs[..count], shares)
 }
 
 // Puts what the published shares open, or 8 after a rejected dealer.
@@ -121,16 +155,14 @@ fn put_last(out: &mut [u8], at: usize, accepted: bool, n: u8, t: u8, shares: &[u
     ensures short { λ r. ⌜ r ≤ at + 21 ⌝ }
 {
     if !accepted {
-        return put_line(out, at, b"opened refused ", 8);
+        return put_opened(out, at, 8, 0);
     }
-    let xs = parties::points();
-    let count = n as usize;
-    let fitted = fit::fit(t as usize, (n - t) as usize, &xs[..count], shares);
-    if fitted.found {
-        let f = fitted.coefficients;
-        return put_line(out, at, b"opened ", f[0]);
+    let opening = fitted(n, t, shares);
+    if opening.found {
+        let f = opening.coefficients;
+        return put_opened(out, at, 0, f[0]);
     }
-    put_line(out, at, b"opened refused ", 10)
+    put_opened(out, at, 10, 0)
 }
 
 // ---- the lamps
@@ -235,15 +267,25 @@ fn put_record(out: &mut [u8], bytes: &[u8], n: u8, t: u8) -> usize
     put_end(out, lamps, good, bytes, n, t)
 }
 
-// Puts the text by what the reader answered.
-fn put_text(out: &mut [u8], bytes: &[u8], answer: Reading) -> usize
-    requires { ⌜ (answer ≡ reading (now bytes)) × (512 ≤ length (now out)) ⌝ }
-    ensures { λ r. ⌜ Added (now (out .entry)) 0 (textBy (readingNumber answer) (now (bytes .entry))) (now (out .exit)) r ⌝ }
+// Puts the one line of a refused record.
+fn put_refused(out: &mut [u8], k: u16) -> usize
+    requires { ⌜ 21 ≤ length (now out) ⌝ }
+    ensures { λ r. ⌜ Added (now (out .entry)) 0 (line (letters "record refused ") k) (now (out .exit)) r ⌝ }
+    ensures short { λ r. ⌜ r ≤ 21 ⌝ }
+{
+    text::put_line(out, 0, b"record refused ", k)
+}
+
+// Puts the text by what the reader answers.
+fn put_text(out: &mut [u8], bytes: &[u8]) -> usize
+    requires { ⌜ 512 ≤ length (now out) ⌝ }
+    ensures { λ r. ⌜ Added (now (out .entry)) 0 (text (now (bytes .entry))) (now (out .exit)) r ⌝ }
     ensures short { λ r. ⌜ r ≤ 512 ⌝ }
 {
+    let answer = record::read(bytes);
     match answer {
-        Reading::WrongSize => put_line(out, 0, b"record refused ", 1),
-        Reading::WrongDirectory => put_line(out, 0, b"record refused ", 6),
+        Reading::WrongSize => put_refused(out, 1),
+        Reading::WrongDirectory => put_refused(out, 6),
         Reading::Fine => put_record(out, bytes, bytes[0], bytes[1]),
     }
 }
@@ -258,6 +300,5 @@ pub fn render(bytes: &[u8], out: &mut [u8]) -> usize
     if out.len() < 512 {
         return 0;
     }
-    let answer = record::read(bytes);
-    put_text(out, bytes, answer)
+    put_text(out, bytes)
 }

@@ -1,7 +1,7 @@
 -- Laws of writing: what is writable, the buffer after each section, and which answer when.
 --   Writable   what the tests of `writable` say
 --   Stage      everything before section k is written, and from its start on the buffer is as it was
-use mathlib.Core.Path.{_≡_, refl, sym, ap, ap₂, subst, _∙_}
+use mathlib.Core.Path.{_≡_, refl, sym, ap, ap₂, _∙_}
 use mathlib.Core.Bool.{Bool, true, false, cond, _&&_, and-eq-true-iff}
 use mathlib.Core.Option.{none, some}
 use mathlib.Core.List.{List, [], _∷_, _++_, append-assoc}

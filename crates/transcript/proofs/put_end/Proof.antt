@@ -2,7 +2,7 @@
 use mathlib.Core.Path.{sym, subst}
 use native.Mathlib.Omega.{arith}
 use lib.Seq.{length-take-le}
-use Rattle.transcript.specs.Letters.{Added}
+use Rattle.text.specs.Letters.{Added}
 use Rattle.transcript.specs.Lines.{lastLine}
 use Rattle.transcript.specs.Transcript.{numbersOf}
 use Rattle.transcript.proofs.Runs.{whole-sizes, whole-facts, shares-count, part-all}

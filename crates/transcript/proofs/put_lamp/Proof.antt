@@ -1,12 +1,23 @@
--- `transcript::put_lamp` meets its contract: the lamp refused or not.
+-- `transcript::put_lamp` meets its contract: what the lamp answered stands behind its number.
 use mathlib.Core.Path.{subst}
+use Prim.Native.Nat.{_+_, _≤_}
 use native.Mathlib.Omega.{arith}
-use Rattle.transcript.specs.Letters.{Added, letters}
-use Rattle.transcript.proofs.Letters.{then, field-two}
-use Rattle.transcript.proofs.Lines.{lamp-share, lamp-refused}
+use Rattle.text.specs.Letters.{Added, letters, field}
+use Rattle.text.proofs.Letters.{then, field-two, field-added}
+use Rattle.transcript.proofs.Lines.{lamp-by}
 use borrow.Author.Needs.{needs}
 use Rattle.transcript.proofs.put_lamp.Statement.{statement}
 use Rattle.transcript.proofs.put_lamp.Tie as tie
+
+-- The lamp's number is put, in at most two digits.
+named : (c : tie.After-put-field) → let a = c .before .before .before .before .before .before .args in Added (a .out .now) (a .at) (field (letters "lamp ") (a .i)) (c .put-field .last .0) (c .put-field .result)
+named c = field-added _ _ _ _ _ _ (c .put-field .ensures .0) (omega arith)
+
+short : (c : tie.After-put-field) → c .put-field .result ≤ c .before .before .before .before .before .before .args .at + 7
+short c = omega (arith, named c .next, field-two (letters "lamp ") (c .before .before .before .before .before .before .args .i) (omega arith))
+
+number-of-requires : tie.Need-number-of-requires
+number-of-requires c κs = search needs
 
 slice-aggregate-put-field : tie.Need-slice-aggregate-put-field
 slice-aggregate-put-field c = search needs
@@ -14,63 +25,31 @@ slice-aggregate-put-field c = search needs
 put-field-requires : tie.Need-put-field-requires
 put-field-requires c κs = search needs
 
-number-of-requires : tie.Need-number-of-requires
-number-of-requires c κs = search needs
+slice-aggregate-put-outcome : tie.Need-slice-aggregate-put-outcome
+slice-aggregate-put-outcome c = search needs
 
-slice-aggregate-put-line : tie.Need-slice-aggregate-put-line
-slice-aggregate-put-line c = search needs
-
-put-line-requires : tie.Need-put-line-requires
-put-line-requires c κs = omega (arith, c .before .before .before .before .before .before .before .put-field .ensures .0 .next, field-two (letters "lamp ") (c .before .before .before .before .before .before .before .before .before .before .before .args .i) (omega arith))
+put-outcome-requires : tie.Need-put-outcome-requires
+put-outcome-requires c κs = (omega arith, omega (arith, short (c .before .before .before .before)))
 
 same-length : tie.Need-same-length
 same-length c = search needs
 
 returns : tie.Need-returns
 returns c =
-    let p = c .before .before in
-    let q = p .before .before .before .before .before .before .before .before in
-    let a = p .before .before .before .before .before .before .before .before .before .before .before .before .args in (
-      subst (λ w. Added (a .out .now) (a .at) w (p .put-line .last .0) (p .put-line .result)) (lamp-share (a .i) (p .before .before .before .before .number-of .result) (a .reply) (p .before .before .before .before .number-of .ensures) (p .before .before .before .if1 .taken))
-          (then _ _ _ _ _ _ _ _ (q .put-field .ensures .0) (p .put-line .ensures .0)),
-      omega (arith, p .put-line .ensures .1, q .put-field .ensures .0 .next, field-two (letters "lamp ") (a .i) (omega arith)),
-    )
-
-slice-aggregate-put-line-2 : tie.Need-slice-aggregate-put-line-2
-slice-aggregate-put-line-2 c = search needs
-
-cast-put-line : tie.Need-cast-put-line
-cast-put-line c = search needs
-
-put-line-requires-2 : tie.Need-put-line-requires-2
-put-line-requires-2 c κs = omega (arith, c .before .before .before .before .before .before .before .put-field .ensures .0 .next, field-two (letters "lamp ") (c .before .before .before .before .before .before .before .before .before .before .before .args .i) (omega arith))
-
-same-length-2 : tie.Need-same-length-2
-same-length-2 c = search needs
-
-returns-2 : tie.Need-returns-2
-returns-2 c =
-    let p = c .before .before in
-    let q = p .before .before .before .before .before .before .before .before in
-    let a = p .before .before .before .before .before .before .before .before .before .before .before .before .args in (
-      subst (λ w. Added (a .out .now) (a .at) w (p .put-line2 .last .0) (p .put-line2 .result)) (lamp-refused (a .i) (p .before .before .before .before .number-of .result) (a .reply) (p .before .before .before .before .number-of .ensures) (p .before .before .before .if1 .left))
-          (then _ _ _ _ _ _ _ _ (q .put-field .ensures .0) (p .put-line2 .ensures .0)),
-      omega (arith, p .put-line2 .ensures .1, q .put-field .ensures .0 .next, field-two (letters "lamp ") (a .i) (omega arith)),
-    )
+    let q = c .before .before .before .before .before .before .before in
+    let p = c .before .before .put-outcome in
+    let k = c .before .before .before .before .before .before .before .before .before .before .number-of in
+    let a = c .before .before .before .before .before .before .before .before .before .before .before .before .before .args in
+    (subst (λ w. Added (a .out .now) (a .at) w (p .last .0) (p .result)) (lamp-by (a .i) (k .result) (a .reply) (k .ensures)) (then _ _ _ _ _ _ _ _ (named q) (p .ensures .0)), omega (arith, short q, p .ensures .1))
 
 pub put-lamp-spec : {M : Type 1} → statement M
 put-lamp-spec =
     tie.close
     (tie.spec
+    number-of-requires
     slice-aggregate-put-field
     put-field-requires
-    number-of-requires
-    slice-aggregate-put-line
-    put-line-requires
+    slice-aggregate-put-outcome
+    put-outcome-requires
     same-length
-    returns
-    slice-aggregate-put-line-2
-    cast-put-line
-    put-line-requires-2
-    same-length-2
-    returns-2)
+    returns)

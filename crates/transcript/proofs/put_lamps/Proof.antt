@@ -5,10 +5,10 @@ use mathlib.Core.List.{_++_}
 use Prim.Native.Nat.{_+_, _*_, _-_, _≤_}
 use native.Mathlib.Omega.{arith}
 use lib.ListN.{length}
-use Rattle.transcript.specs.Letters.{Added}
+use Rattle.text.specs.Letters.{Added}
 use Rattle.transcript.specs.Lines.{lampLine}
 use Rattle.transcript.specs.Transcript.{lampLines}
-use Rattle.transcript.proofs.Letters.{then, nothing}
+use Rattle.text.proofs.Letters.{then, nothing}
 use Rattle.transcript.proofs.Runs.{lamps-more}
 use Rattle.transcript.proofs.put_lamps.Statement.{statement}
 use Rattle.transcript.proofs.put_lamps.Tie as tie

@@ -2,8 +2,8 @@
 use mathlib.Core.Path.{subst}
 use Prim.Native.Nat.{_+_}
 use native.Mathlib.Omega.{arith}
-use Rattle.transcript.specs.Letters.{Added, letters}
-use Rattle.transcript.proofs.Letters.{field-two, nothing}
+use Rattle.text.specs.Letters.{Added, letters, field}
+use Rattle.text.proofs.Letters.{field-two, field-added, nothing}
 use Rattle.transcript.proofs.Lines.{name-in, name-out}
 use borrow.Author.Needs.{needs}
 use Rattle.transcript.proofs.put_name.Statement.{statement}
@@ -27,9 +27,10 @@ same-length c = search needs
 returns : tie.Need-returns
 returns c =
     let p = c .before .before in
-    let a = p .before .before .before .before .before .args in (
-      subst (λ w. Added (a .out .now) (a .at) w (p .put-field .last .0) (p .put-field .result)) (name-in (a .set) (a .k) (p .before .before .before .if1 .taken)) (p .put-field .ensures .0),
-      omega (arith, p .put-field .ensures .0 .next, field-two (letters " ") (a .k + 1) (omega arith)),
+    let a = p .before .before .before .before .before .args in
+    let e : Added (a .out .now) (a .at) (field (letters " ") (a .k + 1)) (p .put-field .last .0) (p .put-field .result) = field-added _ _ _ _ _ _ (p .put-field .ensures .0) (omega arith) in (
+      subst (λ w. Added (a .out .now) (a .at) w (p .put-field .last .0) (p .put-field .result)) (name-in (a .set) (a .k) (p .before .before .before .if1 .taken)) e,
+      omega (arith, e .next, field-two (letters " ") (a .k + 1) (omega arith)),
     )
 
 returns-2 : tie.Need-returns-2

@@ -4,9 +4,9 @@ use mathlib.Core.Path.{_≡_, refl, subst, _∙_}
 use Prim.Native.Nat.{_+_, _*_, _-_, _≤_}
 use native.Mathlib.Omega.{arith}
 use lib.ListN.{length}
-use Rattle.transcript.specs.Letters.{Added}
+use Rattle.text.specs.Letters.{Added}
 use Rattle.transcript.specs.Lines.{names}
-use Rattle.transcript.proofs.Letters.{then, nothing}
+use Rattle.text.proofs.Letters.{then, nothing}
 use Rattle.transcript.proofs.Lines.{names-more}
 use Rattle.transcript.proofs.put_names.Statement.{statement}
 use Rattle.transcript.proofs.put_names.Tie as tie

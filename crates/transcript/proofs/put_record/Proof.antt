@@ -1,8 +1,8 @@
 -- `transcript::put_record` meets its contract: four pieces one behind the other.
 use mathlib.Core.Path.{subst}
 use native.Mathlib.Omega.{arith}
-use Rattle.transcript.specs.Letters.{Added}
-use Rattle.transcript.proofs.Letters.{then}
+use Rattle.text.specs.Letters.{Added}
+use Rattle.text.proofs.Letters.{then}
 use Rattle.transcript.proofs.Runs.{whole-facts}
 use Rattle.transcript.proofs.Texts.{text-pieces}
 use borrow.Author.Needs.{needs}

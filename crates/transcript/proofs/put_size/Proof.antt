@@ -1,5 +1,6 @@
 -- `transcript::put_size` meets its contract: two pieces one behind the other.
-use Rattle.transcript.proofs.Letters.{then}
+use native.Mathlib.Omega.{arith}
+use Rattle.text.proofs.Letters.{then, field-added, line-added}
 use borrow.Author.Needs.{needs}
 use Rattle.transcript.proofs.put_size.Statement.{statement}
 use Rattle.transcript.proofs.put_size.Tie as tie
@@ -20,7 +21,10 @@ same-length : tie.Need-same-length
 same-length c = search needs
 
 returns : tie.Need-returns
-returns c = (then _ _ _ _ _ _ _ _ (c .before .before .before .before .before .before .before .put-field .ensures .0) (c .before .before .put-line .ensures .0), search needs)
+returns c =
+    let p = c .before .before .before .before .before .before .before .put-field in
+    let q = c .before .before .put-line in
+    (then _ _ _ _ _ _ _ _ (field-added _ _ _ _ _ _ (p .ensures .0) (omega arith)) (line-added _ _ _ _ _ _ (q .ensures .0) (omega arith)), search needs)
 
 pub put-size-spec : {M : Type 1} → statement M
 put-size-spec =

@@ -4,42 +4,39 @@ use native.Mathlib.Omega.{arith}
 use Rattle.record.specs.declared.Reading.the-variants.{Fine}
 use Rattle.record.specs.Record.{reading}
 use Rattle.record.proofs.Answers.{fine-record}
-use Rattle.transcript.specs.Letters.{Added}
+use Rattle.text.specs.Letters.{Added}
 use Rattle.transcript.proofs.Texts.{text-fine, text-size, text-directory}
 use borrow.Author.Needs.{needs}
 use Rattle.transcript.proofs.put_text.Statement.{statement}
 use Rattle.transcript.proofs.put_text.Tie as tie
 
 -- The reader has found a record.
-fine : (c : tie.After-enum-told3) → reading (c .before .before .before .before .args .bytes .now) ≡ Fine
-fine c = sym (c .before .before .before .before .pre .0) ∙ c .enum-told3 .given .1
+fine : (c : tie.After-enum-told3) → reading (c .before .before .before .before .before .args .bytes .now) ≡ Fine
+fine c = sym (c .before .before .read .ensures) ∙ c .enum-told3 .given .1
+
+read-requires : tie.Need-read-requires
+read-requires c κs = search needs
 
 enum-told : tie.Need-enum-told
 enum-told c = search needs
 
-slice-aggregate-put-line : tie.Need-slice-aggregate-put-line
-slice-aggregate-put-line c = search needs
-
-put-line-requires : tie.Need-put-line-requires
-put-line-requires c κs = search needs
+put-refused-requires : tie.Need-put-refused-requires
+put-refused-requires c κs = search needs
 
 enum-told-2 : tie.Need-enum-told-2
 enum-told-2 c = search needs
 
-slice-aggregate-put-line-2 : tie.Need-slice-aggregate-put-line-2
-slice-aggregate-put-line-2 c = search needs
-
-put-line-requires-2 : tie.Need-put-line-requires-2
-put-line-requires-2 c κs = search needs
+put-refused-requires-2 : tie.Need-put-refused-requires-2
+put-refused-requires-2 c κs = search needs
 
 enum-told-3 : tie.Need-enum-told-3
 enum-told-3 c = search needs
 
 shared-slice-read-put-record : tie.Need-shared-slice-read-put-record
-shared-slice-read-put-record c = let f = fine-record (c .before .before .before .before .before .before .args .bytes .now) (fine (c .before .before)) .two in omega arith
+shared-slice-read-put-record c = let f = fine-record (c .before .before .before .before .before .before .before .args .bytes .now) (fine (c .before .before)) .two in omega arith
 
 shared-slice-read-put-record-2 : tie.Need-shared-slice-read-put-record-2
-shared-slice-read-put-record-2 c = let f = fine-record (c .before .before .before .before .before .before .before .args .bytes .now) (fine (c .before .before .before)) .two in omega arith
+shared-slice-read-put-record-2 c = let f = fine-record (c .before .before .before .before .before .before .before .before .args .bytes .now) (fine (c .before .before .before)) .two in omega arith
 
 put-record-requires : tie.Need-put-record-requires
 put-record-requires c κs = (record { fine = fine (c .before .before .before); parties = refl; faulty = refl }, search needs)
@@ -49,18 +46,20 @@ same-length c = search needs
 
 returns : tie.Need-returns
 returns c =
-    let p = c .before .before .put-line in
+    let p = c .before .before .put-refused in
+    let q = c .before .before .before .before .before .before .read in
     let a = c .before .before .before .before .before .before .before .before .before .args in
-    (subst (λ w. Added (a .out .now) 0 w (p .last .0) (p .result)) (text-size (a .answer) (a .bytes .now) (c .before .before .before .before .before .enum-told .given .1)) (p .ensures .0), search needs)
+    (subst (λ w. Added (a .out .now) 0 w (p .last .0) (p .result)) (text-size (q .result) (a .bytes .now) (q .ensures) (c .before .before .before .before .enum-told .given .1)) (p .ensures .0), search needs)
 
 same-length-2 : tie.Need-same-length-2
 same-length-2 c = search needs
 
 returns-2 : tie.Need-returns-2
 returns-2 c =
-    let p = c .before .before .put-line2 in
+    let p = c .before .before .put-refused2 in
+    let q = c .before .before .before .before .before .before .read in
     let a = c .before .before .before .before .before .before .before .before .before .args in
-    (subst (λ w. Added (a .out .now) 0 w (p .last .0) (p .result)) (text-directory (a .answer) (a .bytes .now) (c .before .before .before .before .before .enum-told2 .given .1)) (p .ensures .0), search needs)
+    (subst (λ w. Added (a .out .now) 0 w (p .last .0) (p .result)) (text-directory (q .result) (a .bytes .now) (q .ensures) (c .before .before .before .before .enum-told2 .given .1)) (p .ensures .0), search needs)
 
 same-length-3 : tie.Need-same-length-3
 same-length-3 c = search needs
@@ -68,19 +67,19 @@ same-length-3 c = search needs
 returns-3 : tie.Need-returns-3
 returns-3 c =
     let p = c .before .before .put-record in
-    let a = c .before .before .before .before .before .before .before .before .before .before .args in
-    (subst (λ w. Added (a .out .now) 0 w (p .last .0) (p .result)) (text-fine (a .answer) (a .bytes .now) (c .before .before .before .before .before .before .enum-told3 .given .1)) (p .ensures .0), search needs)
+    let q = c .before .before .before .before .before .before .before .before .read in
+    let a = c .before .before .before .before .before .before .before .before .before .before .before .args in
+    (subst (λ w. Added (a .out .now) 0 w (p .last .0) (p .result)) (text-fine (q .result) (a .bytes .now) (q .ensures) (c .before .before .before .before .before .before .enum-told3 .given .1)) (p .ensures .0), p .ensures .1)
 
 pub put-text-spec : {M : Type 1} → statement M
 put-text-spec =
     tie.close
     (tie.spec
+    read-requires
     enum-told
-    slice-aggregate-put-line
-    put-line-requires
+    put-refused-requires
     enum-told-2
-    slice-aggregate-put-line-2
-    put-line-requires-2
+    put-refused-requires-2
     enum-told-3
     shared-slice-read-put-record
     shared-slice-read-put-record-2

@@ -14,9 +14,6 @@ returns c =
     let s = c .before .before .before in
     (render-small (s .args .bytes .now) (s .args .out .now) (c .if1 .taken), (omega arith, (omega arith, refl)))
 
-read-requires : tie.Need-read-requires
-read-requires c κs = search needs
-
 put-text-requires : tie.Need-put-text-requires
 put-text-requires c κs = search needs
 
@@ -25,12 +22,12 @@ same-length c = search needs
 
 returns-2 : tie.Need-returns-2
 returns-2 c =
-    let s = c .before .before .before .before .before .before .before .before in
+    let a = c .before .before .before .before .before .before .before .args in
     let p = c .before .before .put-text in
-    let h : p .result ≤ length (p .last .0) = omega (arith, p .ensures .1, p .kept .0, c .before .before .before .before .before .if1 .left) in (
-      render-large (s .args .bytes .now) (s .args .out .now) (p .last .0) (p .result) (c .before .before .before .before .read .result) (c .before .before .before .before .before .if1 .left) (c .before .before .before .before .read .ensures) (p .ensures .0),
+    let h : p .result ≤ length (p .last .0) = omega (arith, p .ensures .1, p .kept .0, c .before .before .before .before .if1 .left) in (
+      render-large (a .bytes .now) (a .out .now) (p .last .0) (p .result) (c .before .before .before .before .if1 .left) (p .ensures .0),
       (p .ensures .1, (h, sym (length-take-le (p .result) (p .last .0) h))),
     )
 
 pub render-spec : {M : Type 1} → statement M
-render-spec = tie.close (tie.spec returns read-requires put-text-requires same-length returns-2)
+render-spec = tie.close (tie.spec returns put-text-requires same-length returns-2)

@@ -1,7 +1,10 @@
 -- Text as a list of bytes.
 --   letters s                 the bytes of a quoted text of ASCII letters
 --   decimal x                 the decimal digits of a number below 100,000
+--   five x, zeros x           all five digits, and how many of them are zeros in front
 --   field word x, line word x   a word and a number behind it, without and with a line end
+--   putting out at word       the buffer with the word put from a place on, and the place behind it
+--   puts out at words         the same of several words, one behind the other
 --   Added                     what it says that a piece was put into a buffer
 -- Laws: proofs/Letters.
 use mathlib.Core.Path.{_≡_}
@@ -10,7 +13,7 @@ use mathlib.Core.List.{List, [], _∷_, _++_}
 use Prim.Native.Nat.{ℕ, _+_, _/_, _%_}
 use Prim.Native.Char.{code}
 use Prim.Native.String.{String, [] as end, _∷_ as _then_}
-use lib.Dec.{ltb}
+use lib.Dec.{ltb, leb}
 use lib.ListN.{length, take, drop}
 
 -- One byte for each letter.
@@ -31,6 +34,14 @@ decimal x =
     (cond (ltb x 10000) (digit (x / 1000) ∷ digit (x / 100) ∷ digit (x / 10) ∷ digit x ∷ [])
     (digit (x / 10000) ∷ digit (x / 1000) ∷ digit (x / 100) ∷ digit (x / 10) ∷ digit x ∷ []))))
 
+-- The way that the code takes: all five digits.
+abbrev pub five : ℕ → List ℕ
+five x = digit (x / 10000) ∷ digit (x / 1000) ∷ digit (x / 100) ∷ digit (x / 10) ∷ digit x ∷ []
+
+-- And how many of them stand in front of the first that counts.
+unfoldable pub zeros : ℕ → ℕ
+zeros x = cond (ltb x 10) 4 (cond (ltb x 100) 3 (cond (ltb x 1000) 2 (cond (ltb x 10000) 1 0)))
+
 -- A word and a number.
 abbrev pub field : List ℕ → ℕ → List ℕ
 field word x = word ++ decimal x
@@ -38,6 +49,18 @@ field word x = word ++ decimal x
 -- The same with a line end.
 abbrev pub line : List ℕ → ℕ → List ℕ
 line word x = field word x ++ letters "\n"
+
+-- ---- in a buffer
+
+-- The word over the buffer's bytes from the place `at` on, and the place behind it. Where it has no room the buffer is left alone, and the place is `at`.
+unfoldable pub putting : List ℕ → ℕ → List ℕ → List ℕ × ℕ
+putting out at word =
+    cond (leb (at + length word) (length out)) (take at out ++ word ++ drop (at + length word) out, at + length word) (out, at)
+
+-- Each word at the place behind the one before it.
+unfoldable pub puts : List ℕ → ℕ → List (List ℕ) → List ℕ × ℕ
+puts out at [] = (out, at)
+puts out at (word ∷ words) = puts (putting out at word .0) (putting out at word .1) words
 
 -- The buffer after holds what the buffer before held up to the place `at`, then the word, and from the place r behind it on again what it held.
 pub record Added (before : List ℕ) (at : ℕ) (word after : List ℕ) (r : ℕ) : Type 0 where

@@ -1,8 +1,9 @@
--- `transcript::pieces::put_line` meets its contract: two pieces one behind the other.
-use Rattle.transcript.proofs.Letters.{then}
+-- `text::put_line` meets its contract: a line end behind the number.
+use native.Mathlib.Omega.{arith}
+use Rattle.text.proofs.Letters.{puts-three}
 use borrow.Author.Needs.{needs}
-use Rattle.transcript.proofs.pieces.put_line.Statement.{statement}
-use Rattle.transcript.proofs.pieces.put_line.Tie as tie
+use Rattle.text.proofs.put_line.Statement.{statement}
+use Rattle.text.proofs.put_line.Tie as tie
 
 put-field-requires : tie.Need-put-field-requires
 put-field-requires c κs = search needs
@@ -17,7 +18,10 @@ same-length : tie.Need-same-length
 same-length c = search needs
 
 returns : tie.Need-returns
-returns c = (then _ _ _ _ _ _ _ _ (c .before .before .before .before .before .before .before .put-field .ensures .0) (c .before .before .put .ensures), search needs)
+returns c =
+    let p = c .before .before .before .before .before .before .before .put-field in
+    let q = c .before .before .put in
+    (puts-three _ _ _ _ _ _ _ _ _ (p .ensures .0) (q .ensures .0), omega (arith, p .ensures .1, q .ensures .1))
 
 pub put-line-spec : {M : Type 1} → statement M
 put-line-spec =

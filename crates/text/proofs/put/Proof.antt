@@ -1,4 +1,4 @@
--- `transcript::pieces::put` meets its contract: after i turns the first i bytes of the word stand behind what was there.
+-- `text::put` meets its contract: after i turns the first i bytes of the word stand behind what was there.
 use Prim.Native.Nat.{_+_, _-_, _≤_}
 use mathlib.Core.Path.{_≡_, refl, _∙_}
 use mathlib.Core.List.{_++_, append-nil}
@@ -7,15 +7,24 @@ use native.Mathlib.Nat.{add-zero}
 use borrow.Author.Needs.{needs}
 use lib.ListN.{length, take, drop, length-set}
 use lib.Seq.{take-length}
-use Rattle.transcript.proofs.Letters.{put-more, put-rest}
-use Rattle.transcript.proofs.pieces.put.Statement.{statement}
-use Rattle.transcript.proofs.pieces.put.Tie as tie
+use Rattle.text.proofs.Letters.{put-more, put-rest, putting-none, putting-all}
+use Rattle.text.proofs.put.Statement.{statement}
+use Rattle.text.proofs.put.Tie as tie
 
 abbrev Inv-loop : tie.InvT-loop
 Inv-loop out₀ at word i₀ out i = (i ≤ length word) × (length out ≡ length out₀) × (take (at + i) out ≡ take at out₀ ++ take i word) × (drop (at + i) out ≡ drop (at + i) out₀)
 
 abbrev μ-loop : tie.MeasureT-loop
 μ-loop out₀ at word i₀ out i = length word - i
+
+returns : tie.Need-returns Inv-loop μ-loop
+returns c = (putting-none _ _ _ (omega arith), search needs)
+
+sub-if2 : tie.Need-sub-if2 Inv-loop μ-loop
+sub-if2 c = search needs
+
+returns-2 : tie.Need-returns-2 Inv-loop μ-loop
+returns-2 c = (putting-none _ _ _ (omega arith), search needs)
 
 loop-holds : tie.Need-loop-holds Inv-loop μ-loop
 loop-holds c = (search needs, refl, rw (add-zero, append-nil), refl)
@@ -40,8 +49,8 @@ loop-again c =
     let k = c .before .before in (
       search needs,
       simp length-set (search needs),
-      put-more (k .loop .out) (k .before .args .out .now) (k .before .args .word .now) (k .before .args .at) (k .loop .i) (search needs) (search needs) (k .loop .inv .2),
-      put-rest (k .loop .out) (k .before .args .out .now) (k .before .args .at + k .loop .i) (k .before .args .at + (k .loop .i + 1)) _ (omega arith) (k .loop .inv .3),
+      put-more (k .loop .out) (k .before .before .before .args .out .now) (k .before .before .before .args .word .now) (k .before .before .before .args .at) (k .loop .i) (search needs) (search needs) (k .loop .inv .2),
+      put-rest (k .loop .out) (k .before .before .before .args .out .now) (k .before .before .before .args .at + k .loop .i) (k .before .before .before .args .at + (k .loop .i + 1)) _ (omega arith) (k .loop .inv .3),
     )
 
 add-result : tie.Need-add-result Inv-loop μ-loop
@@ -50,11 +59,14 @@ add-result c = search needs
 same-length : tie.Need-same-length Inv-loop μ-loop
 same-length c = search needs
 
-returns : tie.Need-returns Inv-loop μ-loop
-returns c =
-    let a = c .before .before .args in
-    let e : c .before .loop .i ≡ length (a .word .now) = omega arith in
-    record { next = rw e; text = c .before .loop .inv .2 ∙ rw (e, take-length); rest = c .before .loop .inv .3 }
+returns-3 : tie.Need-returns-3 Inv-loop μ-loop
+returns-3 c =
+    let a = c .before .before .before .before .args in
+    let e : c .before .loop .i ≡ length (a .word .now) = omega arith in (
+      putting-all (a .out .now) _ (a .word .now) (a .at) _ (omega arith)
+          (record { next = rw e; text = c .before .loop .inv .2 ∙ rw (e, take-length); rest = c .before .loop .inv .3 }),
+      omega arith,
+    )
 
 pub put-spec : {M : Type 1} → statement M
 put-spec =
@@ -62,6 +74,9 @@ put-spec =
     (tie.spec
     Inv-loop
     μ-loop
+    returns
+    sub-if2
+    returns-2
     loop-holds
     shared-slice-read-out
     add-out
@@ -71,4 +86,4 @@ put-spec =
     loop-again
     add-result
     same-length
-    returns)
+    returns-3)

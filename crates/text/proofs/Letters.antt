@@ -1,0 +1,154 @@
+-- Laws of text in a buffer: a byte more of a word, two pieces one behind the other, and how long pieces are.
+use mathlib.Core.Path.{_≡_, refl, sym, ap, ap₂, _∙_}
+use mathlib.Core.Bool.{Bool, true, false, cond}
+use mathlib.Core.List.{List, [], _∷_, _++_, append-assoc, append-nil}
+use Prim.Native.Nat.{ℕ, suc, _+_, _-_, _/_, _≤_, _<_}
+use native.Mathlib.Numerals.{add-one}
+use native.Mathlib.Omega.{arith}
+use borrow.Author.Tests.{lt-ltb, le-leb, lt-leb}
+use lib.Dec.{lit≤, ltb}
+use lib.ListN.{length, take, drop, getD, set, length-append, take-append-drop, length-drop}
+use lib.Seq.{take-suc, take-suc-set, drop-set-lt, drop-drop, take-at, drop-at, length-take-le}
+use Rattle.text.specs.Letters.{Added, digit, decimal, five, zeros, field, line, letters, putting, puts}
+
+-- ---- putting
+
+-- The i-th byte of the word w is stored behind the i before it.
+pub put-more : (o o₀ w : List ℕ) (at i : ℕ) → at + i < length o → i < length w → take (at + i) o ≡ take at o₀ ++ take i w
+    → take (at + (i + 1)) (set o (at + i) (getD w i 0)) ≡ take at o₀ ++ take (i + 1) w
+put-more o o₀ w at i h k e =
+    let n : at + (i + 1) ≡ suc (at + i) = omega arith in
+    rw (n, take-suc-set o (at + i) (getD w i 0), e, add-one, take-suc w i 0, append-assoc)
+
+-- What stands behind it is left alone.
+pub put-rest : (o o₀ : List ℕ) (n m v : ℕ) → m ≡ n + 1 → drop n o ≡ drop n o₀ → drop m (set o n v) ≡ drop m o₀
+put-rest o o₀ n m v s e =
+    drop-set-lt m o n v (omega arith) ∙ rw s (rw (← drop-drop 1 n o, ← drop-drop 1 n o₀) (ap (drop 1) e))
+
+-- Two pieces put one behind the other.
+pub then : (o p q v w : List ℕ) (at r s : ℕ) → Added o at v p r → Added p r w q s → Added o at (v ++ w) q s
+then o p q v w at r s a b = record {
+  next = b .next ∙ rw (a .next, length-append) (omega arith);
+  text = b .text ∙ rw (a .text, append-assoc);
+  rest = b .rest ∙ rw (b .next, ← drop-drop (length w) r p, ← drop-drop (length w) r o) (ap (drop (length w)) (a .rest));
+}
+
+-- Nothing put.
+pub nothing : (o : List ℕ) (at : ℕ) → Added o at [] o at
+nothing o at = record { next = omega arith; text = rw append-nil; rest = refl }
+
+-- ---- the buffer, as the code leaves it
+
+-- Too little room.
+pub putting-none : (o w : List ℕ) (at : ℕ) → length o < at + length w → (o, at) ≡ putting o at w
+unfolding putting
+putting-none o w at h = rw (lt-leb (at + length w) (length o) h)
+
+-- Room, and the word is put.
+pub putting-all : (o q w : List ℕ) (at r : ℕ) → at + length w ≤ length o → Added o at w q r → (q, r) ≡ putting o at w
+unfolding putting
+putting-all o q w at r h a =
+    let whole : q ≡ take at o ++ w ++ drop (at + length w) o =
+    sym (take-append-drop r q) ∙ ap₂ _++_ (a .text) (a .rest ∙ ap (λ m. drop m o) (a .next)) in
+    rw (le-leb (at + length w) (length o) h) (ap₂ (λ (x : List ℕ) (y : ℕ). (x, y)) whole (a .next))
+
+-- So it is put where there is room.
+pub putting-added : (o q w : List ℕ) (at r : ℕ) → (q, r) ≡ putting o at w → at + length w ≤ length o → Added o at w q r
+unfolding putting
+putting-added o q w at r e h =
+    let both : _≡_ {A = List ℕ × ℕ} (q, r) (take at o ++ w ++ drop (at + length w) o, at + length w) = e ∙ rw (le-leb (at + length w) (length o) h) in
+    let next : r ≡ at + length w = ap (λ z. z .1) both in
+    let front : length (take at o ++ w) ≡ r = length-append (take at o) w ∙ ap (λ z. z + length w) (length-take-le at o (omega arith)) ∙ sym next in
+    let whole : q ≡ (take at o ++ w) ++ drop (at + length w) o = ap (λ z. z .0) both in
+    record {
+      next = next;
+      text = ap (take r) whole ∙ take-at (take at o ++ w) (drop (at + length w) o) r front;
+      rest = ap (drop r) whole ∙ drop-at (take at o ++ w) (drop (at + length w) o) r front ∙ ap (λ z. drop z o) (sym next);
+    }
+
+pub putting-length : (o w : List ℕ) (at : ℕ) → at + length w ≤ length o → length (putting o at w .0) ≡ length o
+unfolding putting
+putting-length o w at h =
+    let end : ℕ = at + length w in
+    rw (le-leb end (length o) h)
+    (length-append (take at o ++ w) (drop end o)
+    ∙ ap₂ _+_ (length-append (take at o) w ∙ ap (λ z. z + length w) (length-take-le at o (omega arith))) (length-drop end o)
+    ∙ omega arith)
+
+-- Two pieces, and a third behind them.
+pub puts-two : (o p q v w : List ℕ) (at r s : ℕ) → (p, r) ≡ putting o at v → (q, s) ≡ putting p r w → (q, s) ≡ puts o at (v ∷ w ∷ [])
+unfolding puts
+puts-two o p q v w at r s a b = b ∙ ap (λ (z : List ℕ × ℕ). putting (z .0) (z .1) w) a
+
+pub puts-three : (o p q u v w : List ℕ) (at r s : ℕ) → (p, r) ≡ puts o at (u ∷ v ∷ []) → (q, s) ≡ putting p r w → (q, s) ≡ puts o at (u ∷ v ∷ w ∷ [])
+unfolding puts
+puts-three o p q u v w at r s a b = b ∙ ap (λ (z : List ℕ × ℕ). putting (z .0) (z .1) w) a
+
+-- ---- lengths
+
+cond-short : (b : Bool) (xs ys : List ℕ) (n : ℕ) → length xs ≤ n → length ys ≤ n → length (cond b xs ys) ≤ n
+cond-short true xs ys n h k = h
+cond-short false xs ys n h k = k
+
+pub decimal-short : (x : ℕ) → length (decimal x) ≤ 5
+unfolding decimal
+decimal-short x =
+    cond-short (ltb x 10) _ _ 5 (lit≤ tt)
+    (cond-short (ltb x 100) _ _ 5 (lit≤ tt)
+    (cond-short (ltb x 1000) _ _ 5 (lit≤ tt) (cond-short (ltb x 10000) _ _ 5 (lit≤ tt) (lit≤ tt))))
+
+-- Five digits without the zeros in front, by the four tests.
+without-zeros : (a b c d : Bool) (v w x y z : ℕ) → let from : ℕ = cond a 4 (cond b 3 (cond c 2 (cond d 1 0))) in
+    take (5 - from) (drop from (v ∷ w ∷ x ∷ y ∷ z ∷ []))
+    ≡ cond a (z ∷ []) (cond b (y ∷ z ∷ []) (cond c (x ∷ y ∷ z ∷ []) (cond d (w ∷ x ∷ y ∷ z ∷ []) (v ∷ w ∷ x ∷ y ∷ z ∷ []))))
+without-zeros true b c d v w x y z = refl
+without-zeros false true c d v w x y z = refl
+without-zeros false false true d v w x y z = refl
+without-zeros false false false true v w x y z = refl
+without-zeros false false false false v w x y z = refl
+
+-- As the code takes them.
+pub decimal-part : (digits : List ℕ) (from x : ℕ) → digits ≡ five x → from ≡ zeros x → take (5 - from) (drop from digits) ≡ decimal x
+unfolding zeros decimal
+decimal-part digits from x e f =
+    ap₂ (λ m l. take (5 - m) (drop m l)) f e
+    ∙ without-zeros (ltb x 10) (ltb x 100) (ltb x 1000) (ltb x 10000) (digit (x / 10000)) (digit (x / 1000)) (digit (x / 100)) (digit (x / 10)) (digit x)
+
+-- A lamp's number has at most two digits.
+pub decimal-two : (x : ℕ) → x < 100 → length (decimal x) ≤ 2
+unfolding decimal
+decimal-two x h = rw (lt-ltb x 100 h) (cond-short (ltb x 10) _ _ 2 (lit≤ tt) (lit≤ tt))
+
+pub field-two : (word : List ℕ) (x : ℕ) → x < 100 → length (field word x) ≤ length word + 2
+field-two word x h = rw length-append (omega (arith, decimal-two x h))
+
+-- ---- a word and a number, and a line, where there is room for five digits
+
+-- Behind the word there is room for the number.
+number-room : (o word : List ℕ) (x at : ℕ) → at + length word + 5 ≤ length o
+    → putting o at word .1 + length (decimal x) ≤ length (putting o at word .0)
+number-room o word x at h =
+    let p : List ℕ × ℕ = putting o at word in
+    let first : Added o at word (p .0) (p .1) = putting-added o (p .0) word at (p .1) refl (omega arith) in
+    omega (arith, first .next, putting-length o word at (omega arith), decimal-short x)
+
+pub field-added : (o q word : List ℕ) (x at r : ℕ) → (q, r) ≡ puts o at (word ∷ decimal x ∷ []) → at + length word + 5 ≤ length o
+    → Added o at (field word x) q r
+unfolding puts
+field-added o q word x at r e h =
+    let p : List ℕ × ℕ = putting o at word in
+    then o (p .0) q word (decimal x) at (p .1) r
+    (putting-added o (p .0) word at (p .1) refl (omega arith))
+    (putting-added (p .0) q (decimal x) (p .1) r e (number-room o word x at h))
+
+pub line-added : (o q word : List ℕ) (x at r : ℕ) → (q, r) ≡ puts o at (word ∷ decimal x ∷ letters "\n" ∷ []) → at + length word + 6 ≤ length o
+    → Added o at (line word x) q r
+unfolding puts
+line-added o q word x at r e h =
+    let p : List ℕ × ℕ = putting o at word in
+    let z : List ℕ × ℕ = putting (p .0) (p .1) (decimal x) in
+    let first : Added o at (field word x) (z .0) (z .1) = field-added o (z .0) word x at (z .1) refl (omega arith) in
+    let kept = putting-length (p .0) (decimal x) (p .1) (number-room o word x at (omega arith)) in
+    then o (z .0) q (field word x) (letters "\n") at (z .1) r first
+    (putting-added (z .0) q (letters "\n") (z .1) r e
+    (omega (arith, first .next, kept, putting-length o word at (omega arith), length-append word (decimal x), decimal-short x)))

@@ -1,0 +1,51 @@
+-- `text::put_number` meets its contract: the digits without the zeros in front are put as a word.
+use mathlib.Core.Path.{ap, _∙_}
+use native.Mathlib.Omega.{arith}
+use lib.ListN.{length}
+use Rattle.text.specs.Letters.{putting}
+use Rattle.text.proofs.Letters.{decimal-part, decimal-short}
+use borrow.Author.Needs.{needs}
+use Rattle.text.proofs.put_number.Statement.{statement}
+use Rattle.text.proofs.put_number.Tie as tie
+
+digits-requires : tie.Need-digits-requires
+digits-requires c κs = search needs
+
+zeros-requires : tie.Need-zeros-requires
+zeros-requires c κs = search needs
+
+sub-put : tie.Need-sub-put
+sub-put c = search needs
+
+part-put-start : tie.Need-part-put-start
+part-put-start c = search needs
+
+part-put-end : tie.Need-part-put-end
+part-put-end c = search needs
+
+put-requires : tie.Need-put-requires
+put-requires c κs = search needs
+
+same-length : tie.Need-same-length
+same-length c = search needs
+
+returns : tie.Need-returns
+returns c =
+    let p = c .before .before .put in
+    let z = c .before .before .before .before .before .before in
+    let a = z .before .before .before .args in
+    let e = decimal-part (z .before .digits .result) (z .zeros .result) (a .x) (z .before .digits .ensures) (z .zeros .ensures .0) in
+    (p .ensures .0 ∙ ap (putting (a .out .now) (a .at)) e, omega (arith, p .ensures .1, ap length e, decimal-short (a .x)))
+
+pub put-number-spec : {M : Type 1} → statement M
+put-number-spec =
+    tie.close
+    (tie.spec
+    digits-requires
+    zeros-requires
+    sub-put
+    part-put-start
+    part-put-end
+    put-requires
+    same-length
+    returns)

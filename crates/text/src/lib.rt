@@ -1,0 +1,86 @@
+// Text in a buffer that the caller lends: words, numbers and lines, each from a place on. A piece that has no room there is left out.
+ghost use mathlib.Core.Path.{_≡_};
+ghost use mathlib.Core.List.{[], _∷_};
+ghost use Prim.Native.Nat.{_+_, _≤_};
+ghost use lib.ListN.{length};
+ghost use Rattle.text.specs.Letters.{five, zeros, decimal, letters, putting, puts};
+
+// Puts the word into the buffer from a place on, and answers the place behind it.
+pub fn put(out: &mut [u8], at: usize, word: &[u8]) -> usize
+    ensures { λ r. ⌜ (now (out .exit), r) ≡ putting (now (out .entry)) at (now (word .entry)) ⌝ }
+    ensures short { λ r. ⌜ r ≤ at + length (now (word .entry)) ⌝ }
+{
+    if out.len() < at {
+        return at;
+    }
+    if out.len() - at < word.len() {
+        return at;
+    }
+    let mut i = 0;
+    while i < word.len() {
+        out[at + i] = word[i];
+        i += 1;
+    }
+    at + i
+}
+
+// The five decimal digits of x, with the zeros in front.
+fn digits(x: u16) -> [u8; 5]
+    ensures { λ r. ⌜ r ≡ five x ⌝ }
+{
+    [
+        (48 + x / 10000 % 10) as u8,
+        (48 + x / 1000 % 10) as u8,
+        (48 + x / 100 % 10) as u8,
+        (48 + x / 10 % 10) as u8,
+        (48 + x % 10) as u8,
+    ]
+}
+
+// How many of the five are zeros that stand in front.
+fn zeros(x: u16) -> usize
+    ensures { λ r. ⌜ r ≡ zeros x ⌝ }
+    ensures some { λ r. ⌜ r ≤ 4 ⌝ }
+{
+    if x < 10 {
+        return 4;
+    }
+    if x < 100 {
+        return 3;
+    }
+    if x < 1000 {
+        return 2;
+    }
+    if x < 10000 {
+        return 1;
+    }
+    0
+}
+
+// Puts the decimal digits of x.
+pub fn put_number(out: &mut [u8], at: usize, x: u16) -> usize
+    ensures { λ r. ⌜ (now (out .exit), r) ≡ putting (now (out .entry)) at (decimal x) ⌝ }
+    ensures short { λ r. ⌜ r ≤ at + 5 ⌝ }
+{
+    let five = digits(x);
+    let from = zeros(x);
+    put(out, at, &five[from..5])
+}
+
+// Puts a word and a number.
+pub fn put_field(out: &mut [u8], at: usize, word: &[u8], x: u16) -> usize
+    ensures { λ r. ⌜ (now (out .exit), r) ≡ puts (now (out .entry)) at (now (word .entry) ∷ decimal x ∷ []) ⌝ }
+    ensures short { λ r. ⌜ r ≤ at + length (now (word .entry)) + 5 ⌝ }
+{
+    let next = put(out, at, word);
+    put_number(out, next, x)
+}
+
+// Puts a word, a number and a line end.
+pub fn put_line(out: &mut [u8], at: usize, word: &[u8], x: u16) -> usize
+    ensures { λ r. ⌜ (now (out .exit), r) ≡ puts (now (out .entry)) at (now (word .entry) ∷ decimal x ∷ letters "\n" ∷ []) ⌝ }
+    ensures short { λ r. ⌜ r ≤ at + length (now (word .entry)) + 6 ⌝ }
+{
+    let next = put_field(out, at, word, x);
+    put(out, next, b"\n")
+}

@@ -1,0 +1,43 @@
+-- `transcript::put_happy` meets its contract: three pieces one behind the other.
+use native.Mathlib.Omega.{arith}
+use Rattle.text.proofs.Letters.{then, putting-added}
+use borrow.Author.Needs.{needs}
+use Rattle.transcript.proofs.put_happy.Statement.{statement}
+use Rattle.transcript.proofs.put_happy.Tie as tie
+
+slice-aggregate-put : tie.Need-slice-aggregate-put
+slice-aggregate-put c = search needs
+
+put-requires : tie.Need-put-requires
+put-requires c κs = search needs
+
+put-names-requires : tie.Need-put-names-requires
+put-names-requires c κs = search needs
+
+slice-aggregate-put-2 : tie.Need-slice-aggregate-put-2
+slice-aggregate-put-2 c = search needs
+
+put-requires-2 : tie.Need-put-requires-2
+put-requires-2 c κs = search needs
+
+same-length : tie.Need-same-length
+same-length c = search needs
+
+returns : tie.Need-returns
+returns c =
+    let p = c .before .before .before .before .before .before .before .before .before .before .before .put in
+    let m = c .before .before .before .before .before .before .before .put-names in
+    let q = c .before .before .put2 in
+    (then _ _ _ _ _ _ _ _ (then _ _ _ _ _ _ _ _ (putting-added _ _ _ _ _ (p .ensures .0) (omega arith)) (m .ensures .0)) (putting-added _ _ _ _ _ (q .ensures .0) (omega arith)), omega (arith, p .ensures .1, m .ensures .1, q .ensures .1))
+
+pub put-happy-spec : {M : Type 1} → statement M
+put-happy-spec =
+    tie.close
+    (tie.spec
+    slice-aggregate-put
+    put-requires
+    put-names-requires
+    slice-aggregate-put-2
+    put-requires-2
+    same-length
+    returns)
