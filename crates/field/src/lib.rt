@@ -14,7 +14,13 @@ pub fn add(a: u16, b: u16) -> u16
 pub fn sub(a: u16, b: u16) -> u16
     ensures { λ r. ⌜ r ≡ sub modulus a b ⌝ }
 {
-    ((a as u32 + (MODULUS - b % MODULUS) as u32) % MODULUS as u32) as u16
+    let high = a % MODULUS;
+    let low = b % MODULUS;
+    if low <= high {
+        high - low
+    } else {
+        high + (MODULUS - low)
+    }
 }
 
 pub fn neg(a: u16) -> u16

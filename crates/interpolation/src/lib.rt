@@ -1,8 +1,21 @@
 // Interpolation after Newton, in the place of the values.
 ghost use mathlib.Core.Path.{_≡_};
 ghost use lib.ListN.{length};
+ghost use Rattle.field.specs.Arithmetic.{sub, mul, inv};
 ghost use Rattle.field.specs.Modulus.{modulus};
 ghost use Rattle.interpolation.specs.Interpolation.{slopes, newton, raise, expand, interpolateIn};
+
+// The slope from (x, y) to (z, w). One step on, nothing is divided.
+fn slope(x: u16, y: u16, z: u16, w: u16) -> u16
+    ensures { λ r. ⌜ r ≡ mul modulus (sub modulus w y) (inv modulus (sub modulus z x)) ⌝ }
+{
+    let run = field::sub(z, x);
+    let rise = field::sub(w, y);
+    if run == 1 {
+        return rise;
+    }
+    field::mul(rise, field::inv(run))
+}
 
 // The slopes from (x, y) to the points, in the place of their values.
 fn slopes(x: u16, y: u16, xs: &[u16], ys: &mut [u16])
@@ -11,9 +24,7 @@ fn slopes(x: u16, y: u16, xs: &[u16], ys: &mut [u16])
 {
     let mut i = 0;
     while i < xs.len() {
-        let run = field::sub(xs[i], x);
-        let rise = field::sub(ys[i], y);
-        ys[i] = field::mul(rise, field::inv(run));
+        ys[i] = slope(x, y, xs[i], ys[i]);
         i += 1;
     }
 }

@@ -18,29 +18,20 @@ abbrev μ-loop : tie.MeasureT-loop
 loop-holds : tie.Need-loop-holds Inv-loop μ-loop
 loop-holds c = zip-start _ _ _ (omega arith)
 
-mul-sub : tie.Need-mul-sub Inv-loop μ-loop
-mul-sub c = search needs
+mul-slope : tie.Need-mul-slope Inv-loop μ-loop
+mul-slope c = search needs
 
-shared-slice-read-sub : tie.Need-shared-slice-read-sub Inv-loop μ-loop
-shared-slice-read-sub c = search needs
+shared-slice-read-slope : tie.Need-shared-slice-read-slope Inv-loop μ-loop
+shared-slice-read-slope c = search needs
 
-sub-requires : tie.Need-sub-requires Inv-loop μ-loop
-sub-requires c κs = search needs
+mul-slope-2 : tie.Need-mul-slope-2 Inv-loop μ-loop
+mul-slope-2 c = search needs
 
-mul-sub-2 : tie.Need-mul-sub-2 Inv-loop μ-loop
-mul-sub-2 c = search needs
+slice-read-slope : tie.Need-slice-read-slope Inv-loop μ-loop
+slice-read-slope c = search needs
 
-slice-read-sub : tie.Need-slice-read-sub Inv-loop μ-loop
-slice-read-sub c = search needs
-
-sub-requires-2 : tie.Need-sub-requires-2 Inv-loop μ-loop
-sub-requires-2 c κs = search needs
-
-inv-requires : tie.Need-inv-requires Inv-loop μ-loop
-inv-requires c κs = search needs
-
-mul-requires : tie.Need-mul-requires Inv-loop μ-loop
-mul-requires c κs = search needs
+slope-requires : tie.Need-slope-requires Inv-loop μ-loop
+slope-requires c κs = search needs
 
 mul-ys : tie.Need-mul-ys Inv-loop μ-loop
 mul-ys c = search needs
@@ -56,9 +47,8 @@ loop-less c = search needs
 
 loop-again : tie.Need-loop-again Inv-loop μ-loop
 loop-again c =
-    let k = c .before .before .before .before .before .before .before .loop in
-    zip-next _ _ _ (k .ys) (k .i) _ 0 0 (k .inv) (omega arith)
-    (rw (c .mul .ensures, c .before .inv .ensures, c .before .before .sub2 .ensures, c .before .before .before .before .sub .ensures))
+    let k = c .before .before .before .before .loop in
+    zip-next _ _ _ (k .ys) (k .i) _ 0 0 (k .inv) (omega arith) (c .slope .ensures)
 
 same-length : tie.Need-same-length Inv-loop μ-loop
 same-length c = search needs
@@ -73,14 +63,11 @@ slopes-spec =
     Inv-loop
     μ-loop
     loop-holds
-    mul-sub
-    shared-slice-read-sub
-    sub-requires
-    mul-sub-2
-    slice-read-sub
-    sub-requires-2
-    inv-requires
-    mul-requires
+    mul-slope
+    shared-slice-read-slope
+    mul-slope-2
+    slice-read-slope
+    slope-requires
     mul-ys
     slice-write-ys
     add-i
