@@ -3,13 +3,33 @@ mod play;
 mod refusals;
 mod text;
 
+ghost use Prim.Native.Nat.{_≤_};
 use play::Lies;
 use play::Run;
 
 // 7 + 3X + 2Y + 4XY: the coefficient of X^u Y^v stands at place 2u + v.
 const PLANE: [u16; 4] = [7, 2, 3, 4];
 
-// All are honest, but what lamps 3 and 4 publish is altered before two more openings: one wrong share is mended, two are not.
+// The deals of five lamps by the polynomial.
+fn dealt(polynomial: [u16; 4]) -> [u16; 20] {
+    let f = polynomial;
+    let mut deals = [0u16; 20];
+    text::dealing(dealer::deal(5, 1, &f, &mut deals));
+    deals
+}
+
+// Lamp 1 opens what is published twice more, with one share altered and with two: one is mended, two are not.
+fn open_altered(run: Run, deals: &[u16], reports: [u16; 16], shares: [u16; 16])
+    requires { ⌜ run .n ≤ 16 ⌝ }
+{
+    let mut published = shares;
+    published[2] = 999;
+    text::answer(1, play::open(run, deals, reports, published, 1));
+    published[3] = 998;
+    text::answer(1, play::open(run, deals, reports, published, 1));
+}
+
+// All are honest, but what lamps 3 and 4 publish is altered before two more openings.
 fn honest() {
     let run = Run {
         n: 5,
@@ -18,17 +38,12 @@ fn honest() {
         lies: Lies::ToAll,
         report: 0,
     };
-    let f = PLANE;
-    let mut deals = [0u16; 20];
-    text::dealing(dealer::deal(5, 1, &f, &mut deals));
+    let deals = dealt(PLANE);
     play::show_deals(run, &deals);
     let reports = play::hear_all(run, &deals);
-    let mut published = play::settle_all(run, &deals, reports);
+    let published = play::settle_all(run, &deals, reports);
     play::open_all(run, &deals, reports, published);
-    published[2] = 999;
-    text::answer(1, play::open(run, &deals, reports, published, 1));
-    published[3] = 998;
-    text::answer(1, play::open(run, &deals, reports, published, 1));
+    open_altered(run, &deals, reports, published);
 }
 
 // Lamp 3 tells each listener another number and reports nonsense: nobody agrees with it, and the others do without it.
@@ -40,12 +55,8 @@ fn liar() {
         lies: Lies::ToAll,
         report: 54321,
     };
-    let f = PLANE;
-    let mut deals = [0u16; 20];
-    text::dealing(dealer::deal(5, 1, &f, &mut deals));
-    let reports = play::hear_all(run, &deals);
-    let published = play::settle_all(run, &deals, reports);
-    play::open_all(run, &deals, reports, published);
+    let deals = dealt(PLANE);
+    play::to_the_end(run, &deals);
 }
 
 // The dealer gives lamp 5 a row that misses its column, and the liars lie to lamp 5 alone, which has to mend its column from four points.
@@ -58,14 +69,10 @@ fn unsound(liars: u16, report: u16) {
         lies: Lies::OnlyTo(5),
         report: report,
     };
-    let f = PLANE;
-    let mut deals = [0u16; 20];
-    text::dealing(dealer::deal(5, 1, &f, &mut deals));
+    let mut deals = dealt(PLANE);
     deals[17] = 24;
     play::show_deals(run, &deals);
-    let reports = play::hear_all(run, &deals);
-    let published = play::settle_all(run, &deals, reports);
-    play::open_all(run, &deals, reports, published);
+    play::to_the_end(run, &deals);
 }
 
 // The most lamps and the most liars: 4, 9 and 16, who send and publish drawn numbers and report that they agree with all.
@@ -98,12 +105,17 @@ fn sixteen() {
     let mut deals = [0u16; 128];
     text::dealing(dealer::deal(16, 3, &f, &mut deals));
     play::show_deals(run, &deals);
-    let reports = play::hear_all(run, &deals);
-    let published = play::settle_all(run, &deals, reports);
-    play::open_all(run, &deals, reports, published);
+    play::to_the_end(run, &deals);
 }
 
-// Lamps 1 and 2 are dealt one polynomial and the others another, so that at most three agree. A closed lamp still says its pair, and opens nothing.
+// Lamps 1 and 2 are dealt one polynomial and the others another.
+fn spliced() -> [u16; 20] {
+    let first = dealt(PLANE);
+    let second = dealt([1000, 20, 300, 65520]);
+    play::spliced(first, second, 8)
+}
+
+// So at most three agree. A closed lamp still says its pair, and opens nothing.
 fn rejected() {
     let run = Run {
         n: 5,
@@ -112,13 +124,7 @@ fn rejected() {
         lies: Lies::ToAll,
         report: 0,
     };
-    let f = PLANE;
-    let g: [u16; 4] = [1000, 20, 300, 65520];
-    let mut first = [0u16; 20];
-    let mut second = [0u16; 20];
-    text::dealing(dealer::deal(5, 1, &f, &mut first));
-    text::dealing(dealer::deal(5, 1, &g, &mut second));
-    let deals = play::spliced(first, second, 8);
+    let deals = spliced();
     play::show_deals(run, &deals);
     let reports = play::hear_all(run, &deals);
     let published = play::settle_all(run, &deals, reports);

@@ -239,3 +239,12 @@ pub(crate) fn open_all(run: Run, deals: &[u16], reports: [u16; 16], shares: [u16
         }
     }
 }
+
+// Lets the lamps hear, settle and open, one call after the other.
+pub(crate) fn to_the_end(run: Run, deals: &[u16])
+    requires { ⌜ run .n ≤ 16 ⌝ }
+{
+    let reports = hear_all(run, deals);
+    let shares = settle_all(run, deals, reports);
+    open_all(run, deals, reports, shares);
+}

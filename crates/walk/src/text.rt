@@ -19,9 +19,14 @@ pub(crate) fn line(letters: &[u8]) {
     word(b"\n");
 }
 
+// A word and the number behind it.
+fn field(letters: &[u8], x: u16) {
+    word(letters);
+    number(x);
+}
+
 fn refused(k: u16) {
-    word(b" refused");
-    number(k);
+    field(b" refused", k);
 }
 
 // The lamps of a set, in order.
@@ -34,35 +39,33 @@ fn set(happy: u16) {
 }
 
 fn holding(lamp: Lamp) {
-    word(b" share");
-    number(lamp.share);
+    field(b" share", lamp.share);
     word(b" happy");
     set(lamp.happy);
 }
 
-// What lamp i answered, after which it holds what the reply says.
-pub(crate) fn answer(i: u8, reply: Reply) {
-    word(b"lamp");
-    number(i as u16);
+fn pair(first: u16, second: u16) {
+    field(b" pair", first);
+    number(second);
+}
+
+// What a lamp answered, after which it holds what the reply says.
+fn told(reply: Reply) {
     let answer = reply.answer;
     match answer {
         Answer::Done => word(b" done"),
-        Answer::Pair(first, second) => {
-            word(b" pair");
-            number(first);
-            number(second);
-        }
-        Answer::Report(bits) => {
-            word(b" report");
-            number(bits);
-        }
+        Answer::Pair(first, second) => pair(first, second),
+        Answer::Report(bits) => field(b" report", bits),
         Answer::Accepted => holding(reply.lamp),
-        Answer::Opened(secret) => {
-            word(b" opened");
-            number(secret);
-        }
+        Answer::Opened(secret) => field(b" opened", secret),
         Answer::Refused(why) => refused(answers::refusal_number(why) as u16),
     }
+}
+
+// The line of lamp i's answer.
+pub(crate) fn answer(i: u8, reply: Reply) {
+    field(b"lamp", i as u16);
+    told(reply);
     word(b"\n");
 }
 
@@ -78,13 +81,17 @@ pub(crate) fn dealing(answer: Dealing) {
     word(b"\n");
 }
 
-// Lamp i's deal.
-pub(crate) fn deal(i: u8, numbers: &[u16]) {
-    word(b"lamp");
-    number(i as u16);
-    word(b" deal");
+// The numbers of a list, in order.
+fn list(numbers: &[u16]) {
     for k in 0..numbers.len() {
         number(numbers[k]);
     }
+}
+
+// Lamp i's deal.
+pub(crate) fn deal(i: u8, numbers: &[u16]) {
+    field(b"lamp", i as u16);
+    word(b" deal");
+    list(numbers);
     word(b"\n");
 }
