@@ -28,10 +28,14 @@ fn small(list: &[u16], place: usize) -> u8 {
     x as u8
 }
 
+fn made(list: &[u16]) -> Reply {
+    Lamp::make(small(list, 0), small(list, 1), small(list, 2))
+}
+
 // Makes the call on the lamp that the call before left, refused or not.
 fn call(lamp: Lamp, kind: u8, list: &[u16]) -> Reply {
     match kind {
-        0 => Lamp::make(small(list, 0), small(list, 1), small(list, 2)),
+        0 => made(list),
         1 => lamp.take_deal(list),
         2 => lamp.say_pair(small(list, 0)),
         3 => lamp.hear_pairs(list),
@@ -123,13 +127,9 @@ fn answered(lamp: Lamp, kind: u8, list: &[u16]) -> Turn {
     }
 }
 
-// The next call of the input, if there is one.
-fn next(lamp: Lamp) -> Turn {
-    let mut head = [0u8; 3];
-    let n = io::read_full(STDIN_FILENO, &mut head);
-    let kind = head[0];
-    let count = record::number(&head[1..3], 0) as usize;
-    if n < 3 || !takes(kind, count) {
+// A call of the kind, with as many numbers as it counts from the input.
+fn asked(lamp: Lamp, kind: u8, count: usize) -> Turn {
+    if !takes(kind, count) {
         return over(lamp);
     }
     if 200 < count {
@@ -140,6 +140,16 @@ fn next(lamp: Lamp) -> Turn {
         return over(lamp);
     }
     answered(lamp, kind, &list[..count])
+}
+
+// The next call of the input, if there is one.
+fn next(lamp: Lamp) -> Turn {
+    let mut head = [0u8; 3];
+    let n = io::read_full(STDIN_FILENO, &mut head);
+    if n < 3 {
+        return over(lamp);
+    }
+    asked(lamp, head[0], record::number(&head[1..3], 0) as usize)
 }
 
 // The input may never end, and a proved loop has to: the turns are counted down from more than any run takes.

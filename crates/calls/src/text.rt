@@ -19,24 +19,24 @@ fn refused(k: u16) {
     number(k);
 }
 
+fn ok(x: u16) {
+    word(b"ok");
+    number(x);
+}
+
+fn pair(first: u16, second: u16) {
+    ok(first);
+    number(second);
+}
+
 // What the lamp answered: "ok" with the values, or the number of the refusal.
 pub(crate) fn answer(answer: Answer) {
     match answer {
         Answer::Done => word(b"ok"),
-        Answer::Pair(first, second) => {
-            word(b"ok");
-            number(first);
-            number(second);
-        }
-        Answer::Report(bits) => {
-            word(b"ok");
-            number(bits);
-        }
+        Answer::Pair(first, second) => pair(first, second),
+        Answer::Report(bits) => ok(bits),
         Answer::Accepted => word(b"ok"),
-        Answer::Opened(secret) => {
-            word(b"ok");
-            number(secret);
-        }
+        Answer::Opened(secret) => ok(secret),
         Answer::Refused(why) => refused(answers::refusal_number(why) as u16),
     }
 }

@@ -1,34 +1,10 @@
--- `calls::next` is safe and ends: the numbers lent are the front of 200.
+-- `calls::asked` is safe and ends: the numbers lent are the front of 200.
 use mathlib.Core.Path.{sym}
 use native.Mathlib.Omega.{arith}
 use lib.Seq.{length-take-le}
 use borrow.Author.Needs.{needs}
-use Rattle.calls.proofs.next.Statement.{statement}
-use Rattle.calls.proofs.next.Tie as tie
-
-slice-aggregate-read-full : tie.Need-slice-aggregate-read-full
-slice-aggregate-read-full c = search needs
-
-read-full-requires : tie.Need-read-full-requires
-read-full-requires c κs = search needs
-
-array-read-kind : tie.Need-array-read-kind
-array-read-kind c = search needs
-
-sub-number : tie.Need-sub-number
-sub-number c = search needs
-
-part-number-start : tie.Need-part-number-start
-part-number-start c = search needs
-
-part-number-end : tie.Need-part-number-end
-part-number-end c = search needs
-
-number-requires : tie.Need-number-requires
-number-requires c κs = search needs
-
-cast-count : tie.Need-cast-count
-cast-count c = search needs
+use Rattle.calls.proofs.asked.Statement.{statement}
+use Rattle.calls.proofs.asked.Tie as tie
 
 takes-requires : tie.Need-takes-requires
 takes-requires c κs = search needs
@@ -69,18 +45,10 @@ answered-requires c κs = search needs
 returns-4 : tie.Need-returns-4
 returns-4 c = search needs
 
-pub next-spec : {M : Type 1} → statement M
-next-spec =
+pub asked-spec : {M : Type 1} → statement M
+asked-spec =
     tie.close
     (tie.spec
-    slice-aggregate-read-full
-    read-full-requires
-    array-read-kind
-    sub-number
-    part-number-start
-    part-number-end
-    number-requires
-    cast-count
     takes-requires
     over-requires
     returns
