@@ -55,12 +55,12 @@ pub fn value(f: &[u16], x: u16) -> u16 {
     super::field::value(f, u32::from(x)) as u16
 }
 
-/// The value at x of four coefficients: Horner's rule without a loop.
+/// The value at x of four coefficients: Horner's rule without a loop, and by one reduction, since all fits 64 bits.
 #[inline(always)]
 fn cubic(f: &[u16; 4], x: u16) -> u16 {
-    let [a, b, c, d] = f.map(u32::from);
-    let x = u32::from(x);
-    mul_add(x, mul_add(x, mul_add(x, d, c), b), a) as u16
+    let [a, b, c, d] = f.map(u64::from);
+    let x = u64::from(x);
+    ((((d * x + c) * x + b) * x + a) % u64::from(P)) as u16
 }
 
 /// Whether at least `need` points agree with f: from the end, and no further where too many have differed.

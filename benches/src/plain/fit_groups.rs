@@ -54,8 +54,11 @@ fn taken_from(i: usize, count: usize, xs: &[u16], ys: &[u16]) -> Option<Taken> {
     None
 }
 
-/// Without a way out half way, so that many comparisons go at a time.
+/// In one pass where the points rise; elsewhere without a way out half way, so that many comparisons go at a time.
 fn distinct(xs: &[u16]) -> bool {
+    if xs.windows(2).all(|pair| pair[0] < pair[1]) {
+        return true;
+    }
     let again = |i: usize| xs[..i].iter().fold(false, |again, &x| again | (x == xs[i]));
     (0..xs.len()).all(|i| !again(i))
 }
