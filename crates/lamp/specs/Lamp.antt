@@ -4,7 +4,7 @@
 --   settled p l S     what settling with the happy set S gives
 --   Call, step p l c  a call, and the lamp and answer that it gives back
 --   after p l cs      the lamp after a list of calls
--- Laws: proofs/Step.
+-- Laws: proofs/Calls, proofs/Checks, proofs/Outcomes.
 use mathlib.Core.Path.{_≡_}
 use mathlib.Core.Bool.{Bool, true, cond, not, _&&_}
 use mathlib.Core.Option.{Option, none, some}

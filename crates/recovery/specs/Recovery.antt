@@ -19,7 +19,7 @@ use Rattle.fit.specs.Fit.{fit}
 use Rattle.fit.specs.declared.Fitted.{Fitted}
 use Rattle.parties.specs.Parties.{sizes, isParty, points}
 
--- The column that fits the points (j, first number heard from j) for j in S: at most t of them differ.
+-- The column that fits the points (j, first number heard from j) for j in S, a set of the n parties: at most t of them differ.
 unfoldable pub repair : ℕ → ℕ → ℕ → ℕ → List ℕ → Option (List ℕ)
 repair p n t S heard =
     let happy = tabulate (bit S) n in
