@@ -1,16 +1,16 @@
 -- Demand 3 is met, for every prime above 16: geometry, reports and run put together.
 --   demand3-for   the demand for any such prime
 --   demand3       the demand for the modulus
-use mathlib.Core.Path.{_≡_, refl, sym, ap, ap₂, subst, _∙_}
+use mathlib.Core.Path.{_≡_, refl, sym, ap, subst, _∙_}
 use mathlib.Core.Logic.{_≢_, _⊎_, inl, inr, ⊎-elim}
-use mathlib.Core.Bool.{Bool, true, false, not, cond}
-use mathlib.Core.Option.{none, some}
-use mathlib.Core.List.{List, [], _∷_, _++_, List·Memᴰ, List·Memᴰ·head, List·Memᴰ·tail}
-use Prim.Native.Nat.{ℕ, suc, _+_, _*_, _-_, _^_, _≤_, _<_}
+use mathlib.Core.Bool.{Bool, true, false}
+use mathlib.Core.Option.{some}
+use mathlib.Core.List.{List, [], _∷_, List·Memᴰ, List·Memᴰ·head, List·Memᴰ·tail}
+use Prim.Native.Nat.{ℕ, suc, _-_, _^_, _≤_, _<_}
 use native.Mathlib.Decide.{ℕ-discrete}
 use native.Mathlib.Omega.{arith}
 use lib.Count.{ones}
-use lib.Dec.{leb, lit<}
+use lib.Dec.{lit<}
 use lib.ListN.{length, getD, set, take, drop, length-set}
 use lib.Seq.{getD-set-same, getD-set-other}
 use Rattle.lists.specs.Tabulate.{pad}
@@ -18,26 +18,26 @@ use Rattle.lists.proofs.Cases.{true-or-false, not-both, le-or-lt}
 use Rattle.field.specs.Arithmetic.{Prime}
 use Rattle.field.specs.Modulus.{modulus}
 use Rattle.field.proofs.Primes.{prime}
-use Rattle.polynomial.specs.Polynomial.{Poly, value}
+use Rattle.polynomial.specs.Polynomial.{value}
 use Rattle.bivariate.specs.Bivariate.{at, row, column}
 use Rattle.bivariate.proofs.Crossing.{row-poly, column-poly, crossing}
 use Rattle.bivariate.proofs.Terms.{row-at, at-secret}
 use Rattle.happy.specs.Happy.{happySet}
 use Rattle.lists.specs.Choices.{count}
 use Rattle.lists.proofs.Choices.{count-no}
-use Rattle.parties.specs.Parties.{sizes, isParty, parties, pointOf, points, member, entry}
+use Rattle.parties.specs.Parties.{parties, pointOf, member, entry}
 use Rattle.parties.proofs.Parties.{sizes-facts, party-facts, party-true, mem-parties}
-use Rattle.dealer.specs.Desk.{desk, deal, stretch}
+use Rattle.dealer.specs.Desk.{deal}
 use Rattle.dealer.proofs.Desk.{take-deal, drop-deal, desk-written, desk-stretch}
-use Rattle.answers.specs.declared.Stage.the-variants.{Holding, Closed}
+use Rattle.answers.specs.declared.Stage.the-variants.{Holding}
 use Rattle.answers.specs.declared.Answer.the-variants.{Accepted as Accepted-answer, Opened}
 use Rattle.lamp.specs.declared.Lamp.{Lamp}
 use Rattle.lamp.specs.declared.Reply.{Reply}
 use Rattle.answers.specs.Answer.{numberOf, valuesOf}
-use Rattle.consistency.specs.Deal.{rowOf, columnOf, firstFrom}
+use Rattle.consistency.specs.Deal.{rowOf, columnOf}
 use Rattle.recovery.specs.Recovery.{repair}
-use Rattle.lamp.specs.Lamp.{Call, takeDeal, sayPair, hearPairs, settle, openShares, made, reply, firsts, constant, columnOfLamp, withDeal, withPairs, atEnd, settled, opening, step, after}
-use Rattle.agreement.specs.Calls.{Run, toDeal, toPairs, toReports, whole, sinceDeal, sinceSettling, At, Begins}
+use Rattle.lamp.specs.Lamp.{Call, takeDeal, hearPairs, settle, openShares, made, reply, firsts, constant, withDeal, withPairs, atEnd, settled, opening, step, after}
+use Rattle.agreement.specs.Calls.{toReports, sinceSettling}
 use Rattle.agreement.specs.Demand3.{Execution, Honest, Premises, HonestDealer, Speaks, Stays, Rejects, Accepts, OnF, AllReject, AllAccept, Conclusions, Demand3, shareOf, lampAt}
 use Rattle.agreement.proofs.Counting.{honest-parties}
 use Rattle.agreement.proofs.Geometry.{Inside, Lies, opens, repairs, lies, lies-once, column-constant, row-constant}

@@ -1,27 +1,26 @@
 -- One lamp and the list that brings it its deal, its pairs and its reports: the lamp at each point of the list, and its replies.
 --   start, dealt, reported, ended   the lamp as made, and after each of the three calls
-use mathlib.Core.Path.{_≡_, refl, sym, ap, ap₂, subst, _∙_}
-use mathlib.Core.Logic.{_⊎_, inl, inr, ⊎-elim}
-use mathlib.Core.Bool.{Bool, true, false, _&&_, and-eq-true-iff, and-false, and-true}
-use mathlib.Core.List.{List, [], _∷_, _++_, append-assoc}
-use Prim.Native.Nat.{ℕ, suc, _+_, _*_, _-_, _≤_}
+use mathlib.Core.Path.{_≡_, refl, sym, ap, ap₂, _∙_}
+use mathlib.Core.Bool.{true, false, _&&_, and-false, and-true}
+use mathlib.Core.List.{List, _∷_, _++_}
+use Prim.Native.Nat.{ℕ, suc, _+_, _*_, _-_}
 use native.Mathlib.Omega.{arith}
 use lib.Dec.{eqb}
-use lib.ListN.{length, take, drop, replicate, length-drop}
+use lib.ListN.{length, take, replicate, length-drop}
 use lib.Seq.{take-at, length-take-le}
 use borrow.Author.Tests.{eq-eqb}
 use Rattle.happy.specs.Happy.{happySet}
 use Rattle.parties.specs.Parties.{sizes, isParty, entry}
-use Rattle.answers.specs.declared.Stage.the-variants.{Waiting, Dealt, Reported}
+use Rattle.answers.specs.declared.Stage.the-variants.{Waiting}
 use Rattle.answers.specs.declared.Answer.the-variants.{Done, Pair, Report}
 use Rattle.lamp.specs.declared.Lamp.{Lamp}
 use Rattle.lamp.specs.declared.Reply.{Reply}
 use Rattle.consistency.specs.Deal.{rowOf, columnOf, pairFor, reportOf}
 use Rattle.lamp.specs.Lamp.{Sized, made, reply, isAt, rowOfLamp, columnOfLamp, withDeal, saidPair, withPairs, reportFrom, settled, Call, takeDeal, sayPair, hearPairs, settle, openShares, step, after}
-use Rattle.agreement.specs.Calls.{Run, toDeal, toPairs, toReports, whole, sinceDeal, sinceSettling, At, Never, isDeal, isHearing, isSettling, moves}
+use Rattle.agreement.specs.Calls.{Run, toDeal, toPairs, toReports, sinceDeal, sinceSettling, Never, isDeal, isHearing, isSettling}
 use Rattle.agreement.specs.Demand3.{Brings, reportBy, pairOf}
-use Rattle.agreement.proofs.Steps.{awaited, Shut, takes, hears, settles, pair-said, stray, all-quiet, after-append}
-use Rattle.agreement.proofs.Runs.{Kept, Late, kept-sized, after-kept, settled-kept, settled-late, late-awaits, never-all, never-map, and-right}
+use Rattle.agreement.proofs.Steps.{awaited, takes, hears, settles, pair-said, all-quiet, after-append}
+use Rattle.agreement.proofs.Runs.{Kept, Late, kept-sized, after-kept, settled-kept, settled-late, late-awaits, never-all, never-map}
 
 module _ (p n t i : ℕ) (size : sizes n t ≡ true) (party : isParty n i ≡ true) (cs : List Call) (r : Run) (b : Brings p n t i cs r) where
   abbrev d : List ℕ

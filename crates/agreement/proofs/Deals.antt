@@ -1,16 +1,14 @@
 -- What a sound deal, a pair and a one in a report say, as facts.
 --   Sound, Confirmed   the same as records
-use mathlib.Core.Path.{_≡_, refl, sym, ap, _∙_}
+use mathlib.Core.Path.{_≡_, ap, _∙_}
 use mathlib.Core.Logic.{_≢_}
-use mathlib.Core.Bool.{Bool, true, false, cond, not, _&&_, and-eq-true-iff}
+use mathlib.Core.Bool.{Bool, true, cond, not, _&&_, and-eq-true-iff}
 use mathlib.Core.List.{List}
-use Prim.Native.Nat.{ℕ, suc, _-_, _<_, _≤_}
+use Prim.Native.Nat.{ℕ, suc, _-_}
 use native.Mathlib.Omega.{arith}
 use lib.Dec.{eqb}
 use borrow.Author.Tests.{eqb-true, eqb-false, eq-eqb, ne-eqb, not-true}
-use Rattle.lists.specs.Masks.{bit}
 use Rattle.lists.proofs.Masks.{bit-mask}
-use Rattle.lists.proofs.Cases.{true-or-false}
 use Rattle.polynomial.specs.Polynomial.{Residues, residues, value}
 use Rattle.polynomial.proofs.Below.{residues-true, residues-facts}
 use Rattle.parties.specs.Parties.{isParty, pointOf, member, notSent}

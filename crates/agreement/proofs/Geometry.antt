@@ -3,8 +3,7 @@
 --   Inside            a party that is honest and in S
 --   Crossed           what is supposed
 --   Lies F            every party inside has F's row and column
-use mathlib.Core.Path.{_≡_, refl, sym, ap, ap₂, subst, _∙_}
-use mathlib.Core.Logic.{⊎-elim}
+use mathlib.Core.Path.{_≡_, refl, sym, ap, _∙_}
 use mathlib.Core.Bool.{Bool, true, false, not, _&&_, and-eq-true-iff, false≢true}
 use mathlib.Core.Option.{some}
 use mathlib.Core.List.{List, [], _∷_, map, List·Memᴰ, List·Memᴰ·head, List·Memᴰ·tail}
@@ -13,7 +12,7 @@ use native.Mathlib.Nat.{mod-eq-of-lt}
 use native.Mathlib.Omega.{arith}
 use native.Mathlib.Decide.{decLt, ℕ-discrete}
 use lib.Count.{ones}
-use lib.ListN.{length, getD, take, length-map, length-take, List·getD-eq-default}
+use lib.ListN.{length, getD, take, length-map, List·getD-eq-default}
 use lib.Seq.{getD-take, length-take-le}
 use Rattle.lists.specs.All.{Distinct}
 use Rattle.lists.specs.Masks.{bit}
@@ -23,15 +22,15 @@ use Rattle.field.specs.Arithmetic.{Prime}
 use Rattle.polynomial.specs.Polynomial.{Poly, Points, value}
 use Rattle.bivariate.specs.Bivariate.{at, row, column, LieOn}
 use Rattle.polynomial.proofs.Division.{value-zero}
-use Rattle.bivariate.proofs.Crossing.{row-poly, column-poly, crossing}
+use Rattle.bivariate.proofs.Crossing.{row-poly, column-poly}
 use Rattle.bivariate.proofs.Bivariate.{lie-on, lie-once}
 use Rattle.bivariate.proofs.Terms.{row-at, column-at}
-use Rattle.lists.specs.Choices.{count, keep, marked, select, hide}
-use Rattle.fit.specs.Fit.{sent, Fits, fit}
+use Rattle.lists.specs.Choices.{count, keep, hide}
+use Rattle.fit.specs.Fit.{sent, fit}
 use Rattle.lists.proofs.Choices.{count-map, length-keep, keep-sublist}
 use Rattle.lists.proofs.Selections.{length-hide, hide-at}
 use Rattle.lists.proofs.Sublists.{map-sublist}
-use Rattle.fit.proofs.Decoding.{points-sublist, fit-found}
+use Rattle.fit.proofs.Decoding.{points-sublist}
 use Rattle.fit.proofs.Rule.{sent-length}
 use Rattle.fit.proofs.Selection.{fit-marked, fit-hide, sent-marked}
 use Rattle.parties.specs.Parties.{sizes, isParty, parties, pointOf, points, member, entry, notSent}

@@ -1,15 +1,14 @@
 -- What settling and opening give, for one lamp whose set and values are known.
-use mathlib.Core.Path.{_≡_, refl, sym, ap, ap₂, subst, _∙_}
-use mathlib.Core.Bool.{Bool, true, false, cond, _&&_}
-use mathlib.Core.Option.{Option, none, some}
-use mathlib.Core.List.{List, [], _∷_, _++_}
-use Prim.Native.Nat.{ℕ, suc, _*_, _-_, _≤_, _<_}
+use mathlib.Core.Path.{_≡_, ap, _∙_}
+use mathlib.Core.Bool.{true, false}
+use mathlib.Core.Option.{Option, some}
+use mathlib.Core.List.{List}
+use Prim.Native.Nat.{ℕ, suc, _-_, _≤_, _<_}
 use native.Mathlib.Omega.{arith}
 use lib.Count.{ones}
-use lib.Dec.{leb}
-use lib.ListN.{length, getD, replicate, length-append, List·getD-append}
+use lib.ListN.{length, replicate, length-append, List·getD-append}
 use borrow.Author.Tests.{le-leb, lt-leb}
-use Rattle.lists.specs.Tabulate.{tabulate, pad}
+use Rattle.lists.specs.Tabulate.{pad}
 use Rattle.lists.proofs.Tabulate.{length-tabulate, getD-tabulate}
 use Rattle.parties.specs.Parties.{isParty, member, entry}
 use Rattle.parties.proofs.Parties.{party-facts}
@@ -17,10 +16,9 @@ use Rattle.answers.specs.declared.Stage.the-variants.{Holding, Closed}
 use Rattle.answers.specs.declared.Refusal.the-variants.{DealerRejected}
 use Rattle.answers.specs.declared.Answer.the-variants.{Accepted, Opened, Refused}
 use Rattle.lamp.specs.declared.Lamp.{Lamp}
-use Rattle.lamp.specs.declared.Reply.{Reply}
 use Rattle.consistency.specs.Deal.{firstFrom}
 use Rattle.recovery.specs.Recovery.{repair}
-use Rattle.lamp.specs.Lamp.{reply, columnOfLamp, firsts, withPairs, atEnd, constant, repaired, settled, opened, opening}
+use Rattle.lamp.specs.Lamp.{reply, columnOfLamp, firsts, atEnd, constant, repaired, settled, opened}
 
 module _ (p : ℕ) (l : Lamp) (S : ℕ) where
   pub settled-rejects : ones S < l .n - l .t → settled p l S ≡ reply (atEnd l Closed 0 0) (Refused DealerRejected)

@@ -1,10 +1,10 @@
 -- From reports to crossing: honest parties in the happy set have ones for each other, so their rows and columns cross.
 -- And with an honest dealer all honest parties agree, so the happy set is large enough.
 use mathlib.Core.Path.{_≡_, refl, sym, ap, ap₂, subst, _∙_}
-use mathlib.Core.Logic.{_≢_, ⊎-elim}
-use mathlib.Core.Bool.{Bool, true, false, not, _&&_}
+use mathlib.Core.Logic.{_≢_}
+use mathlib.Core.Bool.{Bool, true, not}
 use mathlib.Core.List.{List, [], _∷_, List·Memᴰ, List·Memᴰ·head, List·Memᴰ·tail}
-use Prim.Native.Nat.{ℕ, zero, suc, _+_, _-_, _*_, _^_, _≤_, _<_}
+use Prim.Native.Nat.{ℕ, suc, _-_, _*_, _^_, _≤_, _<_}
 use native.Mathlib.Nat.{le-trans}
 use native.Mathlib.Decide.{decLt, ℕ-discrete}
 use native.Mathlib.Omega.{arith}
@@ -13,21 +13,20 @@ use lib.ListN.{length, getD}
 use lib.Pow.{pow-mono}
 use Rattle.lists.specs.Masks.{bit, mask}
 use Rattle.lists.proofs.Masks.{mask-lt, bit-mask, bit-none}
-use Rattle.lists.proofs.Cases.{not-both, true-or-false}
+use Rattle.lists.proofs.Cases.{not-both}
 use Rattle.field.specs.Arithmetic.{Prime}
 use Rattle.polynomial.specs.Polynomial.{Poly, value}
 use Rattle.bivariate.specs.Bivariate.{row, column}
 use Rattle.bivariate.proofs.Crossing.{row-poly, column-poly, crossing}
-use Rattle.happy.specs.Agreement.{agree, Agreed}
+use Rattle.happy.specs.Agreement.{agree}
 use Rattle.happy.specs.Clique.{Clique, Largest}
 use Rattle.happy.specs.Happy.{happySet}
 use Rattle.happy.proofs.Agreement.{agree-iff}
 use Rattle.happy.proofs.Happy.{happy-is, happy-enough}
 use Rattle.lists.specs.Choices.{count}
-use Rattle.lists.proofs.Choices.{count-yes, count-no}
 use Rattle.parties.specs.Parties.{sizes, isParty, parties, pointOf, member, entry}
 use Rattle.parties.proofs.Parties.{sizes-facts, party-facts, party-true, mem-parties}
-use Rattle.consistency.specs.Deal.{firstFrom, secondFrom, sound, pairFor, confirms, reportOf}
+use Rattle.consistency.specs.Deal.{firstFrom, secondFrom, sound, pairFor, reportOf}
 use Rattle.agreement.proofs.Counting.{ones-parties, honest-parties}
 use Rattle.agreement.proofs.Deals.{Sound, sound-facts, sound-true, pair-first, pair-second, Confirmed, confirmed, confirms-true, report-bit}
 use Rattle.agreement.proofs.Geometry.{Inside, Crossed, neighbour}

@@ -2,11 +2,11 @@
 --   demand2-for   the demand for any such prime
 --   demand2       the demand for the modulus
 use mathlib.Core.Path.{_≡_, refl, sym, ap, ap₂, subst, _∙_}
-use mathlib.Core.Logic.{_⊎_, _↔_, inl, inr, ⊎-elim}
-use mathlib.Core.Bool.{Bool, true, false, cond, _&&_}
+use mathlib.Core.Logic.{_⊎_, _↔_, ⊎-elim}
+use mathlib.Core.Bool.{Bool, true, false, _&&_}
 use mathlib.Core.Option.{Option, none, some}
-use mathlib.Core.List.{List, [], _∷_, _++_}
-use Prim.Native.Nat.{ℕ, suc, _+_, _*_, _-_, _^_, _≤_, _<_}
+use mathlib.Core.List.{List, []}
+use Prim.Native.Nat.{ℕ, suc, _+_, _*_, _-_, _≤_, _<_}
 use native.Mathlib.Omega.{arith}
 use lib.Count.{ones}
 use lib.Dec.{eqb, lit<}
@@ -17,37 +17,35 @@ use Rattle.lists.specs.Masks.{bit}
 use Rattle.lists.specs.Tabulate.{tabulate}
 use Rattle.lists.proofs.Masks.{ones-members}
 use Rattle.lists.proofs.Tabulate.{length-tabulate}
-use Rattle.lists.proofs.Cases.{true-or-false, le-or-lt, not-both}
+use Rattle.lists.proofs.Cases.{true-or-false, le-or-lt}
 use Rattle.field.specs.Arithmetic.{Prime}
 use Rattle.field.specs.Modulus.{modulus}
 use Rattle.field.proofs.Primes.{prime}
-use Rattle.polynomial.specs.Polynomial.{Poly, Points}
-use Rattle.bivariate.specs.Bivariate.{row, column}
+use Rattle.polynomial.specs.Polynomial.{Points}
 use Rattle.bivariate.proofs.Terms.{row-at, column-at}
 use Rattle.happy.specs.Agreement.{agree}
-use Rattle.happy.specs.Clique.{Clique, Largest}
+use Rattle.happy.specs.Clique.{Largest}
 use Rattle.happy.specs.Happy.{happySet}
 use Rattle.happy.proofs.Happy.{happy-is, happy-only}
-use Rattle.lists.specs.Choices.{select}
-use Rattle.fit.specs.Fit.{misses, Fits, fit}
+use Rattle.fit.specs.Fit.{Fits, fit}
 use Rattle.fit.proofs.Decoding.{fit-unique, fit-none-iff}
 use Rattle.fit.proofs.Rule.{fits-iff, at-most-one, near-found as fitting-found}
 use Rattle.fit.proofs.Selection.{points-select}
 use Rattle.lists.proofs.Selections.{length-select}
-use Rattle.parties.specs.Parties.{sizes, isParty, pointOf, points, member, entry}
+use Rattle.parties.specs.Parties.{points, member, entry}
 use Rattle.parties.proofs.Parties.{sizes-facts, party-facts, length-points}
-use Rattle.dealer.specs.Desk.{deal, desk, numberOf as numberOfDealing}
+use Rattle.dealer.specs.Desk.{deal, numberOf as numberOfDealing}
 use Rattle.dealer.proofs.Desk.{length-deals, desk-written, desk-writes, desk-list, desk-stretch, desk-size, desk-length, desk-residue, desk-refused}
 use Rattle.answers.specs.declared.Stage.{Stage}
-use Rattle.answers.specs.declared.Stage.the-variants.{Reported, Holding, Closed}
-use Rattle.answers.specs.declared.Refusal.the-variants.{DealerRejected, NoColumn, NoOpening}
-use Rattle.answers.specs.declared.Answer.the-variants.{Accepted, Opened, Refused}
+use Rattle.answers.specs.declared.Stage.the-variants.{Holding, Closed}
+use Rattle.answers.specs.declared.Refusal.the-variants.{DealerRejected, NoColumn}
+use Rattle.answers.specs.declared.Answer.the-variants.{Accepted, Refused}
 use Rattle.lamp.specs.declared.Lamp.{Lamp}
 use Rattle.lamp.specs.declared.Reply.{Reply}
 use Rattle.answers.specs.Answer.{numberOf, valuesOf, stageNumber}
 use Rattle.consistency.specs.Deal.{rowOf, columnOf}
 use Rattle.recovery.specs.Recovery.{repair}
-use Rattle.lamp.specs.Lamp.{withDeal, withPairs, reportFrom, takeDeal, hearPairs, rowOfLamp, Sized, reply, refuse, isAt, columnOfLamp, constant, atEnd, repaired, settled, opening, opened, settle, openShares, step}
+use Rattle.lamp.specs.Lamp.{withDeal, withPairs, reportFrom, rowOfLamp, reply, columnOfLamp, constant, atEnd, repaired, settled, opening, opened, settle, openShares, step}
 use Rattle.agreement.specs.Demand2.{Takes, Hears, TakesRight, HearsRight, Nearest, FewAgree, pointsIn, heardIn, Stands, Settles, Opens, RejectsRight, KeepsRight, RepairsRight, OpensRight, DealsRight, Demand2}
 use Rattle.agreement.specs.Demand3.{Gives, Refuses}
 use Rattle.agreement.proofs.Counting.{marks-ones}

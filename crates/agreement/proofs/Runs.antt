@@ -2,34 +2,26 @@
 --   Kept l m     m has the sizes, the number, the row and the column of l
 --   dealt, reported, ended   the lamp after each of the three
 use mathlib.Core.Path.{_≡_, refl, sym, ap, ap₂, subst, _∙_}
-use mathlib.Core.Logic.{_⊎_, inl, inr, ⊎-elim}
-use mathlib.Core.Bool.{Bool, true, false, cond, not, _&&_, and-eq-true-iff, true≢false, and-false}
+use mathlib.Core.Logic.{_⊎_, ⊎-elim}
+use mathlib.Core.Bool.{Bool, true, false, cond, _&&_, and-eq-true-iff, true≢false, and-false}
 use mathlib.Core.Option.{Option, none, some}
-use mathlib.Core.List.{List, [], _∷_, _++_}
-use Prim.Native.Nat.{ℕ, suc, _+_, _*_, _-_, _≤_}
-use native.Mathlib.Omega.{arith}
+use mathlib.Core.List.{List, [], _∷_}
+use Prim.Native.Nat.{ℕ, suc, _*_, _-_}
 use lib.Count.{ones}
 use lib.Dec.{eqb, leb}
-use lib.ListN.{length, take, drop, replicate, length-drop}
-use lib.Seq.{take-at, length-take-le}
-use borrow.Author.Tests.{eq-eqb}
-use Rattle.lists.specs.All.{All}
-use Rattle.lists.specs.Tabulate.{pad}
+use lib.ListN.{length}
 use Rattle.lists.proofs.Cases.{true-or-false, not-both}
 use Rattle.happy.specs.Happy.{happySet}
 use Rattle.parties.specs.Parties.{sizes, isParty, member, entry}
-use Rattle.parties.proofs.Parties.{sizes-facts}
 use Rattle.answers.specs.declared.Stage.{Stage}
 use Rattle.answers.specs.declared.Stage.the-variants.{Waiting, Dealt, Reported, Holding, Closed}
 use Rattle.lamp.specs.declared.Lamp.{Lamp}
 use Rattle.lamp.specs.declared.Reply.{Reply}
 use Rattle.answers.specs.Answer.{stageNumber}
-use Rattle.consistency.specs.Deal.{rowOf, columnOf, pairFor, reportOf}
 use Rattle.recovery.specs.Recovery.{repair}
-use Rattle.lamp.specs.Lamp.{Sized, made, isAt, rowOfLamp, columnOfLamp, withDeal, saidPair, withPairs, reportFrom, atEnd, constant, repaired, settled, Call, takeDeal, sayPair, hearPairs, settle, openShares, step, after}
-use Rattle.agreement.specs.Calls.{Run, toDeal, toPairs, toReports, whole, sinceDeal, sinceSettling, At, Never, isDeal, isHearing, isSettling, moves}
-use Rattle.agreement.specs.Demand3.{Brings, reportBy, pairOf}
-use Rattle.agreement.proofs.Steps.{awaited, takes, hears, settles, quiet, all-quiet, after-append}
+use Rattle.lamp.specs.Lamp.{Sized, isAt, columnOfLamp, withPairs, atEnd, constant, repaired, settled, Call, takeDeal, sayPair, hearPairs, settle, openShares, step, after}
+use Rattle.agreement.specs.Calls.{Never}
+use Rattle.agreement.proofs.Steps.{awaited, hears, settles, quiet}
 
 pub by-cond : {A : Type 0} (Q : A → Type 0) (b : Bool) (x y : A) → Q x → Q y → Q (cond b x y)
 by-cond Q true x y hx hy = hx

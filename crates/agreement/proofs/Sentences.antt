@@ -5,8 +5,8 @@
 --   nothingHidden         a list of calls determines the deal, the pairs and the reports that it brings
 --   reportKept            the report that is given out is the one that is kept
 use mathlib.Core.Path.{_≡_, refl, sym, ap, ap₂, subst, _∙_}
-use mathlib.Core.Logic.{_⊎_, inl, inr, ⊎-elim}
-use mathlib.Core.Bool.{Bool, true, false, cond, not, _&&_, true≢false}
+use mathlib.Core.Logic.{_⊎_, inl, inr}
+use mathlib.Core.Bool.{Bool, true, false, cond, not, _&&_}
 use mathlib.Core.Option.{Option, none, some}
 use mathlib.Core.List.{List, [], _∷_, _++_, append-assoc, head-eq-of-cons-eq, tail-eq-of-cons-eq}
 use Prim.Native.Nat.{ℕ, suc, _*_, _-_, _≤_}
@@ -23,8 +23,7 @@ use Rattle.answers.specs.declared.Stage.{Stage}
 use Rattle.answers.specs.declared.Stage.the-variants.{Waiting, Dealt, Reported, Holding, Closed}
 use Rattle.answers.specs.declared.Refusal.{Refusal}
 use Rattle.answers.specs.declared.Refusal.the-variants.{WrongSize, WrongNumber, WrongLength, WrongStage, AlteredReport}
-use Rattle.answers.specs.declared.Answer.{Answer}
-use Rattle.answers.specs.declared.Answer.the-variants.{Done, Pair, Report, Refused}
+use Rattle.answers.specs.declared.Answer.the-variants.{Done, Pair, Report}
 use Rattle.answers.specs.declared.Admission.{Admission}
 use Rattle.answers.specs.declared.Admission.the-variants.{Pass, Fail}
 use Rattle.lamp.specs.declared.Lamp.{Lamp}
@@ -33,7 +32,7 @@ use Rattle.answers.specs.Answer.{numberOf, stageNumber, lowest}
 use Rattle.consistency.specs.Deal.{rowOf, columnOf, reportOf}
 use Rattle.recovery.specs.Recovery.{repair}
 use Rattle.lamp.specs.Lamp.{made, reply, refuse, check, guard, isAt, withDeal, saidPair, withPairs, reportFrom, atEnd, constant, columnOfLamp, repaired, settled, opening, opened, Call, takeDeal, sayPair, hearPairs, settle, openShares, step, after}
-use Rattle.agreement.specs.Calls.{Run, toDeal, toPairs, toReports, whole, Never, isDeal, isHearing, isSettling}
+use Rattle.agreement.specs.Calls.{Run, whole, Never, isDeal, isHearing, isSettling}
 use Rattle.agreement.specs.Demand2.{Stands}
 use Rattle.agreement.specs.Demand3.{Brings, reportBy}
 use Rattle.agreement.proofs.Runs.{by-cond}

@@ -1,21 +1,20 @@
 -- Every plot meets the premises of demand 3; and three plots, played by the definitions themselves: one with an honest dealer, one
 -- accepted with a liar and a repair, one rejected.
-use mathlib.Core.Path.{_≡_, refl, sym, ap, ap₂, subst, _∙_}
+use mathlib.Core.Path.{_≡_, refl, sym, ap, ap₂, _∙_}
 use mathlib.Core.Logic.{⊎-elim}
 use mathlib.Core.Bool.{Bool, true, false, cond, not}
 use mathlib.Core.Option.{Option, none, some}
 use mathlib.Core.List.{List, [], _∷_, zipWith}
-use Prim.Native.Nat.{ℕ, suc, _+_, _*_, _-_, _/_, _%_, _≤_, _<_}
+use Prim.Native.Nat.{ℕ, suc, _+_, _*_, _-_, _/_, _%_, _≤_}
 use native.Mathlib.Omega.{arith}
 use lib.Count.{ones}
-use lib.Dec.{eqb, leb, lit<, lit≤}
-use lib.ListN.{length, getD, replicate}
+use lib.Dec.{eqb, leb, lit≤}
+use lib.ListN.{length, replicate}
 use Rattle.lists.specs.Masks.{mask}
 use Rattle.lists.specs.Tabulate.{tabulate}
 use Rattle.lists.specs.Choices.{count}
 use Rattle.lists.proofs.Tabulate.{length-tabulate, getD-tabulate}
 use Rattle.field.specs.Modulus.{modulus}
-use Rattle.field.proofs.Primes.{prime}
 use Rattle.happy.specs.Agreement.{agree, agreements}
 use Rattle.happy.specs.Happy.{joins, better, best, largest, largestIn, happySet}
 use Rattle.fit.specs.Fit.{hits, sent, received, through, fit}
@@ -31,8 +30,8 @@ use Rattle.answers.specs.Answer.{numberOf, valuesOf, lowest}
 use Rattle.recovery.specs.Recovery.{repair}
 use Rattle.lamp.specs.Lamp.{settle, openShares, step, check, withDeal, withPairs, reportFrom, settled, opening, atEnd}
 use Rattle.consistency.specs.Deal.{rowOf, columnOf, firstFrom, secondFrom, sound, pairFor, confirms, reportOf}
-use Rattle.agreement.specs.Calls.{whole, toReports, sinceSettling, Never, isDeal, isHearing, isSettling}
-use Rattle.agreement.specs.Demand3.{Honest, Premises, HonestDealer, AllReject, AllAccept, lampAt, answerAt, Demand3}
+use Rattle.agreement.specs.Calls.{toReports, sinceSettling, Never, isDeal, isHearing, isSettling}
+use Rattle.agreement.specs.Demand3.{Honest, Premises, AllReject, AllAccept, lampAt, answerAt, Demand3}
 use Rattle.agreement.specs.Stories.{Plot, pairHeard, pairsHeard, reportsSeen, runOf, execution, anF, honestDealer, liar, twoDealers}
 use Rattle.agreement.proofs.Agreement.{demand3}
 

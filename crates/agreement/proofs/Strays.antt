@@ -10,10 +10,9 @@ use Rattle.lamp.specs.declared.Lamp.{Lamp}
 use Rattle.lamp.specs.declared.Reply.{Reply}
 use Rattle.answers.specs.Answer.{numberOf, refusalNumber}
 use Rattle.lamp.specs.Lamp.{Sized, made, refuse, Call, takeDeal, hearPairs, settle, step, after}
-use Rattle.agreement.specs.Calls.{Run, toDeal, toPairs, toReports, At, Never, isDeal, isHearing, isSettling, moves}
-use Rattle.agreement.specs.Demand3.{Execution, Brings, reportBy, Stray, Refuses}
-use Rattle.agreement.proofs.Steps.{awaited, Shut, stray, all-quiet, after-append}
-use Rattle.agreement.proofs.Runs.{late-awaits, never-map}
+use Rattle.agreement.specs.Calls.{Run, toDeal, toPairs, toReports, At, Never, moves}
+use Rattle.agreement.specs.Demand3.{Execution, Brings, Stray, Refuses}
+use Rattle.agreement.proofs.Steps.{awaited, Shut, stray, all-quiet}
 use Rattle.agreement.proofs.Collapse as one
 
 -- Where two cuts of one list lie: the first before the second, at it, or behind it.

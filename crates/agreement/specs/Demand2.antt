@@ -5,7 +5,7 @@
 --   Demand2 p                      the demand, for arithmetic modulo p
 use mathlib.Core.Path.{_≡_}
 use mathlib.Core.Logic.{_↔_}
-use mathlib.Core.Bool.{Bool, true, false}
+use mathlib.Core.Bool.{true, false}
 use mathlib.Core.Option.{none, some}
 use mathlib.Core.List.{List, [], _∷_, _++_}
 use Prim.Native.Nat.{ℕ, suc, _*_, _-_, _^_, _≤_, _<_}
@@ -24,7 +24,6 @@ use Rattle.dealer.specs.Desk as desks
 use Rattle.answers.specs.declared.Stage.{Stage}
 use Rattle.answers.specs.declared.Stage.the-variants.{Waiting, Dealt, Reported, Holding, Closed}
 use Rattle.lamp.specs.declared.Lamp.{Lamp}
-use Rattle.lamp.specs.declared.Reply.{Reply}
 use Rattle.answers.specs.Answer.{numberOf}
 use Rattle.consistency.specs.Deal.{rowOf, columnOf, firstFrom, reportOf}
 use Rattle.lamp.specs.Lamp.{Sized, rowOfLamp, columnOfLamp, constant, takeDeal, hearPairs, settle, openShares, step}

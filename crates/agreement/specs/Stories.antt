@@ -3,7 +3,7 @@
 --   execution p n t   the execution: each honest lamp is given its deal, hears and settles, with other calls before, between and after
 --   honestDealer, liar, twoDealers   three plots for n = 5 and t = 1
 -- A plot within the sizes, with at most t faulty lamps, deals of the right length and no earlier right call, meets the premises: proofs/Stories.
-use mathlib.Core.Bool.{Bool, true, false, cond, not}
+use mathlib.Core.Bool.{Bool, true, cond, not}
 use mathlib.Core.List.{List, [], _∷_}
 use Prim.Native.Nat.{ℕ, suc, _*_, _/_, _%_}
 use lib.Dec.{eqb, leb}

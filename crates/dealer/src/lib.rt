@@ -1,10 +1,8 @@
 // The dealing desk: checks the dealer's list and writes each party's deal into its own part of the lent list.
 ghost use mathlib.Core.Path.{_≡_};
-ghost use mathlib.Core.Bool.{Bool, true};
-ghost use Prim.Native.Nat.{ℕ, suc, _+_, _*_, _≤_};
+ghost use Prim.Native.Nat.{_*_, _≤_};
 ghost use lib.ListN.{length};
 ghost use Rattle.field.specs.Modulus.{modulus};
-ghost use Rattle.parties.specs.Parties.{sizes};
 ghost use Rattle.dealer.specs.Desk.{deal, deals, verdict, desk};
 
 // What the desk answers. Document 01's number of each refusal is `numberOf` in the definitions.

@@ -1,6 +1,6 @@
 -- Inverses modulo a prime: they exist, each number has one only, and no product of two numbers that are not 0 is 0.
 --   Turn   what the loop that finds an inverse keeps: a t is d modulo p
-use Prim.Native.Nat.{ℕ, zero, suc, _+_, _*_, _-_, _/_, _%_, _≤_, _<_}
+use Prim.Native.Nat.{ℕ, zero, suc, _*_, _-_, _/_, _%_, _≤_, _<_}
 use mathlib.Core.Path.{_≡_, sym, _∙_, ap}
 use mathlib.Core.Logic.{_⊎_, inl, inr, ⊎-elim}
 use native.Mathlib.Nat.{mod-lt, mod-eq-of-lt, mod-add-div, zero-mod, sub-add-cancel, div-le-self, eq-zero-or-pos}

@@ -7,8 +7,8 @@ use Prim.Native.Nat.{ℕ, suc, _-_, _<_, _≤_}
 use native.Mathlib.Omega.{arith}
 use borrow.Author.Tests.{le-leb, lt-leb}
 use lib.Count.{ones}
-use lib.ListN.{length, take, getD}
-use lib.Seq.{length-take-le, getD-take}
+use lib.ListN.{length, getD}
+use lib.Seq.{getD-take}
 use Rattle.lists.proofs.Padded.{getD-zeros}
 use Rattle.fit.specs.declared.Fitted.{Fitted}
 use Rattle.fit.specs.Answer.{answer}

@@ -21,7 +21,7 @@ use Rattle.recovery.specs.Recovery.{repair, openingWith}
 use Rattle.answers.specs.declared.Stage.{Stage}
 use Rattle.answers.specs.declared.Stage.the-variants.{Waiting, Dealt, Reported, Holding, Closed}
 use Rattle.answers.specs.declared.Refusal.{Refusal}
-use Rattle.answers.specs.declared.Refusal.the-variants.{WrongSize, WrongNumber, WrongLength, WrongStage, AlteredReport, DealerRejected, NoColumn, NoOpening}
+use Rattle.answers.specs.declared.Refusal.the-variants.{AlteredReport, DealerRejected, NoColumn, NoOpening}
 use Rattle.answers.specs.declared.Answer.{Answer}
 use Rattle.answers.specs.declared.Answer.the-variants.{Done, Pair, Report, Accepted, Opened, Refused}
 use Rattle.answers.specs.declared.Admission.{Admission}

@@ -1,6 +1,6 @@
 -- What the arrays of the code hold: the numbers heard, with those of parties outside a set hidden.
 --   heardAt mark S heard k   the number heard from the party at place k, or `mark` where S has it not
-use mathlib.Core.Path.{_≡_, refl, sym, ap, ap₂, _∙_}
+use mathlib.Core.Path.{_≡_, refl, sym, ap₂, _∙_}
 use mathlib.Core.Bool.{Bool, false, cond}
 use mathlib.Core.List.{List, [], _∷_}
 use Prim.Native.Nat.{ℕ, zero, suc, _/_, _%_, _^_, _<_, _≤_}
