@@ -52,6 +52,14 @@ putting-all o q w at r h a =
     sym (take-append-drop r q) ∙ ap₂ _++_ (a .text) (a .rest ∙ ap (λ m. drop m o) (a .next)) in
     rw (le-leb (at + length w) (length o) h) (ap₂ (λ (x : List ℕ) (y : ℕ). (x, y)) whole (a .next))
 
+-- One letter.
+pub letter-put : (o : List ℕ) (v at : ℕ) → at < length o → (set o at v, at + 1) ≡ putting o at (v ∷ [])
+letter-put o v at h = putting-all o (set o at v) (v ∷ []) at (at + 1) (omega arith) record {
+  next = refl;
+  text = rw (add-one, take-suc-set o at v);
+  rest = drop-set-lt (at + 1) o at v (omega arith);
+}
+
 -- So it is put where there is room.
 pub putting-added : (o q w : List ℕ) (at r : ℕ) → (q, r) ≡ putting o at w → at + length w ≤ length o → Added o at w q r
 unfolding putting
@@ -113,6 +121,10 @@ unfolding zeros decimal
 decimal-part digits from x e f =
     ap₂ (λ m l. take (5 - m) (drop m l)) f e
     ∙ without-zeros (ltb x 10) (ltb x 100) (ltb x 1000) (ltb x 10000) (digit (x / 10000)) (digit (x / 1000)) (digit (x / 100)) (digit (x / 10)) (digit x)
+
+pub decimal-one : (x : ℕ) → x < 10 → digit x ∷ [] ≡ decimal x
+unfolding decimal
+decimal-one x h = rw (lt-ltb x 10 h)
 
 -- A lamp's number has at most two digits.
 pub decimal-two : (x : ℕ) → x < 100 → length (decimal x) ≤ 2

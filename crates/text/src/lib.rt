@@ -24,6 +24,18 @@ pub fn put(out: &mut [u8], at: usize, word: &[u8]) -> usize
     at + i
 }
 
+// Puts one letter.
+fn put_letter(out: &mut [u8], at: usize, letter: u8) -> usize
+    ensures { λ r. ⌜ (now (out .exit), r) ≡ putting (now (out .entry)) at (letter ∷ []) ⌝ }
+    ensures short { λ r. ⌜ r ≤ at + 1 ⌝ }
+{
+    if out.len() <= at {
+        return at;
+    }
+    out[at] = letter;
+    at + 1
+}
+
 // The five decimal digits of x, with the zeros in front.
 fn digits(x: u16) -> [u8; 5]
     ensures { λ r. ⌜ r ≡ five x ⌝ }
@@ -62,6 +74,10 @@ pub fn put_number(out: &mut [u8], at: usize, x: u16) -> usize
     ensures { λ r. ⌜ (now (out .exit), r) ≡ putting (now (out .entry)) at (decimal x) ⌝ }
     ensures short { λ r. ⌜ r ≤ at + 5 ⌝ }
 {
+    // Most numbers of a small record are a single digit.
+    if x < 10 {
+        return put_letter(out, at, (48 + x % 10) as u8);
+    }
     let five = digits(x);
     let from = zeros(x);
     put(out, at, &five[from..5])
@@ -82,5 +98,5 @@ pub fn put_line(out: &mut [u8], at: usize, word: &[u8], x: u16) -> usize
     ensures short { λ r. ⌜ r ≤ at + length (now (word .entry)) + 6 ⌝ }
 {
     let next = put_field(out, at, word, x);
-    put(out, next, b"\n")
+    put_letter(out, next, 10)
 }

@@ -205,29 +205,38 @@ fn reported(bytes: &[u8], n: u8, t: u8, i: u8) -> Lamp
     reply.lamp
 }
 
-// What lamp i answers to settling.
-fn run(bytes: &[u8], n: u8, t: u8, i: u8) -> Reply
-    requires { ⌜ Whole (now bytes) n t × (1 ≤ i) × (i ≤ n) ⌝ }
+// What lamp i answers to settling on the reports.
+fn run(bytes: &[u8], reports: &[u16], n: u8, t: u8, i: u8) -> Reply
+    requires { ⌜ Whole (now bytes) n t × (now reports ≡ numbersOf (now bytes) 2) × (1 ≤ i) × (i ≤ n) ⌝ }
     ensures { λ r. ⌜ r ≡ run (now (bytes .entry)) n t i ⌝ }
 {
-    let count = n as usize;
-    let list = part(bytes, 2, 0, count);
     let lamp = reported(bytes, n, t, i);
-    lamp.settle(&list[..count])
+    lamp.settle(reports)
 }
 
-// Puts the lines of all lamps.
-fn put_lamps(out: &mut [u8], at: usize, bytes: &[u8], n: u8, t: u8) -> usize
-    requires { ⌜ Whole (now bytes) n t × (n ≤ 16) × (at + 352 ≤ length (now out)) ⌝ }
+// Puts the lines of all lamps, by the reports.
+fn put_lamps(out: &mut [u8], at: usize, bytes: &[u8], reports: &[u16], n: u8, t: u8) -> usize
+    requires { ⌜ Whole (now bytes) n t × (now reports ≡ numbersOf (now bytes) 2) × (n ≤ 16) × (at + 352 ≤ length (now out)) ⌝ }
     ensures { λ r. ⌜ Added (now (out .entry)) at (lampLines (now (bytes .entry)) n t n) (now (out .exit)) r ⌝ }
     ensures short { λ r. ⌜ r ≤ at + 352 ⌝ }
 {
     let mut next = at;
     for k in 0..n {
-        let reply = run(bytes, n, t, k + 1);
+        let reply = run(bytes, reports, n, t, k + 1);
         next = put_lamp(out, next, k + 1, reply);
     }
     next
+}
+
+// The same with the reports of the record, which are read once for all lamps.
+fn put_settled(out: &mut [u8], at: usize, bytes: &[u8], n: u8, t: u8) -> usize
+    requires { ⌜ Whole (now bytes) n t × (at + 352 ≤ length (now out)) ⌝ }
+    ensures { λ r. ⌜ Added (now (out .entry)) at (lampLines (now (bytes .entry)) n t n) (now (out .exit)) r ⌝ }
+    ensures short { λ r. ⌜ r ≤ at + 352 ⌝ }
+{
+    let count = n as usize;
+    let list = part(bytes, 2, 0, count);
+    put_lamps(out, at, bytes, &list[..count], n, t)
 }
 
 // ---- the text
@@ -263,7 +272,7 @@ fn put_record(out: &mut [u8], bytes: &[u8], n: u8, t: u8) -> usize
     let good = accepted(set, n, t);
     let size = put_size(out, n, t);
     let verdict = put_verdict(out, size, good, set, n);
-    let lamps = put_lamps(out, verdict, bytes, n, t);
+    let lamps = put_settled(out, verdict, bytes, n, t);
     put_end(out, lamps, good, bytes, n, t)
 }
 

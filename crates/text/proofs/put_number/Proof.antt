@@ -1,12 +1,31 @@
--- `text::put_number` meets its contract: the digits without the zeros in front are put as a word.
+-- `text::put_number` meets its contract: one digit, or the digits without the zeros in front as a word.
 use mathlib.Core.Path.{ap, _∙_}
 use native.Mathlib.Omega.{arith}
 use lib.ListN.{length}
 use Rattle.text.specs.Letters.{putting}
-use Rattle.text.proofs.Letters.{decimal-part, decimal-short}
+use Rattle.text.proofs.Letters.{decimal-one, decimal-part, decimal-short}
 use borrow.Author.Needs.{needs}
 use Rattle.text.proofs.put_number.Statement.{statement}
 use Rattle.text.proofs.put_number.Tie as tie
+
+add-put-letter : tie.Need-add-put-letter
+add-put-letter c = search needs
+
+cast-put-letter : tie.Need-cast-put-letter
+cast-put-letter c = omega arith
+
+put-letter-requires : tie.Need-put-letter-requires
+put-letter-requires c κs = search needs
+
+same-length : tie.Need-same-length
+same-length c = search needs
+
+returns : tie.Need-returns
+returns c =
+    let p = c .before .before .put-letter in
+    let t = c .before .before .before .before in
+    let a = t .before .before .args in
+    (p .ensures .0 ∙ ap (putting (a .out .now) (a .at)) (decimal-one (a .x) (t .if1 .taken)), omega (arith, p .ensures .1))
 
 digits-requires : tie.Need-digits-requires
 digits-requires c κs = search needs
@@ -26,14 +45,14 @@ part-put-end c = search needs
 put-requires : tie.Need-put-requires
 put-requires c κs = search needs
 
-same-length : tie.Need-same-length
-same-length c = search needs
+same-length-2 : tie.Need-same-length-2
+same-length-2 c = search needs
 
-returns : tie.Need-returns
-returns c =
+returns-2 : tie.Need-returns-2
+returns-2 c =
     let p = c .before .before .put in
     let z = c .before .before .before .before .before .before in
-    let a = z .before .before .before .args in
+    let a = z .before .before .before .before .args in
     let e = decimal-part (z .before .digits .result) (z .zeros .result) (a .x) (z .before .digits .ensures) (z .zeros .ensures .0) in
     (p .ensures .0 ∙ ap (putting (a .out .now) (a .at)) e, omega (arith, p .ensures .1, ap length e, decimal-short (a .x)))
 
@@ -41,11 +60,16 @@ pub put-number-spec : {M : Type 1} → statement M
 put-number-spec =
     tie.close
     (tie.spec
+    add-put-letter
+    cast-put-letter
+    put-letter-requires
+    same-length
+    returns
     digits-requires
     zeros-requires
     sub-put
     part-put-start
     part-put-end
     put-requires
-    same-length
-    returns)
+    same-length-2
+    returns-2)

@@ -14,11 +14,11 @@ use Rattle.transcript.proofs.put_lamps.Statement.{statement}
 use Rattle.transcript.proofs.put_lamps.Tie as tie
 
 abbrev Inv-loop : tie.InvT-loop
-Inv-loop out₀ at bytes n t next₀ k₀ out next k =
+Inv-loop out₀ at bytes reports n t next₀ k₀ out next k =
     (k ≤ n) × (next ≤ at + 22 * k) × (length out ≡ length out₀) × Added out₀ at (lampLines bytes n t k) out next
 
 abbrev μ-loop : tie.MeasureT-loop
-μ-loop out₀ at bytes n t next₀ k₀ out next k = n - k
+μ-loop out₀ at bytes reports n t next₀ k₀ out next k = n - k
 
 loop-holds : tie.Need-loop-holds Inv-loop μ-loop
 unfolding lampLines
@@ -28,7 +28,7 @@ add-run : tie.Need-add-run Inv-loop μ-loop
 add-run c = search needs
 
 run-requires : tie.Need-run-requires Inv-loop μ-loop
-run-requires c κs = (c .before .before .before .before .pre .0, search needs, search needs)
+run-requires c κs = let s = c .before .before .before .before .before in (s .pre .0, s .pre .1, search needs, search needs)
 
 add-put-lamp : tie.Need-add-put-lamp Inv-loop μ-loop
 add-put-lamp c = search needs
@@ -47,7 +47,7 @@ loop-again c =
     let p = c .before .before .put-lamp in
     let r = c .before .before .before .before .run in
     let l = c .before .before .before .before .before .before .loop in
-    let a = c .before .before .before .before .before .before .before .before .before .args in (
+    let a = c .before .before .before .before .before .before .before .before .before .before .args in (
       search needs,
       search needs,
       p .kept .0 ∙ l .inv .2,
@@ -61,7 +61,7 @@ same-length c = search needs
 
 returns : tie.Need-returns Inv-loop μ-loop
 returns c =
-    let a = c .before .before .before .before .args in
+    let a = c .before .before .before .before .before .args in
     let e : c .before .loop .k ≡ a .n = omega arith in
     (subst (λ m. Added (a .out .now) (a .at) (lampLines (a .bytes .now) (a .n) (a .t) m) (c .before .loop .out) (c .before .loop .next)) e (c .before .loop .inv .3), search needs)
 

@@ -21,8 +21,8 @@ put-size-requires c κs = search needs
 put-verdict-requires : tie.Need-put-verdict-requires
 put-verdict-requires c κs = let s = c .before .before .before .before .before .before .before .before .before in let f = whole-facts (s .args .bytes .now) (s .args .n) (s .args .t) (s .pre .0) in (omega arith, omega arith)
 
-put-lamps-requires : tie.Need-put-lamps-requires
-put-lamps-requires c κs = let s = c .before .before .before .before .before .before .before .before .before .before .before .before .before in let f = whole-facts (s .args .bytes .now) (s .args .n) (s .args .t) (s .pre .0) in (s .pre .0, omega arith, omega arith)
+put-settled-requires : tie.Need-put-settled-requires
+put-settled-requires c κs = let s = c .before .before .before .before .before .before .before .before .before .before .before .before .before in let f = whole-facts (s .args .bytes .now) (s .args .n) (s .args .t) (s .pre .0) in (s .pre .0, omega arith)
 
 put-end-requires : tie.Need-put-end-requires
 put-end-requires c κs = search needs
@@ -37,7 +37,7 @@ returns c =
     let p = c .before .before .put-end in
     let v = c .before .before .before .before .before .before .before .before .before .before .put-verdict in
     let z = c .before .before .before .before .before .before .before .before .before .before .before .before .before .before .put-size in
-    let l = c .before .before .before .before .before .before .put-lamps in (
+    let l = c .before .before .before .before .before .before .put-settled in (
       subst (λ w. Added (a .out .now) 0 w (p .last .0) (p .result))
           (text-pieces (a .bytes .now) (a .n) (a .t) (c .before .before .before .before .before .before .before .before .before .before .before .before .before .before .before .before .before .happy-set .result) (c .before .before .before .before .before .before .before .before .before .before .before .before .before .before .before .before .accepted .result) (c .before .before .before .before .before .before .before .before .before .before .before .before .before .before .before .before .before .happy-set .ensures) (c .before .before .before .before .before .before .before .before .before .before .before .before .before .before .before .before .accepted .ensures))
           (then _ _ _ _ _ _ _ _ (then _ _ _ _ _ _ _ _ (then _ _ _ _ _ _ _ _ (z .ensures .0) (v .ensures .0)) (l .ensures .0)) (p .ensures .0)),
@@ -52,7 +52,7 @@ put-record-spec =
     accepted-requires
     put-size-requires
     put-verdict-requires
-    put-lamps-requires
+    put-settled-requires
     put-end-requires
     same-length
     returns)
