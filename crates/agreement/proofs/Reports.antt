@@ -18,10 +18,10 @@ use Rattle.field.specs.Arithmetic.{Prime}
 use Rattle.polynomial.specs.Polynomial.{Poly, value}
 use Rattle.bivariate.specs.Bivariate.{row, column}
 use Rattle.bivariate.proofs.Crossing.{row-poly, column-poly, crossing}
-use Rattle.happy.specs.Agreement.{agree}
+use Rattle.mutual.specs.Agreement.{agree}
 use Rattle.happy.specs.Clique.{Clique, Largest}
 use Rattle.happy.specs.Happy.{happySet}
-use Rattle.happy.proofs.Agreement.{agree-iff}
+use Rattle.mutual.proofs.Agreement.{agree-iff}
 use Rattle.happy.proofs.Happy.{happy-is, happy-enough}
 use Rattle.lists.specs.Choices.{count}
 use Rattle.parties.specs.Parties.{sizes, isParty, parties, pointOf, member, entry}

@@ -23,7 +23,7 @@ use Rattle.field.specs.Modulus.{modulus}
 use Rattle.field.proofs.Primes.{prime}
 use Rattle.polynomial.specs.Polynomial.{Points}
 use Rattle.bivariate.proofs.Terms.{row-at, column-at}
-use Rattle.happy.specs.Agreement.{agree}
+use Rattle.mutual.specs.Agreement.{agree}
 use Rattle.happy.specs.Clique.{Largest}
 use Rattle.happy.specs.Happy.{happySet}
 use Rattle.happy.proofs.Happy.{happy-is, happy-only}

@@ -15,7 +15,7 @@ use Rattle.lists.specs.Tabulate.{tabulate}
 use Rattle.lists.specs.Choices.{count}
 use Rattle.lists.proofs.Tabulate.{length-tabulate, getD-tabulate}
 use Rattle.field.specs.Modulus.{modulus}
-use Rattle.happy.specs.Agreement.{agree, agreements}
+use Rattle.mutual.specs.Agreement.{agree, agreements}
 use Rattle.happy.specs.Happy.{joins, better, best, largest, largestIn, happySet}
 use Rattle.fit.specs.Fit.{hits, sent, received, through, fit}
 use Rattle.interpolation.specs.Interpolation.{interpolate}

@@ -15,7 +15,7 @@ use Rattle.lists.specs.Masks.{bit, members}
 use Rattle.lists.specs.Tabulate.{tabulate}
 use Rattle.polynomial.specs.Polynomial.{Poly, Residues, value}
 use Rattle.bivariate.specs.Bivariate.{at, row, column}
-use Rattle.happy.specs.Agreement.{agree}
+use Rattle.mutual.specs.Agreement.{agree}
 use Rattle.happy.specs.Clique.{Clique, Largest}
 use Rattle.lists.specs.Choices.{select}
 use Rattle.fit.specs.Fit.{misses}

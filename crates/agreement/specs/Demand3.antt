@@ -13,7 +13,7 @@ use Prim.Native.Nat.{ℕ, suc, _*_, _≤_}
 use lib.ListN.{length, getD}
 use Rattle.polynomial.specs.Polynomial.{Poly}
 use Rattle.bivariate.specs.Bivariate.{at, row, column}
-use Rattle.happy.specs.Agreement.{agree}
+use Rattle.mutual.specs.Agreement.{agree}
 use Rattle.happy.specs.Clique.{Largest}
 use Rattle.happy.specs.Happy.{happySet}
 use Rattle.lists.specs.Choices.{count}

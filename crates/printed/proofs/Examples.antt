@@ -13,7 +13,7 @@ use Rattle.lists.specs.Masks.{mask}
 use Rattle.lists.specs.Tabulate.{tabulate}
 use Rattle.field.specs.Arithmetic.{add, sub, mul, inv, invWithin}
 use Rattle.interpolation.specs.Interpolation.{interpolate}
-use Rattle.happy.specs.Agreement.{agree, agreements}
+use Rattle.mutual.specs.Agreement.{agree, agreements}
 use Rattle.happy.specs.Happy.{joins, better, best, largest, largestIn, happySet}
 use Rattle.fit.specs.Fit.{hits, sent, received, through, fit}
 use Rattle.parties.specs.Parties.{sizes, isParty, pointOf, entry, notSent}
