@@ -13,7 +13,8 @@ use lib.Dec.{leb, eqb}
 use lib.ListN.{length}
 use Rattle.field.specs.Modulus.{modulus}
 use Rattle.fit.specs.Fit.{fit}
-use Rattle.parties.specs.Parties.{sizes, points}
+use Rattle.parties.specs.Parties.{sizes}
+use Rattle.recovery.specs.Recovery.{openingOf}
 use Rattle.dealer.specs.Desk.{numberOf, desk}
 use Rattle.answers.specs.declared.Refusal.the-variants.{WrongSize, WrongLength, NoColumn, NoOpening}
 use Rattle.answers.specs.Answer.{refusalNumber}
@@ -47,5 +48,5 @@ opened old (some f) = (constant f, 0)
 -- At most t of the n shares differ; the lowest refusal that applies: 1 for the sizes, 3 for the length, 10 where nothing is found.
 unfoldable pub opening : ℕ → ℕ → List ℕ → ℕ → ℕ × ℕ
 opening n t shares old =
-    let found = opened old (fit modulus t (n - t) (points n) shares) in
+    let found = opened old (openingOf modulus n t shares) in
     cond (sizes n t) (cond (eqb (length shares) n) found (old, refusalNumber WrongLength)) (old, refusalNumber WrongSize)

@@ -1,6 +1,7 @@
 -- What is fitted to the parties' points (document 01's fit: at most t of them differ).
 --   repair p n t S heard            the column repaired from the points (j, first number heard from j) for j in S
---   openingWith p n t i v xs        the opening of the published shares xs, party i's own share v in its own place
+--   openingOf p n t xs              the opening of the published shares xs by themselves
+--   openingWith p n t i v xs        the same with party i's own share v in its own place
 --   repairIn, openingIn             what the code answers, for every input
 -- Laws: proofs/Fitting.
 use mathlib.Core.Bool.{cond, _&&_}
@@ -25,9 +26,13 @@ repair p n t S heard =
     let happy = tabulate (bit S) n in
     fit p t (ones S - t) (select happy (points n)) (select happy (take n heard))
 
--- The polynomial that fits the published shares, the party's own share in its own place: at most t of them differ.
+-- The polynomial that fits the published shares of n parties: at most t of them differ.
+abbrev pub openingOf : ℕ → ℕ → ℕ → List ℕ → Option (List ℕ)
+openingOf p n t xs = fit p t (n - t) (points n) xs
+
+-- The same with a party's own share in its own place.
 abbrev pub openingWith : ℕ → ℕ → ℕ → ℕ → ℕ → List ℕ → Option (List ℕ)
-openingWith p n t i v xs = fit p t (n - t) (points n) (set xs (i - 1) v)
+openingWith p n t i v xs = openingOf p n t (set xs (i - 1) v)
 
 -- A bad size is answered as nothing found.
 unfoldable pub repairIn : ℕ → ℕ → ℕ → List ℕ → Fitted

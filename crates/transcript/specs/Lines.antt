@@ -13,8 +13,7 @@ use lib.Count.{ones}
 use lib.Dec.{eqb, leb}
 use Rattle.lists.specs.Masks.{bit}
 use Rattle.field.specs.Modulus.{modulus}
-use Rattle.fit.specs.Fit.{fit}
-use Rattle.parties.specs.Parties.{points}
+use Rattle.recovery.specs.Recovery.{openingOf}
 use Rattle.answers.specs.declared.Refusal.the-variants.{DealerRejected, NoOpening}
 use Rattle.lamp.specs.declared.Reply.{Reply}
 use Rattle.answers.specs.Answer.{refusalNumber, numberOf}
@@ -82,5 +81,5 @@ openedLine (some f) = line (letters "opened ") (constant f)
 -- What the published shares open by themselves: at most t of them differ. After a rejected dealer the refusal is 8.
 unfoldable pub lastLine : Bool → ℕ → ℕ → List ℕ → List ℕ
 lastLine accepted n t shares =
-    let opened = openedLine (fit modulus t (n - t) (points n) shares) in
+    let opened = openedLine (openingOf modulus n t shares) in
     cond accepted opened (line (letters "opened refused ") (refusalNumber DealerRejected))

@@ -6,9 +6,9 @@ ghost use Prim.Native.Nat.{_+_, _-_, _≤_};
 ghost use lib.ListN.{length, take, drop};
 ghost use Rattle.field.specs.Modulus.{modulus};
 ghost use Rattle.happy.specs.Happy.{happySet};
-ghost use Rattle.fit.specs.Fit.{fit};
 ghost use Rattle.fit.specs.Answer.{answer};
-ghost use Rattle.parties.specs.Parties.{sizes, points};
+ghost use Rattle.parties.specs.Parties.{sizes};
+ghost use Rattle.recovery.specs.Recovery.{openingOf};
 ghost use Rattle.answers.specs.Answer.{numberOf};
 ghost use Rattle.lamp.specs.Lamp.{made, after};
 ghost use Rattle.text.specs.Letters.{Added, letters, line};
@@ -141,7 +141,7 @@ fn put_opened(out: &mut [u8], at: usize, refusal: u8, value: u16) -> usize
 // The polynomial that fits the published shares.
 fn fitted(n: u8, t: u8, shares: &[u16]) -> Fitted
     requires { ⌜ (sizes n t ≡ true) × (length (now shares) ≡ n) ⌝ }
-    ensures { λ r. ⌜ r ≡ answer (fit modulus t (n - t) (points n) (now (shares .entry))) ⌝ }
+    ensures { λ r. ⌜ r ≡ answer (openingOf modulus n t (now (shares .entry))) ⌝ }
 {
     let xs = parties::points();
     let count = n as usize;
