@@ -1,10 +1,13 @@
 //! Decoding by groups: where at most one polynomial fits, t + 1 points that fail hold a wrong one, so they are dropped,
 //! and one fewer may be wrong among the rest. Where the rest gets short, its choices are tried as in the first
-//! algorithm.
+//! algorithm. A cubic with three wrong points among fewer than 16 is looked for by pairs of points.
 
 use super::fit::{enough, interpolate, is_sent, search, surplus, Taken};
 
-pub const NAME: &str = "groups of t + 1";
+pub const NAME: &str = "groups of t + 1, or pairs";
+
+/// Two of five pairs of points, each by the place of its first point: every choice but that of the first two.
+const CHOICES: [(usize, usize); 9] = [(4, 6), (0, 4), (0, 6), (2, 4), (2, 6), (0, 8), (2, 8), (4, 8), (6, 8)];
 
 pub fn fit(t: usize, need: usize, xs: &[u16], ys: &[u16]) -> Option<[u16; 4]> {
     if 3 < t || xs.len() != ys.len() {
@@ -23,6 +26,9 @@ pub fn fit(t: usize, need: usize, xs: &[u16], ys: &[u16]) -> Option<[u16; 4]> {
     if need <= spare + t || !distinct(xs) {
         return search(xs, ys, &test, 0, t + 1, spare, Taken::default());
     }
+    if t == 3 && spare == 3 && spare + need < 16 {
+        return pairs(xs, ys, &test);
+    }
     let (mut i, mut left, mut wrong) = (0, spare + need, spare);
     while 2 * t + 1 + wrong <= left {
         if wrong == 0 {
@@ -37,6 +43,19 @@ pub fn fit(t: usize, need: usize, xs: &[u16], ys: &[u16]) -> Option<[u16; 4]> {
         }
     }
     search(xs, ys, &test, i, t + 1, wrong, Taken::default())
+}
+
+/// Of five pairs of points two have no wrong one, where three of the ten are wrong.
+fn pairs(xs: &[u16], ys: &[u16], test: &impl Fn(&Taken) -> Option<[u16; 4]>) -> Option<[u16; 4]> {
+    let mut ten = [(0, 0); 10];
+    let sent = xs.iter().zip(ys).filter(|&(_, &y)| is_sent(y));
+    for (place, (&x, &y)) in ten.iter_mut().zip(sent) {
+        *place = (x, y);
+    }
+    CHOICES.iter().find_map(|&(a, b)| {
+        let four = [ten[a], ten[a + 1], ten[b], ten[b + 1]];
+        test(&Taken { count: 4, xs: four.map(|(x, _)| u32::from(x)), ys: four.map(|(_, y)| u32::from(y)) })
+    })
 }
 
 /// The next `count` points sent, if there are as many.

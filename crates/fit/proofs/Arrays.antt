@@ -18,10 +18,10 @@ use Rattle.interpolation.proofs.Interpolation.{length-newton, length-expand}
 use Rattle.interpolation.proofs.Lent.{interpolate-in}
 use Rattle.fit.specs.declared.Fitted.{Fitted}
 use Rattle.fit.specs.Fit.{hits, sent, received, through, firstFitting, fit}
-use Rattle.fit.specs.Answer.{answer, candidates, found, Searching, fitIn}
+use Rattle.fit.specs.Answer.{answer, given, candidates, found, Searching}
 use Rattle.lists.proofs.Choices.{first-append}
 use Rattle.fit.proofs.Counting.{hits-zeros}
-use Rattle.fit.proofs.Answers.{answer-found, answer-not-found, fit-within}
+use Rattle.fit.proofs.Answers.{answer-found}
 use Rattle.fit.proofs.Steps.{received-next, received-over, candidates-one, candidates-none, candidates-spare, candidates-last, candidates-front}
 
 -- ---- one point after the other
@@ -195,7 +195,7 @@ module _ (p c : ℕ) (cx cy f : List ℕ) (room : c ≤ 4) (lx : length cx ≡ 4
         let l : length (f ++ drop c cy) ≡ 4 = omega (arith, length-append f (drop c cy), length-drop c cy, size) in
         ap (λ g. hits p g xs ys) (four (f ++ drop c cy) l ∙ ap (λ z. f ++ z) zeros) ∙ hits-zeros p f (4 - c) xs ys
 
-    pub test-passed : drop c cy ≡ replicate (4 - c) 0 → leb need (hits p (numbers (f ++ drop c cy)) xs ys) ≡ true
+    test-passed : drop c cy ≡ replicate (4 - c) 0 → leb need (hits p (numbers (f ++ drop c cy)) xs ys) ≡ true
         → _≡_ {A = Fitted} (record { found = true; coefficients = f ++ drop c cy }) (tested (interpolate p (take c cx) (take c cy)))
     test-passed zeros h =
         let enough : leb need (hits p f xs ys) ≡ true = sym (ap (leb need) (all-four zeros)) ∙ h in
@@ -203,37 +203,43 @@ module _ (p c : ℕ) (cx cy f : List ℕ) (room : c ≤ 4) (lx : length cx ≡ 4
         ap (λ z. record { found = true; coefficients = f ++ z }) (zeros ∙ ap (λ k. replicate (4 - k) 0) (sym size))
         ∙ found ∙ ap tested coefficients
 
-    pub test-failed : drop c cy ≡ replicate (4 - c) 0 → leb need (hits p (numbers (f ++ drop c cy)) xs ys) ≡ false
+    test-failed : drop c cy ≡ replicate (4 - c) 0 → leb need (hits p (numbers (f ++ drop c cy)) xs ys) ≡ false
         → answer none ≡ tested (interpolate p (take c cx) (take c cy))
     test-failed zeros h =
         let few : leb need (hits p f xs ys) ≡ false = sym (ap (leb need) (all-four zeros)) ∙ h in
         let lost : answer none ≡ tested f = rw few in
         lost ∙ ap tested coefficients
 
--- ---- the whole: the search starts with all points, and none is taken
-pub fit-search : (t need : ℕ) (xs ys : List ℕ) (n e : ℕ) → t ≤ 3 → length xs ≡ length ys → n ≡ sent modulus ys → e ≡ n - need
-    → answer (found modulus need xs ys (t + 1) e [] [] 0) ≡ fitIn t need xs ys
-unfolding fit candidates through
-fit-search t need xs ys n e h l counted spare = rw (add-one t, spare, counted) (fit-within t need xs ys h l)
+    -- What the array holds is the answer where it passes.
+    pub test-given : drop c cy ≡ replicate (4 - c) 0 → (passed : Bool) → passed ≡ leb need (hits p (numbers (f ++ drop c cy)) xs ys)
+        → given passed (f ++ drop c cy) ≡ tested (interpolate p (take c cx) (take c cy))
+    test-given zeros true e = test-passed zeros (sym e)
+    test-given zeros false e = test-failed zeros (sym e)
 
--- What the first points sent give is the answer; where they give nothing, and none may be wrong, that is.
-module _ (t need : ℕ) (xs ys : List ℕ) (r : Fitted) (h : t ≤ 3) (l : length xs ≡ length ys)
-    (e : r ≡ answer (found modulus need xs ys (t + 1) 0 [] [] 0)) where
+-- ---- the whole: the search starts with all points, and none is taken
+module _ (t need : ℕ) (xs ys : List ℕ) where
+  pub fit-search : (n e : ℕ) → n ≡ sent modulus ys → e ≡ n - need
+      → answer (found modulus need xs ys (t + 1) e [] [] 0) ≡ answer (fit modulus t need xs ys)
+  unfolding fit candidates through
+  fit-search n e counted spare = rw (add-one t, spare, counted) refl
+
   abbrev spare : ℕ
   spare = sent modulus ys - need
 
-  whole : answer (found modulus need xs ys (t + 1) spare [] [] 0) ≡ fitIn t need xs ys
-  whole = fit-search t need xs ys (sent modulus ys) spare h l refl refl
+  whole : answer (found modulus need xs ys (t + 1) spare [] [] 0) ≡ answer (fit modulus t need xs ys)
+  whole = fit-search (sent modulus ys) spare refl refl
 
-  pub fit-first : r .found ≡ true → r ≡ fitIn t need xs ys
-  fit-first g =
-      let (f, some-f) = answer-found _ (sym (ap (λ w. w .found) e) ∙ g) in
+  -- What the first points sent give is the answer.
+  pub fit-first : (r : Fitted) → r ≡ answer (found modulus need xs ys (t + 1) 0 [] [] 0) → r .found ≡ true → r ≡ answer (fit modulus t need xs ys)
+  fit-first r e told =
+      let (f, some-f) = answer-found _ (sym (ap (λ w. w .found) e) ∙ told) in
       e ∙ ap answer (some-f ∙ sym (found-front modulus need xs ys (t + 1) spare [] [] 0 f some-f)) ∙ whole
 
-  pub fit-first-none : (n : ℕ) → n ≡ sent modulus ys → n ≤ need → r .found ≡ false → answer none ≡ fitIn t need xs ys
-  fit-first-none n counted few g =
+  -- Where they give nothing, and none may be wrong, that is.
+  pub fit-first-none : (n : ℕ) → n ≡ sent modulus ys → n ≤ need → found modulus need xs ys (t + 1) 0 [] [] 0 ≡ none
+      → answer none ≡ answer (fit modulus t need xs ys)
+  fit-first-none n counted few lost =
       let none-spare : 0 ≡ spare = omega arith in
-      let lost : found modulus need xs ys (t + 1) 0 [] [] 0 ≡ none = answer-not-found _ (sym (ap (λ w. w .found) e) ∙ g) in
       ap answer (sym lost)
       ∙ ap (λ s. answer (found modulus need xs ys (t + 1) s [] [] 0)) none-spare
       ∙ whole

@@ -93,7 +93,7 @@ module _ (p : ℕ) (P : Prime p) (t need : ℕ) (xs ys : List ℕ) where
         e ∙ ap answer (some-f ∙ sym (fit-found p P t need xs ys (g .points) (g .at-most-one) f (found-fits s j f some-f)))
 
     -- The t + 1 points at place i have a wrong one, if anything fits.
-    spoilt : (f : List ℕ) → Fits p t need xs ys f → count (meets p f) (take (suc t) (from i)) ≤ t
+    pub spoilt : (f : List ℕ) → Fits p t need xs ys f → count (meets p f) (take (suc t) (from i)) ≤ t
     spoilt f F =
         let e : suc t + 0 ≡ suc t = omega arith in
         rw e at (found-nothing (g .points) 0 i (g .failed) f F)
@@ -130,21 +130,18 @@ module _ (p : ℕ) (P : Prime p) (t need : ℕ) (xs ys : List ℕ) where
         omega (arith, found-nothing (g .points) wrong i e f F, g .few f F, g .size, g .room, count-take (meets p f) (suc t + wrong) (from i))))
 
 -- The start: the first t + 1 points have failed, and so few values may be wrong that at most one polynomial fits.
-pub groups-start : (p : ℕ) → 0 < p → (t need : ℕ) (xs ys : List ℕ) (n : ℕ) (r : Fitted) → length xs ≡ length ys → t ≤ 3 → n ≡ sent p ys
-    → need < n → n - need + t < need → points p xs ≡ true → r ≡ answer (found p need xs ys (t + 1) 0 [] [] 0) → r .found ≡ false
-    → Grouping p t need xs ys 0 n (n - need) × (0 < n - need)
-groups-start p positive t need xs ys n r l h counted some-wrong few-wrong distinct e none-found = (
-  record {
-    sizes = l;
-    degree = h;
-    points = points-facts p xs distinct;
-    at-most-one = omega arith;
-    inside = omega arith;
-    within = omega (arith, sent-length p ys);
-    room = omega arith;
-    size = counted ∙ sym (received-all p xs ys l);
-    few = λ f F. omega (arith, F .enough, hits-received p f xs ys positive);
-    failed = answer-not-found _ (sym (ap (λ w. w .found) e) ∙ none-found);
-  },
-  omega arith,
-)
+pub groups-start : (p : ℕ) → 0 < p → (t need : ℕ) (xs ys : List ℕ) (n : ℕ) → length xs ≡ length ys → t ≤ 3 → n ≡ sent p ys
+    → need < n → n - need + t < need → points p xs ≡ true → found p need xs ys (t + 1) 0 [] [] 0 ≡ none
+    → Grouping p t need xs ys 0 n (n - need)
+groups-start p positive t need xs ys n l h counted some-wrong few-wrong distinct lost = record {
+  sizes = l;
+  degree = h;
+  points = points-facts p xs distinct;
+  at-most-one = omega arith;
+  inside = omega arith;
+  within = omega (arith, sent-length p ys);
+  room = omega arith;
+  size = counted ∙ sym (received-all p xs ys l);
+  few = λ f F. omega (arith, F .enough, hits-received p f xs ys positive);
+  failed = lost;
+}

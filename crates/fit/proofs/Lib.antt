@@ -6,4 +6,5 @@ pub mod Counting
 pub mod Steps
 pub mod Arrays
 pub mod Grouping
+pub mod Pairs
 pub mod Examples

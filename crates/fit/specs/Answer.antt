@@ -1,10 +1,11 @@
 -- What the code answers: whether a polynomial was found, and its coefficients in four places.
 --   answer o             the struct for what was found, or for nothing
+--   given passed f       the struct for f, if it has passed
 --   fitIn t need xs ys   what `fit` answers, for every input
 --   candidates, found, Searching   of the search within: the polynomials that it has still to try, what it finds, what it keeps
 -- Laws: proofs/Answers, proofs/Steps.
 use mathlib.Core.Path.{_≡_}
-use mathlib.Core.Bool.{true, false, cond, _&&_}
+use mathlib.Core.Bool.{Bool, true, false, cond, _&&_}
 use mathlib.Core.Option.{Option, none, some}
 use mathlib.Core.List.{List, [], _++_, map}
 use Prim.Native.Nat.{ℕ, _+_, _-_, _≤_}
@@ -21,6 +22,10 @@ use Rattle.fit.specs.Fit.{xsOf, ysOf, received, firstFitting, fit}
 abbrev pub answer : Option (List ℕ) → Fitted
 answer none = record { found = false; coefficients = pad 4 [] }
 answer (some f) = record { found = true; coefficients = pad 4 f }
+
+-- Four coefficients where they have passed, and nothing otherwise.
+abbrev pub given : Bool → List ℕ → Fitted
+given passed f = cond passed (record { found = true; coefficients = f }) (answer none)
 
 -- A degree above 3, or lists of two lengths, are answered as nothing found.
 unfoldable pub fitIn : ℕ → ℕ → List ℕ → List ℕ → Fitted

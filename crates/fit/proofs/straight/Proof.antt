@@ -76,15 +76,25 @@ loop-again-2 c =
     let k = c .before .before .before .before .before .loop in
     straight-unsent modulus _ _ _ _ (k .j) (k .left) (k .d) (k .dx) (k .dy) (k .inv) (omega arith) (c .if2 .left)
 
+slice-aggregate-test : tie.Need-slice-aggregate-test Inv-loop μ-loop
+slice-aggregate-test c = search needs
+
+slice-aggregate-test-2 : tie.Need-slice-aggregate-test-2 Inv-loop μ-loop
+slice-aggregate-test-2 c = search needs
+
 test-requires : tie.Need-test-requires Inv-loop μ-loop
 test-requires c κs =
-    let k = c .before .loop .inv .searching in
-    (k .sizes, (omega (arith, k .room), k .zeros))
+    let k = c .before .before .before .loop .inv in
+    (k .searching .sizes, ((omega (arith, k .searching .room), k .width-x, k .width-y), k .searching .zeros))
+
+given-requires : tie.Need-given-requires Inv-loop μ-loop
+given-requires c κs = search needs
 
 returns-2 : tie.Need-returns-2 Inv-loop μ-loop
 returns-2 c =
-    let k = c .before .before .loop in
-    c .test .ensures ∙ ap answer (found-one modulus _ _ _ (k .left) 0 _ _ (k .j) (omega arith) ∙ k .inv .finds)
+    let tested = c .before .before in
+    let k = tested .before .before .before .before .loop in
+    c .given .ensures ∙ tested .test .ensures ∙ ap answer (found-one modulus _ _ _ (k .left) 0 _ _ (k .j) (omega arith) ∙ k .inv .finds)
 
 pub straight-spec : {M : Type 1} → statement M
 straight-spec =
@@ -110,5 +120,8 @@ straight-spec =
     loop-again
     loop-less-2
     loop-again-2
+    slice-aggregate-test
+    slice-aggregate-test-2
     test-requires
+    given-requires
     returns-2)
