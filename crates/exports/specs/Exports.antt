@@ -19,7 +19,7 @@ use Rattle.dealer.specs.Desk.{numberOf, desk}
 use Rattle.answers.specs.declared.Refusal.the-variants.{WrongSize, WrongLength, NoColumn, NoOpening}
 use Rattle.answers.specs.Answer.{refusalNumber}
 use Rattle.lamp.specs.Lamp.{constant}
-use Rattle.transcript.specs.Lines.{orZero}
+use Rattle.transcript.specs.Outcomes.{orZero}
 
 -- The desk's list, and its answer as a number.
 unfoldable pub dealing : ℕ → ℕ → List ℕ → List ℕ → List ℕ × ℕ

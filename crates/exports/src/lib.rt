@@ -5,7 +5,7 @@ ghost use Prim.Native.Nat.{_≤_};
 ghost use lib.ListN.{length, take};
 ghost use Rattle.happy.specs.Happy.{happySet};
 ghost use Rattle.dealer.specs.Desk.{numberOf};
-ghost use Rattle.transcript.specs.Lines.{orZero};
+ghost use Rattle.transcript.specs.Outcomes.{orZero};
 ghost use Rattle.transcript.specs.Transcript.{rendering};
 ghost use Rattle.exports.specs.Exports.{dealing, lengthsFit, repairing, opening};
 use dealer::Dealing;

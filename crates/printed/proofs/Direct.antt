@@ -31,7 +31,8 @@ use Rattle.lamp.specs.Lamp.{Sized, made, reply, columnOfLamp, withDeal, firsts,
 use Rattle.record.specs.Record.{nOf, tOf, reading}
 use Rattle.record.specs.declared.Reading.the-variants.{Fine}
 use Rattle.text.specs.Letters.{letters, field, line}
-use Rattle.transcript.specs.Lines.{outcome, sizeLine, verdictLines, lampLine, lastLine}
+use Rattle.lines.specs.Lines.{sizeLine, verdictLines}
+use Rattle.transcript.specs.Outcomes.{outcome, lampLine, lastLine}
 use Rattle.transcript.specs.Transcript.{numbersOf, run, lampLines, textOf, textBy, text, Whole}
 use Rattle.transcript.proofs.Runs.{whole-sizes, whole-facts, deals-count, pairs-count, reports-count, part-room}
 use Rattle.agreement.proofs.Runs.{by-cond}

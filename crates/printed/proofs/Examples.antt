@@ -27,7 +27,8 @@ use Rattle.record.specs.Bytes.{numbers, standAt}
 use Rattle.record.specs.Record.{directory, directoryRight, reading, sectionOf}
 use Rattle.writer.specs.Writer.{bytesOf, recordOf}
 use Rattle.text.specs.Letters.{letters, decimal}
-use Rattle.transcript.specs.Lines.{name, names, verdictLines, lampLine, lastLine}
+use Rattle.lines.specs.Lines.{name, names, verdictWords}
+use Rattle.transcript.specs.Outcomes.{lampLine, lastLine}
 use Rattle.transcript.specs.Transcript.{numbersOf, run, lampLines, textOf, textBy, text}
 use Rattle.printed.specs.Direct.{itsPairs, itsReport}
 use Rattle.printed.specs.Printed.{pairBy, Faithful}
@@ -85,7 +86,7 @@ table = (
     ∷ []
 
 pub texts : All (λ q. text (q .0) ≡ q .1) table
-unfolding text textBy textOf lampLines run lampLine lastLine verdictLines names name decimal recordOf sectionOf reading directoryRight directory standAt bytesOf numbers step check lowest withDeal withPairs reportFrom settled repair atEnd reportOf confirms sound sizes isParty pointOf notSent fit received hits sent through interpolate zipWith happySet largestIn largest best better joins agreements agree mask tabulate add sub mul inv invWithin ones
+unfolding text textBy textOf lampLines run lampLine lastLine verdictWords names name decimal recordOf sectionOf reading directoryRight directory standAt bytesOf numbers step check lowest withDeal withPairs reportFrom settled repair atEnd reportOf confirms sound sizes isParty pointOf notSent fit received hits sent through interpolate zipWith happySet largestIn largest best better joins agreements agree mask tabulate add sub mul inv invWithin ones
 texts = (refl, (refl, (refl, (refl, (refl, (refl, (refl, (refl, tt))))))))
 
 -- ---- the example meets the premises, all lamps being honest

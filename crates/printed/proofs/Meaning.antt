@@ -4,7 +4,7 @@ use mathlib.Core.Path.{_≡_, refl, sym, ap, ap₂, _∙_}
 use mathlib.Core.Logic.{⊎-elim}
 use mathlib.Core.Bool.{Bool, true}
 use mathlib.Core.Option.{Option, none, some}
-use mathlib.Core.List.{List, [], _∷_, _++_, append-assoc, append-nil}
+use mathlib.Core.List.{List, [], _∷_, _++_, append-assoc}
 use Prim.Native.Nat.{ℕ, zero, suc, _+_, _*_, _-_, _/_, _≤_, _<_}
 use native.Mathlib.Nat.{div-div-eq-div-mul}
 use native.Mathlib.Omega.{arith}
@@ -20,9 +20,11 @@ use Rattle.field.specs.Modulus.{modulus}
 use Rattle.field.proofs.Primes.{prime}
 use Rattle.polynomial.specs.Polynomial.{Points}
 use Rattle.fit.specs.Fit.{fit}
-use Rattle.text.specs.Letters.{letters, digit, decimal, field, line}
+use Rattle.text.specs.Letters.{letters, digit, decimal, field, line, joined}
+use Rattle.text.proofs.Letters.{joined-append}
 use Rattle.record.specs.Record.{reading, numberOf}
-use Rattle.transcript.specs.Lines.{name, names, openedLine, lastLine}
+use Rattle.lines.specs.Lines.{name, names}
+use Rattle.transcript.specs.Outcomes.{openedLine, lastLine}
 use Rattle.transcript.specs.Transcript.{textOf, textBy, text}
 use Rattle.parties.specs.Parties.{sizes, parties, points, member}
 use Rattle.parties.proofs.Parties.{sizes-facts, length-points}
@@ -93,14 +95,14 @@ keep-append test (x ∷ xs) ys =
     ⊎-elim (λ e. rw e (ap (λ z. x ∷ z) (keep-append test xs ys))) (λ e. rw e (keep-append test xs ys)) (true-or-false (test x))
 
 -- The happy line names the members of the set, in order.
-pub names-members : (set n : ℕ) → names set n ≡ listed (keep (member set) (parties n))
+pub names-members : (set n : ℕ) → joined (names set n) ≡ listed (keep (member set) (parties n))
 unfolding names name tabulate
 names-members set zero = refl
 names-members set (suc n) =
     let place : suc n - 1 ≡ n = omega arith in
-    let last : name set n ≡ listed (keep (member set) (suc n ∷ [])) =
-    rw place (⊎-elim (λ e. rw e (sym (append-nil (field (letters " ") (suc n))))) (λ e. rw e refl) (true-or-false (bit set n))) in
-    ap₂ (λ xs ys. xs ++ ys) (names-members set n) last
+    let last : joined (name set n) ≡ listed (keep (member set) (suc n ∷ [])) = rw place (⊎-elim (λ e. rw e refl) (λ e. rw e refl) (true-or-false (bit set n))) in
+    joined-append (names set n) (name set n)
+    ∙ ap₂ (λ xs ys. xs ++ ys) (names-members set n) last
     ∙ sym (listed-append (keep (member set) (parties n)) (keep (member set) (suc n ∷ [])))
     ∙ ap listed (sym (keep-append (member set) (parties n) (suc n ∷ [])))
 

@@ -19,7 +19,8 @@ use Rattle.answers.specs.Answer.{numberOf}
 use Rattle.record.specs.Record.{nOf, tOf, reading}
 use Rattle.record.specs.declared.Reading.the-variants.{Fine}
 use Rattle.text.specs.Letters.{letters, field, line}
-use Rattle.transcript.specs.Lines.{outcome, verdictLines, lampLine, openedLine, lastLine}
+use Rattle.lines.specs.Lines.{verdictWords, verdictLines}
+use Rattle.transcript.specs.Outcomes.{outcome, lampLine, openedLine, lastLine}
 use Rattle.transcript.specs.Transcript.{numbersOf, run, textOf, textBy, text, Whole}
 use Rattle.transcript.proofs.Runs.{whole-sizes, reports-count, shares-count}
 use Rattle.agreement.specs.Demand3.{Premises, Accepts, Rejects, AllReject, AllAccept, Conclusions, Demand3}
@@ -101,7 +102,7 @@ module _ (honest : ℕ → Bool) (bytes : List ℕ) (fine : reading bytes ≡ Fi
   printed-by v e = rw fine (ap (λ b. textWith honest bytes (verdictLines b (happy bytes) n) (lastLine b n t (numbersOf bytes 3))) e)
 
   rejected : AllReject modulus n t (story honest bytes) → Rejected honest bytes
-  unfolding run lastLine verdictLines
+  unfolding run lastLine verdictWords
   rejected r = record {
     all = r;
     prints = printed-by false (verdict-no (someone .0) (someone .1) (r (someone .0) (someone .1) .answered));
@@ -109,7 +110,7 @@ module _ (honest : ℕ → Bool) (bytes : List ℕ) (fine : reading bytes ≡ Fi
   }
 
   accepted : (F : List ℕ) → AllAccept modulus n t (story honest bytes) F → Accepted honest bytes F
-  unfolding lastLine verdictLines run
+  unfolding lastLine verdictWords run
   accepted F a = record {
     all = a;
     prints = printed-by true (verdict-yes (someone .0) (someone .1) (a .hold (someone .0) (someone .1) .answered .0));

@@ -18,7 +18,8 @@ use Rattle.recovery.specs.Recovery.{repair}
 use Rattle.lamp.specs.Lamp.{firsts, constant}
 use Rattle.record.specs.Record.{nOf, tOf}
 use Rattle.text.specs.Letters.{letters, field, line}
-use Rattle.transcript.specs.Lines.{sizeLine, isAccepted, verdictLines, lastLine}
+use Rattle.lines.specs.Lines.{sizeLine, verdictLines}
+use Rattle.transcript.specs.Outcomes.{isAccepted, lastLine}
 use Rattle.transcript.specs.Transcript.{numbersOf, received}
 
 module _ (bytes : List ℕ) where

@@ -19,7 +19,8 @@ use Rattle.lamp.specs.Lamp.{openShares}
 use Rattle.record.specs.Record.{nOf, tOf, reading}
 use Rattle.record.specs.declared.Reading.the-variants.{Fine}
 use Rattle.text.specs.Letters.{letters, field, line}
-use Rattle.transcript.specs.Lines.{sizeLine, happyLine, lampLine, lastLine}
+use Rattle.lines.specs.Lines.{sizeLine, happyLine}
+use Rattle.transcript.specs.Outcomes.{lampLine, lastLine}
 use Rattle.transcript.specs.Transcript.{numbersOf, run, lampLines, text}
 use Rattle.agreement.specs.Calls.{Run, whole}
 use Rattle.agreement.specs.Demand3.{Execution, Honest, AllReject, AllAccept, HonestDealer}

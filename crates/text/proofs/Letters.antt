@@ -1,5 +1,5 @@
--- Laws of text in a buffer: a byte more of a word, two pieces one behind the other, and how long pieces are.
-use mathlib.Core.Path.{_≡_, refl, sym, ap, ap₂, _∙_}
+-- Laws of text in a buffer: a byte more of a word, several words one behind the other, and how long a number is.
+use mathlib.Core.Path.{_≡_, refl, sym, ap, ap₂, subst, _∙_}
 use mathlib.Core.Bool.{Bool, true, false, cond}
 use mathlib.Core.List.{List, [], _∷_, _++_, append-assoc, append-nil}
 use Prim.Native.Nat.{ℕ, suc, _+_, _-_, _/_, _≤_, _<_}
@@ -9,7 +9,7 @@ use borrow.Author.Tests.{lt-ltb, le-leb, lt-leb}
 use lib.Dec.{lit≤, ltb}
 use lib.ListN.{length, take, drop, getD, set, length-append, take-append-drop, length-drop}
 use lib.Seq.{take-suc, take-suc-set, drop-set-lt, drop-drop, take-at, drop-at, length-take-le}
-use Rattle.text.specs.Letters.{Added, digit, decimal, five, zeros, field, line, letters, putting, puts}
+use Rattle.text.specs.Letters.{Added, digit, decimal, five, zeros, joined, putting, puts}
 
 -- ---- putting
 
@@ -83,14 +83,47 @@ putting-length o w at h =
     ∙ ap₂ _+_ (length-append (take at o) w ∙ ap (λ z. z + length w) (length-take-le at o (omega arith))) (length-drop end o)
     ∙ omega arith)
 
--- Two pieces, and a third behind them.
-pub puts-two : (o p q v w : List ℕ) (at r s : ℕ) → (p, r) ≡ putting o at v → (q, s) ≡ putting p r w → (q, s) ≡ puts o at (v ∷ w ∷ [])
-unfolding puts
-puts-two o p q v w at r s a b = b ∙ ap (λ (z : List ℕ × ℕ). putting (z .0) (z .1) w) a
+-- ---- several words
 
-pub puts-three : (o p q u v w : List ℕ) (at r s : ℕ) → (p, r) ≡ puts o at (u ∷ v ∷ []) → (q, s) ≡ putting p r w → (q, s) ≡ puts o at (u ∷ v ∷ w ∷ [])
+pub puts-none : (o : List ℕ) (at : ℕ) → (o, at) ≡ puts o at []
 unfolding puts
-puts-three o p q u v w at r s a b = b ∙ ap (λ (z : List ℕ × ℕ). putting (z .0) (z .1) w) a
+puts-none o at = refl
+
+pub puts-one : (o p v : List ℕ) (at r : ℕ) → (p, r) ≡ putting o at v → (p, r) ≡ puts o at (v ∷ [])
+unfolding puts
+puts-one o p v at r e = e
+
+-- Several are put as those in front, then the others.
+puts-append : (vs ws : List (List ℕ)) (o : List ℕ) (at : ℕ) → puts o at (vs ++ ws) ≡ puts (puts o at vs .0) (puts o at vs .1) ws
+unfolding puts
+puts-append [] ws o at = refl
+puts-append (v ∷ vs) ws o at = puts-append vs ws (putting o at v .0) (putting o at v .1)
+
+pub puts-then : (o p q : List ℕ) (vs ws : List (List ℕ)) (at r s : ℕ) → (p, r) ≡ puts o at vs → (q, s) ≡ puts p r ws → (q, s) ≡ puts o at (vs ++ ws)
+puts-then o p q vs ws at r s a b = b ∙ ap (λ (z : List ℕ × ℕ). puts (z .0) (z .1) ws) a ∙ sym (puts-append vs ws o at)
+
+-- Where there is room for all of them the text that they make is put.
+puts-added : (words : List (List ℕ)) (o q : List ℕ) (at r : ℕ) → (q, r) ≡ puts o at words → at + length (joined words) ≤ length o
+    → Added o at (joined words) q r
+unfolding puts
+puts-added [] o q at r e h = subst (λ (z : List ℕ × ℕ). Added o at [] (z .0) (z .1)) (sym e) (nothing o at)
+puts-added (word ∷ words) o q at r e h =
+    let p : List ℕ × ℕ = putting o at word in
+    let long : length (word ++ joined words) ≡ length word + length (joined words) = length-append word (joined words) in
+    let first : Added o at word (p .0) (p .1) = putting-added o (p .0) word at (p .1) refl (omega arith) in
+    then o (p .0) q word (joined words) at (p .1) r first
+    (puts-added words (p .0) q (p .1) r e (omega (arith, first .next, putting-length o word at (omega arith))))
+
+-- The same by a bound m of its length, and where it ends.
+pub puts-within : (words : List (List ℕ)) (o q : List ℕ) (at r m : ℕ) → (q, r) ≡ puts o at words → length (joined words) ≤ m → at + m ≤ length o
+    → Added o at (joined words) q r × (r ≤ at + m)
+puts-within words o q at r m e h k =
+    let added : Added o at (joined words) q r = puts-added words o q at r e (omega arith) in
+    (added, omega (arith, added .next))
+
+pub joined-append : (vs ws : List (List ℕ)) → joined (vs ++ ws) ≡ joined vs ++ joined ws
+joined-append [] ws = refl
+joined-append (v ∷ vs) ws = ap (λ z. v ++ z) (joined-append vs ws) ∙ sym (append-assoc v (joined vs) (joined ws))
 
 -- ---- lengths
 
@@ -130,37 +163,3 @@ decimal-one x h = rw (lt-ltb x 10 h)
 pub decimal-two : (x : ℕ) → x < 100 → length (decimal x) ≤ 2
 unfolding decimal
 decimal-two x h = rw (lt-ltb x 100 h) (cond-short (ltb x 10) _ _ 2 (lit≤ tt) (lit≤ tt))
-
-pub field-two : (word : List ℕ) (x : ℕ) → x < 100 → length (field word x) ≤ length word + 2
-field-two word x h = rw length-append (omega (arith, decimal-two x h))
-
--- ---- a word and a number, and a line, where there is room for five digits
-
--- Behind the word there is room for the number.
-number-room : (o word : List ℕ) (x at : ℕ) → at + length word + 5 ≤ length o
-    → putting o at word .1 + length (decimal x) ≤ length (putting o at word .0)
-number-room o word x at h =
-    let p : List ℕ × ℕ = putting o at word in
-    let first : Added o at word (p .0) (p .1) = putting-added o (p .0) word at (p .1) refl (omega arith) in
-    omega (arith, first .next, putting-length o word at (omega arith), decimal-short x)
-
-pub field-added : (o q word : List ℕ) (x at r : ℕ) → (q, r) ≡ puts o at (word ∷ decimal x ∷ []) → at + length word + 5 ≤ length o
-    → Added o at (field word x) q r
-unfolding puts
-field-added o q word x at r e h =
-    let p : List ℕ × ℕ = putting o at word in
-    then o (p .0) q word (decimal x) at (p .1) r
-    (putting-added o (p .0) word at (p .1) refl (omega arith))
-    (putting-added (p .0) q (decimal x) (p .1) r e (number-room o word x at h))
-
-pub line-added : (o q word : List ℕ) (x at r : ℕ) → (q, r) ≡ puts o at (word ∷ decimal x ∷ letters "\n" ∷ []) → at + length word + 6 ≤ length o
-    → Added o at (line word x) q r
-unfolding puts
-line-added o q word x at r e h =
-    let p : List ℕ × ℕ = putting o at word in
-    let z : List ℕ × ℕ = putting (p .0) (p .1) (decimal x) in
-    let first : Added o at (field word x) (z .0) (z .1) = field-added o (z .0) word x at (z .1) refl (omega arith) in
-    let kept = putting-length (p .0) (decimal x) (p .1) (number-room o word x at (omega arith)) in
-    then o (z .0) q (field word x) (letters "\n") at (z .1) r first
-    (putting-added (z .0) q (letters "\n") (z .1) r e
-    (omega (arith, first .next, kept, putting-length o word at (omega arith), length-append word (decimal x), decimal-short x)))

@@ -4,7 +4,8 @@
 --   five x, zeros x           all five digits, and how many of them are zeros in front
 --   field word x, line word x   a word and a number behind it, without and with a line end
 --   putting out at word       the buffer with the word put from a place on, and the place behind it
---   puts out at words         the same of several words, one behind the other
+--   joined words              several words as one text
+--   puts out at words         each of several words put behind the one before it
 --   Added                     what it says that a piece was put into a buffer
 -- Laws: proofs/Letters.
 use mathlib.Core.Path.{_≡_}
@@ -49,6 +50,11 @@ field word x = word ++ decimal x
 -- The same with a line end.
 abbrev pub line : List ℕ → ℕ → List ℕ
 line word x = field word x ++ letters "\n"
+
+-- Words one behind the other.
+abbrev pub joined : List (List ℕ) → List ℕ
+joined [] = []
+joined (word ∷ words) = word ++ joined words
 
 -- ---- in a buffer
 

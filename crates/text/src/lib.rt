@@ -1,14 +1,12 @@
 // Text in a buffer that the caller lends: words, numbers and lines, each from a place on. A piece that has no room there is left out.
 ghost use mathlib.Core.Path.{_≡_};
 ghost use mathlib.Core.List.{[], _∷_};
-ghost use Prim.Native.Nat.{_+_, _≤_};
-ghost use lib.ListN.{length};
+ghost use Prim.Native.Nat.{_≤_};
 ghost use Rattle.text.specs.Letters.{five, zeros, decimal, letters, putting, puts};
 
 // Puts the word into the buffer from a place on, and answers the place behind it.
 pub fn put(out: &mut [u8], at: usize, word: &[u8]) -> usize
     ensures { λ r. ⌜ (now (out .exit), r) ≡ putting (now (out .entry)) at (now (word .entry)) ⌝ }
-    ensures short { λ r. ⌜ r ≤ at + length (now (word .entry)) ⌝ }
 {
     if out.len() < at {
         return at;
@@ -27,7 +25,6 @@ pub fn put(out: &mut [u8], at: usize, word: &[u8]) -> usize
 // Puts one letter.
 fn put_letter(out: &mut [u8], at: usize, letter: u8) -> usize
     ensures { λ r. ⌜ (now (out .exit), r) ≡ putting (now (out .entry)) at (letter ∷ []) ⌝ }
-    ensures short { λ r. ⌜ r ≤ at + 1 ⌝ }
 {
     if out.len() <= at {
         return at;
@@ -72,7 +69,6 @@ fn zeros(x: u16) -> usize
 // Puts the decimal digits of x.
 pub fn put_number(out: &mut [u8], at: usize, x: u16) -> usize
     ensures { λ r. ⌜ (now (out .exit), r) ≡ putting (now (out .entry)) at (decimal x) ⌝ }
-    ensures short { λ r. ⌜ r ≤ at + 5 ⌝ }
 {
     // Most numbers of a small record are a single digit.
     if x < 10 {
@@ -86,7 +82,6 @@ pub fn put_number(out: &mut [u8], at: usize, x: u16) -> usize
 // Puts a word and a number.
 pub fn put_field(out: &mut [u8], at: usize, word: &[u8], x: u16) -> usize
     ensures { λ r. ⌜ (now (out .exit), r) ≡ puts (now (out .entry)) at (now (word .entry) ∷ decimal x ∷ []) ⌝ }
-    ensures short { λ r. ⌜ r ≤ at + length (now (word .entry)) + 5 ⌝ }
 {
     let next = put(out, at, word);
     put_number(out, next, x)
@@ -95,7 +90,6 @@ pub fn put_field(out: &mut [u8], at: usize, word: &[u8], x: u16) -> usize
 // Puts a word, a number and a line end.
 pub fn put_line(out: &mut [u8], at: usize, word: &[u8], x: u16) -> usize
     ensures { λ r. ⌜ (now (out .exit), r) ≡ puts (now (out .entry)) at (now (word .entry) ∷ decimal x ∷ letters "\n" ∷ []) ⌝ }
-    ensures short { λ r. ⌜ r ≤ at + length (now (word .entry)) + 6 ⌝ }
 {
     let next = put_field(out, at, word, x);
     put_letter(out, next, 10)

@@ -18,7 +18,7 @@ use Rattle.record.specs.Record.{sectionLength, sectionOf}
 use Rattle.record.specs.Bytes.{numbers, over}
 use Rattle.record.proofs.Bytes.{length-numbers, numbers-part, over-front}
 use Rattle.record.proofs.Answers.{fine-record, length-section}
-use Rattle.transcript.specs.Lines.{lampLine}
+use Rattle.transcript.specs.Outcomes.{lampLine}
 use Rattle.transcript.specs.Transcript.{numbersOf, lampLines, run, Whole}
 
 -- ---- the sections of a record

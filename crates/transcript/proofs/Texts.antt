@@ -11,7 +11,8 @@ use Rattle.record.specs.declared.Reading.{Reading}
 use Rattle.record.specs.declared.Reading.the-variants.{Fine, WrongSize, WrongDirectory}
 use Rattle.record.specs.Record.{nOf, tOf, reading}
 use Rattle.text.specs.Letters.{Added, letters, line}
-use Rattle.transcript.specs.Lines.{sizeLine, isAccepted, verdictLines, lastLine}
+use Rattle.lines.specs.Lines.{sizeLine, verdictLines}
+use Rattle.transcript.specs.Outcomes.{isAccepted, lastLine}
 use Rattle.transcript.specs.Transcript.{numbersOf, lampLines, textOf, textBy, text, rendering}
 
 -- The four pieces of a record that is not refused.

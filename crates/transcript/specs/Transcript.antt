@@ -22,7 +22,8 @@ use Rattle.record.specs.declared.Reading.the-variants.{Fine}
 use Rattle.record.specs.Bytes.{numbers}
 use Rattle.record.specs.Record.{nOf, tOf, reading, numberOf, sectionOf}
 use Rattle.text.specs.Letters.{letters, line}
-use Rattle.transcript.specs.Lines.{sizeLine, isAccepted, verdictLines, lampLine, lastLine}
+use Rattle.lines.specs.Lines.{sizeLine, verdictLines}
+use Rattle.transcript.specs.Outcomes.{isAccepted, lampLine, lastLine}
 
 -- The numbers of section k.
 abbrev pub numbersOf : List ℕ → ℕ → List ℕ

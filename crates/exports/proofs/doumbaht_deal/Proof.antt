@@ -5,7 +5,7 @@ use mathlib.Core.List.{List}
 use Prim.Native.Nat.{ℕ}
 use Rattle.dealer.specs.declared.Dealing.{Dealing}
 use Rattle.dealer.specs.Desk.{numberOf}
-use Rattle.transcript.specs.Lines.{orZero}
+use Rattle.transcript.specs.Outcomes.{orZero}
 use Rattle.exports.specs.Exports.{dealing}
 use Rattle.exports.proofs.doumbaht_deal.Statement.{statement}
 use Rattle.exports.proofs.doumbaht_deal.Tie as tie

@@ -18,13 +18,13 @@ abbrev μ-loop : tie.MeasureT-loop
 μ-loop out₀ at word i₀ out i = length word - i
 
 returns : tie.Need-returns Inv-loop μ-loop
-returns c = (putting-none _ _ _ (omega arith), search needs)
+returns c = putting-none _ _ _ (omega arith)
 
 sub-if2 : tie.Need-sub-if2 Inv-loop μ-loop
 sub-if2 c = search needs
 
 returns-2 : tie.Need-returns-2 Inv-loop μ-loop
-returns-2 c = (putting-none _ _ _ (omega arith), search needs)
+returns-2 c = putting-none _ _ _ (omega arith)
 
 loop-holds : tie.Need-loop-holds Inv-loop μ-loop
 loop-holds c = (search needs, refl, rw (add-zero, append-nil), refl)
@@ -62,11 +62,9 @@ same-length c = search needs
 returns-3 : tie.Need-returns-3 Inv-loop μ-loop
 returns-3 c =
     let a = c .before .before .before .before .args in
-    let e : c .before .loop .i ≡ length (a .word .now) = omega arith in (
-      putting-all (a .out .now) _ (a .word .now) (a .at) _ (omega arith)
-          (record { next = rw e; text = c .before .loop .inv .2 ∙ rw (e, take-length); rest = c .before .loop .inv .3 }),
-      omega arith,
-    )
+    let e : c .before .loop .i ≡ length (a .word .now) = omega arith in
+    putting-all (a .out .now) _ (a .word .now) (a .at) _ (omega arith)
+    (record { next = rw e; text = c .before .loop .inv .2 ∙ rw (e, take-length); rest = c .before .loop .inv .3 })
 
 pub put-spec : {M : Type 1} → statement M
 put-spec =

@@ -1,6 +1,5 @@
 -- `text::put_field` meets its contract: two pieces one behind the other.
-use native.Mathlib.Omega.{arith}
-use Rattle.text.proofs.Letters.{puts-two}
+use Rattle.text.proofs.Letters.{puts-one, puts-then}
 use borrow.Author.Needs.{needs}
 use Rattle.text.proofs.put_field.Statement.{statement}
 use Rattle.text.proofs.put_field.Tie as tie
@@ -18,7 +17,7 @@ returns : tie.Need-returns
 returns c =
     let p = c .before .before .before .before .before .before .put in
     let q = c .before .before .put-number in
-    (puts-two _ _ _ _ _ _ _ _ (p .ensures .0) (q .ensures .0), omega (arith, p .ensures .1, q .ensures .1))
+    puts-then _ _ _ _ _ _ _ _ (puts-one _ _ _ _ _ (p .ensures)) (puts-one _ _ _ _ _ (q .ensures))
 
 pub put-field-spec : {M : Type 1} → statement M
 put-field-spec = tie.close (tie.spec put-requires put-number-requires same-length returns)

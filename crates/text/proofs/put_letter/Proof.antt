@@ -6,7 +6,7 @@ use Rattle.text.proofs.put_letter.Statement.{statement}
 use Rattle.text.proofs.put_letter.Tie as tie
 
 returns : tie.Need-returns
-returns c = (putting-none _ _ _ (omega arith), omega arith)
+returns c = putting-none _ _ _ (omega arith)
 
 slice-write-out : tie.Need-slice-write-out
 slice-write-out c = search needs
@@ -18,7 +18,7 @@ same-length : tie.Need-same-length
 same-length c = search needs
 
 returns-2 : tie.Need-returns-2
-returns-2 c = (letter-put _ _ _ (omega arith), omega arith)
+returns-2 c = letter-put _ _ _ (omega arith)
 
 pub put-letter-spec : {M : Type 1} → statement M
 put-letter-spec = tie.close (tie.spec returns slice-write-out add-result same-length returns-2)

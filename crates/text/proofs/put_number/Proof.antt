@@ -1,9 +1,8 @@
 -- `text::put_number` meets its contract: one digit, or the digits without the zeros in front as a word.
 use mathlib.Core.Path.{ap, _∙_}
 use native.Mathlib.Omega.{arith}
-use lib.ListN.{length}
 use Rattle.text.specs.Letters.{putting}
-use Rattle.text.proofs.Letters.{decimal-one, decimal-part, decimal-short}
+use Rattle.text.proofs.Letters.{decimal-one, decimal-part}
 use borrow.Author.Needs.{needs}
 use Rattle.text.proofs.put_number.Statement.{statement}
 use Rattle.text.proofs.put_number.Tie as tie
@@ -25,7 +24,7 @@ returns c =
     let p = c .before .before .put-letter in
     let t = c .before .before .before .before in
     let a = t .before .before .args in
-    (p .ensures .0 ∙ ap (putting (a .out .now) (a .at)) (decimal-one (a .x) (t .if1 .taken)), omega (arith, p .ensures .1))
+    p .ensures ∙ ap (putting (a .out .now) (a .at)) (decimal-one (a .x) (t .if1 .taken))
 
 digits-requires : tie.Need-digits-requires
 digits-requires c κs = search needs
@@ -54,7 +53,7 @@ returns-2 c =
     let z = c .before .before .before .before .before .before in
     let a = z .before .before .before .before .args in
     let e = decimal-part (z .before .digits .result) (z .zeros .result) (a .x) (z .before .digits .ensures) (z .zeros .ensures .0) in
-    (p .ensures .0 ∙ ap (putting (a .out .now) (a .at)) e, omega (arith, p .ensures .1, ap length e, decimal-short (a .x)))
+    p .ensures ∙ ap (putting (a .out .now) (a .at)) e
 
 pub put-number-spec : {M : Type 1} → statement M
 put-number-spec =

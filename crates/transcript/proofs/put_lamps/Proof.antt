@@ -6,7 +6,7 @@ use Prim.Native.Nat.{_+_, _*_, _-_, _≤_}
 use native.Mathlib.Omega.{arith}
 use lib.ListN.{length}
 use Rattle.text.specs.Letters.{Added}
-use Rattle.transcript.specs.Lines.{lampLine}
+use Rattle.transcript.specs.Outcomes.{lampLine}
 use Rattle.transcript.specs.Transcript.{lampLines}
 use Rattle.text.proofs.Letters.{then, nothing}
 use Rattle.transcript.proofs.Runs.{lamps-more}

@@ -1,58 +1,47 @@
--- `transcript::put_record` meets its contract: four pieces one behind the other.
-use mathlib.Core.Path.{subst}
+-- `transcript::put_record` meets its contract: the reports are lent whole.
+use mathlib.Core.Path.{_≡_, sym}
+use Prim.Native.Nat.{_≤_}
 use native.Mathlib.Omega.{arith}
-use Rattle.text.specs.Letters.{Added}
-use Rattle.text.proofs.Letters.{then}
-use Rattle.transcript.proofs.Runs.{whole-facts}
-use Rattle.transcript.proofs.Texts.{text-pieces}
+use lib.ListN.{length}
+use lib.Seq.{length-take-le}
+use Rattle.transcript.specs.Transcript.{numbersOf}
+use Rattle.transcript.proofs.Runs.{whole-facts, reports-count, part-all}
 use borrow.Author.Needs.{needs}
 use Rattle.transcript.proofs.put_record.Statement.{statement}
 use Rattle.transcript.proofs.put_record.Tie as tie
 
-happy-set-requires : tie.Need-happy-set-requires
-happy-set-requires c κs = search needs
+-- At most sixteen parties, and as many reports.
+facts : (s : tie.Start) → (s .args .n ≤ 16) × (length (numbersOf (s .args .bytes .now) 2) ≡ s .args .n)
+facts s = let a = s .args in (whole-facts (a .bytes .now) (a .n) (a .t) (s .pre .0) .3, reports-count (a .bytes .now) (a .n) (a .t) (s .pre .0))
 
-accepted-requires : tie.Need-accepted-requires
-accepted-requires c κs = let s = c .before .before .before in let f = whole-facts (s .args .bytes .now) (s .args .n) (s .args .t) (s .pre .0) in omega arith
+part-requires : tie.Need-part-requires
+part-requires c κs = let f = facts (c .before .before) in (omega arith, omega arith, omega arith)
 
-put-size-requires : tie.Need-put-size-requires
-put-size-requires c κs = search needs
+array-share-prefix-list : tie.Need-array-share-prefix-list
+array-share-prefix-list c = omega (arith, facts (c .before .before .before .before))
 
-put-verdict-requires : tie.Need-put-verdict-requires
-put-verdict-requires c κs = let s = c .before .before .before .before .before .before .before .before .before in let f = whole-facts (s .args .bytes .now) (s .args .n) (s .args .t) (s .pre .0) in (omega arith, omega arith)
+slice-aggregate-put-by-reports : tie.Need-slice-aggregate-put-by-reports
+slice-aggregate-put-by-reports c = sym (length-take-le _ _ (omega (arith, facts (c .before .before .before .before .before))))
 
-put-settled-requires : tie.Need-put-settled-requires
-put-settled-requires c κs = let s = c .before .before .before .before .before .before .before .before .before .before .before .before .before in let f = whole-facts (s .args .bytes .now) (s .args .n) (s .args .t) (s .pre .0) in (s .pre .0, omega arith)
-
-put-end-requires : tie.Need-put-end-requires
-put-end-requires c κs = search needs
+put-by-reports-requires : tie.Need-put-by-reports-requires
+put-by-reports-requires c κs =
+    let s = c .before .before .before .before .before in
+    let p = c .before .before .part in
+    (s .pre .0, part-all (p .result) (numbersOf (s .args .bytes .now) 2) (s .args .n) (p .ensures) (facts s .1), s .pre .1)
 
 same-length : tie.Need-same-length
 same-length c = search needs
 
 returns : tie.Need-returns
-returns c =
-    let s = c .before .before .before .before .before .before .before .before .before .before .before .before .before .before .before .before .before .before .before .before in
-    let a = s .args in
-    let p = c .before .before .put-end in
-    let v = c .before .before .before .before .before .before .before .before .before .before .put-verdict in
-    let z = c .before .before .before .before .before .before .before .before .before .before .before .before .before .before .put-size in
-    let l = c .before .before .before .before .before .before .put-settled in (
-      subst (λ w. Added (a .out .now) 0 w (p .last .0) (p .result))
-          (text-pieces (a .bytes .now) (a .n) (a .t) (c .before .before .before .before .before .before .before .before .before .before .before .before .before .before .before .before .before .happy-set .result) (c .before .before .before .before .before .before .before .before .before .before .before .before .before .before .before .before .accepted .result) (c .before .before .before .before .before .before .before .before .before .before .before .before .before .before .before .before .before .happy-set .ensures) (c .before .before .before .before .before .before .before .before .before .before .before .before .before .before .before .before .accepted .ensures))
-          (then _ _ _ _ _ _ _ _ (then _ _ _ _ _ _ _ _ (then _ _ _ _ _ _ _ _ (z .ensures .0) (v .ensures .0)) (l .ensures .0)) (p .ensures .0)),
-      omega (arith, p .ensures .1, l .ensures .1, v .ensures .1, z .ensures .1),
-    )
+returns c = let p = c .before .before .put-by-reports in (p .ensures .0, p .ensures .1)
 
 pub put-record-spec : {M : Type 1} → statement M
 put-record-spec =
     tie.close
     (tie.spec
-    happy-set-requires
-    accepted-requires
-    put-size-requires
-    put-verdict-requires
-    put-settled-requires
-    put-end-requires
+    part-requires
+    array-share-prefix-list
+    slice-aggregate-put-by-reports
+    put-by-reports-requires
     same-length
     returns)

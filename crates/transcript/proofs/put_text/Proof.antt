@@ -5,6 +5,9 @@ use Rattle.record.specs.declared.Reading.the-variants.{Fine}
 use Rattle.record.specs.Record.{reading}
 use Rattle.record.proofs.Answers.{fine-record}
 use Rattle.text.specs.Letters.{Added}
+use Rattle.text.proofs.Letters.{puts-within}
+use Rattle.lines.specs.Lines.{refusedWords}
+use Rattle.lines.proofs.Lines.{refused-short}
 use Rattle.transcript.proofs.Texts.{text-fine, text-size, text-directory}
 use borrow.Author.Needs.{needs}
 use Rattle.transcript.proofs.put_text.Statement.{statement}
@@ -49,7 +52,8 @@ returns c =
     let p = c .before .before .put-refused in
     let q = c .before .before .before .before .before .before .read in
     let a = c .before .before .before .before .before .before .before .before .before .args in
-    (subst (λ w. Added (a .out .now) 0 w (p .last .0) (p .result)) (text-size (q .result) (a .bytes .now) (q .ensures) (c .before .before .before .before .enum-told .given .1)) (p .ensures .0), search needs)
+    let put = puts-within (refusedWords 1) _ _ _ _ 21 (p .ensures) (refused-short 1) (omega arith) in
+    (subst (λ w. Added (a .out .now) 0 w (p .last .0) (p .result)) (text-size (q .result) (a .bytes .now) (q .ensures) (c .before .before .before .before .enum-told .given .1)) (put .0), omega (arith, put .1))
 
 same-length-2 : tie.Need-same-length-2
 same-length-2 c = search needs
@@ -59,7 +63,8 @@ returns-2 c =
     let p = c .before .before .put-refused2 in
     let q = c .before .before .before .before .before .before .read in
     let a = c .before .before .before .before .before .before .before .before .before .args in
-    (subst (λ w. Added (a .out .now) 0 w (p .last .0) (p .result)) (text-directory (q .result) (a .bytes .now) (q .ensures) (c .before .before .before .before .enum-told2 .given .1)) (p .ensures .0), search needs)
+    let put = puts-within (refusedWords 6) _ _ _ _ 21 (p .ensures) (refused-short 6) (omega arith) in
+    (subst (λ w. Added (a .out .now) 0 w (p .last .0) (p .result)) (text-directory (q .result) (a .bytes .now) (q .ensures) (c .before .before .before .before .enum-told2 .given .1)) (put .0), omega (arith, put .1))
 
 same-length-3 : tie.Need-same-length-3
 same-length-3 c = search needs

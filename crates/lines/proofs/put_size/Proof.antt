@@ -1,9 +1,8 @@
--- `transcript::put_size` meets its contract: two pieces one behind the other.
-use native.Mathlib.Omega.{arith}
-use Rattle.text.proofs.Letters.{then, field-added, line-added}
+-- `lines::put_size` meets its contract: two pieces one behind the other.
+use Rattle.text.proofs.Letters.{puts-then}
 use borrow.Author.Needs.{needs}
-use Rattle.transcript.proofs.put_size.Statement.{statement}
-use Rattle.transcript.proofs.put_size.Tie as tie
+use Rattle.lines.proofs.put_size.Statement.{statement}
+use Rattle.lines.proofs.put_size.Tie as tie
 
 slice-aggregate-put-field : tie.Need-slice-aggregate-put-field
 slice-aggregate-put-field c = search needs
@@ -24,7 +23,7 @@ returns : tie.Need-returns
 returns c =
     let p = c .before .before .before .before .before .before .before .put-field in
     let q = c .before .before .put-line in
-    (then _ _ _ _ _ _ _ _ (field-added _ _ _ _ _ _ (p .ensures .0) (omega arith)) (line-added _ _ _ _ _ _ (q .ensures .0) (omega arith)), search needs)
+    puts-then _ _ _ _ _ _ _ _ (p .ensures) (q .ensures)
 
 pub put-size-spec : {M : Type 1} → statement M
 put-size-spec =

@@ -1,25 +1,25 @@
--- `transcript::put_names` meets its contract: after k turns the first k lamps are there.
+-- `lines::put_names` meets its contract: after k turns the first k lamps are there.
 use borrow.Author.Needs.{needs}
-use mathlib.Core.Path.{_≡_, refl, subst, _∙_}
-use Prim.Native.Nat.{_+_, _*_, _-_, _≤_}
+use mathlib.Core.Path.{_≡_, refl, ap, _∙_}
+use Prim.Native.Nat.{_-_, _≤_}
 use native.Mathlib.Omega.{arith}
 use lib.ListN.{length}
-use Rattle.text.specs.Letters.{Added}
-use Rattle.transcript.specs.Lines.{names}
-use Rattle.text.proofs.Letters.{then, nothing}
-use Rattle.transcript.proofs.Lines.{names-more}
-use Rattle.transcript.proofs.put_names.Statement.{statement}
-use Rattle.transcript.proofs.put_names.Tie as tie
+use Rattle.text.specs.Letters.{puts}
+use Rattle.text.proofs.Letters.{puts-none, puts-then}
+use Rattle.lines.specs.Lines.{names}
+use Rattle.lines.proofs.Lines.{names-more}
+use Rattle.lines.proofs.put_names.Statement.{statement}
+use Rattle.lines.proofs.put_names.Tie as tie
 
 abbrev Inv-loop : tie.InvT-loop
-Inv-loop out₀ at set n next₀ k₀ out next k = (k ≤ n) × (next ≤ at + 3 * k) × (length out ≡ length out₀) × Added out₀ at (names set k) out next
+Inv-loop out₀ at set n next₀ k₀ out next k = (k ≤ n) × (length out ≡ length out₀) × ((out, next) ≡ puts out₀ at (names set k))
 
 abbrev μ-loop : tie.MeasureT-loop
 μ-loop out₀ at set n next₀ k₀ out next k = n - k
 
 loop-holds : tie.Need-loop-holds Inv-loop μ-loop
 unfolding names
-loop-holds c = (search needs, search needs, refl, nothing _ _)
+loop-holds c = (search needs, refl, puts-none _ _)
 
 put-name-requires : tie.Need-put-name-requires Inv-loop μ-loop
 put-name-requires c κs = search needs
@@ -34,12 +34,8 @@ loop-again : tie.Need-loop-again Inv-loop μ-loop
 loop-again c =
     let p = c .before .before .put-name in
     let l = c .before .before .before .before .before .loop in
-    let a = c .before .before .before .before .before .before .before .args in (
-      search needs,
-      search needs,
-      p .kept .0 ∙ l .inv .2,
-      subst (λ w. Added (a .out .now) (a .at) w (p .last .0) (p .result)) (names-more (a .set) (l .k)) (then _ _ _ _ _ _ _ _ (l .inv .3) (p .ensures .0)),
-    )
+    let a = c .before .before .before .before .before .before .before .args in
+    (search needs, p .kept .0 ∙ l .inv .1, puts-then _ _ _ _ _ _ _ _ (l .inv .2) (p .ensures) ∙ ap (puts (a .out .now) (a .at)) (names-more (a .set) (l .k)))
 
 same-length : tie.Need-same-length Inv-loop μ-loop
 same-length c = search needs
@@ -47,7 +43,7 @@ same-length c = search needs
 returns : tie.Need-returns Inv-loop μ-loop
 returns c =
     let e : c .before .loop .k ≡ c .before .before .before .args .n = omega arith in
-    (rw (← e) (c .before .loop .inv .3), search needs)
+    rw (← e) (c .before .loop .inv .2)
 
 pub put-names-spec : {M : Type 1} → statement M
 put-names-spec =

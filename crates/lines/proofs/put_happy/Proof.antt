@@ -1,9 +1,8 @@
--- `transcript::put_happy` meets its contract: three pieces one behind the other.
-use native.Mathlib.Omega.{arith}
-use Rattle.text.proofs.Letters.{then, putting-added}
+-- `lines::put_happy` meets its contract: three pieces one behind the other.
+use Rattle.text.proofs.Letters.{puts-one, puts-then}
 use borrow.Author.Needs.{needs}
-use Rattle.transcript.proofs.put_happy.Statement.{statement}
-use Rattle.transcript.proofs.put_happy.Tie as tie
+use Rattle.lines.proofs.put_happy.Statement.{statement}
+use Rattle.lines.proofs.put_happy.Tie as tie
 
 slice-aggregate-put : tie.Need-slice-aggregate-put
 slice-aggregate-put c = search needs
@@ -25,10 +24,10 @@ same-length c = search needs
 
 returns : tie.Need-returns
 returns c =
-    let p = c .before .before .before .before .before .before .before .before .before .before .before .put in
-    let m = c .before .before .before .before .before .before .before .put-names in
+    let m = c .before .before .before .before .before .before .before in
+    let p = m .before .before .before .before .put in
     let q = c .before .before .put2 in
-    (then _ _ _ _ _ _ _ _ (then _ _ _ _ _ _ _ _ (putting-added _ _ _ _ _ (p .ensures .0) (omega arith)) (m .ensures .0)) (putting-added _ _ _ _ _ (q .ensures .0) (omega arith)), omega (arith, p .ensures .1, m .ensures .1, q .ensures .1))
+    puts-then _ _ _ _ _ _ _ _ (puts-then _ _ _ _ _ _ _ _ (puts-one _ _ _ _ _ (p .ensures)) (m .put-names .ensures)) (puts-one _ _ _ _ _ (q .ensures))
 
 pub put-happy-spec : {M : Type 1} → statement M
 put-happy-spec =

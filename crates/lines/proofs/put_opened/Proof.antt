@@ -1,9 +1,8 @@
--- `transcript::put_opened` meets its contract: two pieces one behind the other.
-use native.Mathlib.Omega.{arith}
-use Rattle.text.proofs.Letters.{then, putting-added}
+-- `lines::put_opened` meets its contract: the outcome stands behind the word.
+use Rattle.text.proofs.Letters.{puts-one, puts-then}
 use borrow.Author.Needs.{needs}
-use Rattle.transcript.proofs.put_opened.Statement.{statement}
-use Rattle.transcript.proofs.put_opened.Tie as tie
+use Rattle.lines.proofs.put_opened.Statement.{statement}
+use Rattle.lines.proofs.put_opened.Tie as tie
 
 slice-aggregate-put : tie.Need-slice-aggregate-put
 slice-aggregate-put c = search needs
@@ -24,7 +23,7 @@ returns : tie.Need-returns
 returns c =
     let p = c .before .before .before .before .before .before .before .put in
     let q = c .before .before .put-outcome in
-    (then _ _ _ _ _ _ _ _ (putting-added _ _ _ _ _ (p .ensures .0) (omega arith)) (q .ensures .0), omega (arith, p .ensures .1, q .ensures .1))
+    puts-then _ _ _ _ _ _ _ _ (puts-one _ _ _ _ _ (p .ensures)) (q .ensures)
 
 pub put-opened-spec : {M : Type 1} → statement M
 put-opened-spec =

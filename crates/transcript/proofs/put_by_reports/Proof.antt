@@ -1,0 +1,96 @@
+-- `transcript::put_by_reports` meets its contract: four pieces one behind the other.
+use mathlib.Core.Path.{subst, ap, _∙_}
+use Prim.Native.Nat.{_≤_}
+use native.Mathlib.Omega.{arith}
+use lib.ListN.{length}
+use Rattle.happy.specs.Happy.{happySet}
+use Rattle.text.specs.Letters.{Added, joined}
+use Rattle.text.proofs.Letters.{then, puts-within}
+use Rattle.lines.specs.Lines.{sizeWords, sizeLine, verdictWords, verdictLines}
+use Rattle.lines.proofs.Lines.{size-short, verdict-short}
+use Rattle.transcript.proofs.Runs.{whole-facts}
+use Rattle.transcript.proofs.Texts.{text-pieces}
+use borrow.Author.Needs.{needs}
+use Rattle.transcript.proofs.put_by_reports.Statement.{statement}
+use Rattle.transcript.proofs.put_by_reports.Tie as tie
+
+-- The record's sizes.
+facts : (s : tie.Start) → (s .args .t ≤ s .args .n) × (s .args .n ≤ 16)
+facts s = let f = whole-facts (s .args .bytes .now) (s .args .n) (s .args .t) (s .pre .0) in (omega arith, f .3)
+
+-- The size line is put.
+sized : (c : tie.After-put-size) → let a = c .before .before .before .before .before .before .before .args in
+    Added (a .out .now) 0 (sizeLine (a .n) (a .t)) (c .put-size .last .0) (c .put-size .result) × (c .put-size .result ≤ 17)
+sized c =
+    let a = c .before .before .before .before .before .before .before .args in
+    puts-within (sizeWords (a .n) (a .t)) _ _ _ _ 17 (c .put-size .ensures) (size-short (a .n) (a .t)) (omega arith)
+
+-- And the verdict behind it.
+judged : (c : tie.After-put-verdict) → let z = c .before .before .before .before in let a = z .before .before .before .before .before .before .before .args in
+    Added (z .put-size .last .0) (z .put-size .result) (verdictLines (z .before .before .accepted .result) (z .before .before .before .happy-set .result) (a .n)) (c .put-verdict .last .0) (c .put-verdict .result)
+    × (c .put-verdict .result ≤ 87)
+judged c =
+    let z = c .before .before .before .before in
+    let s = z .before .before .before .before .before .before .before in
+    let good = z .before .before .accepted .result in
+    let set = z .before .before .before .happy-set .result in
+    let f = facts s in
+    let short : length (joined (verdictWords good set (s .args .n))) ≤ 70 = omega (arith, verdict-short good set (s .args .n) (omega arith)) in
+    let put = puts-within (verdictWords good set (s .args .n)) _ _ _ _ 70 (c .put-verdict .ensures) short (omega (arith, sized z .1)) in
+    (put .0, omega (arith, put .1, sized z .1))
+
+happy-set-requires : tie.Need-happy-set-requires
+happy-set-requires c κs = search needs
+
+accepted-requires : tie.Need-accepted-requires
+accepted-requires c κs = facts (c .before .before .before .before) .0
+
+put-size-requires : tie.Need-put-size-requires
+put-size-requires c κs = search needs
+
+put-verdict-requires : tie.Need-put-verdict-requires
+put-verdict-requires c κs = search needs
+
+put-lamps-requires : tie.Need-put-lamps-requires
+put-lamps-requires c κs =
+    let v = c .before .before .before in
+    let s = v .before .before .before .before .before .before .before .before .before .before .before in
+    (s .pre .0, s .pre .1, facts s .1, omega (arith, judged v .1))
+
+put-last-requires : tie.Need-put-last-requires
+put-last-requires c κs =
+    let v = c .before .before .before .before .before .before .before in
+    let s = v .before .before .before .before .before .before .before .before .before .before .before in
+    (s .pre .0, omega (arith, judged v .1))
+
+same-length : tie.Need-same-length
+same-length c = search needs
+
+returns : tie.Need-returns
+returns c =
+    let p = c .before .before .put-last in
+    let l = c .before .before .before .before .before .before .put-lamps in
+    let v = c .before .before .before .before .before .before .before .before .before .before in
+    let z = v .before .before .before .before in
+    let s = z .before .before .before .before .before .before .before in
+    let a = s .args in
+    let good = z .before .before .accepted in
+    let set = z .before .before .before .happy-set in (
+      subst (λ w. Added (a .out .now) 0 w (p .last .0) (p .result))
+          (text-pieces (a .bytes .now) (a .n) (a .t) (set .result) (good .result) (set .ensures ∙ ap happySet (s .pre .1)) (good .ensures))
+          (then _ _ _ _ _ _ _ _ (then _ _ _ _ _ _ _ _ (then _ _ _ _ _ _ _ _ (sized z .0) (judged v .0)) (l .ensures .0)) (p .ensures .0)),
+      omega (arith, p .ensures .1, l .ensures .1, judged v .1),
+    )
+
+pub put-by-reports-spec : {M : Type 1} → statement M
+put-by-reports-spec =
+    tie.close
+    (tie.spec
+    happy-set-requires
+    accepted-requires
+    put-size-requires
+    put-verdict-requires
+    put-lamps-requires
+    put-last-requires
+    same-length
+    returns)
