@@ -114,10 +114,6 @@ module _ (p : ℕ) (P : Prime p) (big : 16 < p) (n t : ℕ) (e : Execution) (pr 
       shares = λ xs _. ap (λ (l : Lamp). l .share) (ended w is xs);
     }
 
-    reported-n : reported .n ≡ n
-    unfolding withPairs withDeal
-    reported-n = refl
-
     -- ---- too few agree: the dealer is rejected
     rejects : ones S < n - t → Rejects p n t e i (e .calls i) (e .run i)
     unfolding withPairs withDeal atEnd

@@ -133,10 +133,6 @@ module _ (p n t i : ℕ) (size : sizes n t ≡ true) (party : isParty n i ≡ tr
   unfolding withPairs withDeal
   reported-sized = record { size = size; party = party }
 
-  reported-report : reported .report ≡ reportBy p n t i r
-  unfolding withPairs
-  reported-report = report-is
-
   reported-awaits : (c : Call) → isSettling n i (reportBy p n t i r) c ≡ false → awaited reported c ≡ false
   unfolding withPairs withDeal
   reported-awaits (takeDeal e) h = and-false (eqb (length e) (2 * suc t))

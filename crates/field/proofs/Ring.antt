@@ -21,10 +21,6 @@ module _ (p a b : ℕ) (positive : 0 < p) where
   unfolding mul
   mul-lt = mod-lt (a * b) positive
 
-pub neg-lt : (p a : ℕ) → 0 < p → neg p a < p
-unfolding neg
-neg-lt p a positive = mod-lt (p - a % p) positive
-
 module _ (p a b : ℕ) where
   pub add-residue : add p a b % p ≡ add p a b
   unfolding add
