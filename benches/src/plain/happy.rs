@@ -48,13 +48,17 @@ pub fn agreements(reports: &[u16]) -> Table {
     table
 }
 
+/// Sixteen reports that do not straddle two lines of the cache: a copy that does is read back at half the speed.
+#[repr(align(32))]
+struct Own([u16; 16]);
+
 /// The table as sixteen numbers: row i has bit j where each of i and j has a one for the other. At most 16 reports.
 #[inline(always)]
 pub fn rows(reports: &[u16]) -> [u16; 16] {
-    let mut own = [0u16; 16];
-    own[..reports.len()].copy_from_slice(reports);
+    let mut own = Own([0; 16]);
+    own.0[..reports.len()].copy_from_slice(reports);
     let words: [u64; 4] =
-        std::array::from_fn(|w| (0..4).fold(0, |word, r| word | u64::from(own[4 * w + r]) << (16 * r)));
+        std::array::from_fn(|w| (0..4).fold(0, |word, r| word | u64::from(own.0[4 * w + r]) << (16 * r)));
     let across = transposed(words);
     let mut rows = [0; 16];
     for (w, four) in rows.chunks_exact_mut(4).enumerate() {
