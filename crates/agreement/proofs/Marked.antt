@@ -10,7 +10,8 @@ use Rattle.field.specs.Modulus.{modulus}
 use Rattle.interpolation.specs.Interpolation.{interpolate}
 use Rattle.mutual.specs.Agreement.{agree, agreements}
 use Rattle.happy.specs.Happy.{joins, better, best, largest, largestIn, happySet}
-use Rattle.fit.specs.Fit.{hits, sent, received, through, fit}
+use Rattle.trial.specs.Trial.{hits, received, through}
+use Rattle.fit.specs.Fit.{sent, fit}
 use Rattle.parties.specs.Parties.{sizes, isParty, pointOf, notSent}
 use Rattle.dealer.specs.Desk.{deal, deals, verdict, desk}
 use Rattle.consistency.specs.Deal.{sound, confirms, reportOf}

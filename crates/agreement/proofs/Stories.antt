@@ -17,7 +17,8 @@ use Rattle.lists.proofs.Tabulate.{length-tabulate, getD-tabulate}
 use Rattle.field.specs.Modulus.{modulus}
 use Rattle.mutual.specs.Agreement.{agree, agreements}
 use Rattle.happy.specs.Happy.{joins, better, best, largest, largestIn, happySet}
-use Rattle.fit.specs.Fit.{hits, sent, received, through, fit}
+use Rattle.trial.specs.Trial.{hits, received, through}
+use Rattle.fit.specs.Fit.{sent, fit}
 use Rattle.interpolation.specs.Interpolation.{interpolate}
 use Rattle.bivariate.specs.Bivariate.{at}
 use Rattle.field.specs.Arithmetic.{add, sub, mul, pow, inv, invWithin}

@@ -12,9 +12,10 @@ use lib.Seq.{take-at}
 use Rattle.lists.proofs.Padded.{getD-zeros}
 use Rattle.field.specs.Modulus.{modulus}
 use Rattle.field.proofs.Primes.{prime}
-use Rattle.fit.specs.declared.Fitted.{Fitted}
+use Rattle.trial.specs.declared.Fitted.{Fitted}
 use Rattle.fit.specs.Fit.{fit}
-use Rattle.fit.specs.Answer.{answer, fitIn}
+use Rattle.trial.specs.Answer.{answer}
+use Rattle.fit.specs.Answer.{fitIn}
 use Rattle.fit.proofs.Answers.{fit-within}
 use Rattle.fit.proofs.Decoding.{fit-sound}
 use Rattle.parties.specs.Parties.{sizes, points}

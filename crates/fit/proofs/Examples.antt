@@ -9,8 +9,10 @@ use Rattle.field.specs.Arithmetic.{add, sub, mul, inv, invWithin}
 use Rattle.field.specs.Modulus.{modulus}
 use Rattle.interpolation.specs.Interpolation.{interpolate}
 use Rattle.lists.specs.Choices.{hide}
-use Rattle.fit.specs.Fit.{hits, sent, received, through, fit}
-use Rattle.fit.specs.Answer.{answer, fitIn}
+use Rattle.trial.specs.Trial.{hits, received, through}
+use Rattle.trial.specs.Answer.{answer}
+use Rattle.fit.specs.Fit.{sent, fit}
+use Rattle.fit.specs.Answer.{fitIn}
 
 -- The points 1 to n.
 abbrev upTo : ℕ → List ℕ

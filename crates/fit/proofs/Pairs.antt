@@ -20,22 +20,19 @@ use Rattle.lists.proofs.Choices.{count-length, count-split, count-append, count
 use Rattle.lists.proofs.Sublists.{take-sublist, parts-sublist, take-take}
 use Rattle.field.specs.Arithmetic.{Prime}
 use Rattle.interpolation.specs.Interpolation.{interpolate}
-use Rattle.fit.specs.declared.Fitted.{Fitted}
-use Rattle.fit.specs.Fit.{pointsOf, meets, received, through, Fits, firstFitting, fit}
-use Rattle.fit.specs.Answer.{answer}
+use Rattle.trial.specs.declared.Fitted.{Fitted}
+use Rattle.trial.specs.Trial.{pointsOf, meets, received, through, firstFitting}
+use Rattle.trial.specs.Answer.{answer}
+use Rattle.trial.proofs.Answers.{answer-found, answer-not-found}
+use Rattle.trial.proofs.Steps.{received-next, received-over}
+use Rattle.fit.specs.Fit.{Fits, fit}
 use Rattle.fit.specs.Grouping.{Grouping}
 use Rattle.fit.specs.Pairs.{fourAt, ones, others}
-use Rattle.fit.proofs.Answers.{answer-found, answer-not-found}
 use Rattle.fit.proofs.Decoding.{tried-fits, tried-none, fit-nothing, fit-found}
-use Rattle.fit.proofs.Steps.{received-next, received-over}
+use Rattle.fit.proofs.Rule.{length-points}
 use Rattle.fit.proofs.Grouping.{spoilt}
 
 -- ---- points from their coordinates
-length-points : (xs ys : List ℕ) → length xs ≡ length ys → length (pointsOf xs ys) ≡ length xs
-length-points [] ys l = refl
-length-points (x ∷ xs) [] l = absurd (omega arith)
-length-points (x ∷ xs) (y ∷ ys) l = ap suc (length-points xs ys (omega arith))
-
 points-next : (xs ys : List ℕ) (x y : ℕ) → length xs ≡ length ys → pointsOf (xs ++ x ∷ []) (ys ++ y ∷ []) ≡ pointsOf xs ys ++ (x, y) ∷ []
 points-next [] [] x y l = refl
 points-next [] (v ∷ ys) x y l = absurd (omega arith)

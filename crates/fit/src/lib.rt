@@ -1,80 +1,18 @@
-// Decoding by trial: the polynomial of degree at most t that agrees with at least `need` of the points.
+// Decoding: the polynomial of degree at most t that agrees with at least `need` of the points.
 ghost use mathlib.Core.Path.{_≡_};
 ghost use mathlib.Core.Bool.{_&&_};
-ghost use mathlib.Core.List.{[], _∷_};
 ghost use mathlib.Core.Option.{none};
-ghost use Prim.Native.Nat.{_+_, _-_, _≤_, _<_};
-ghost use lib.Dec.{leb, ltb, eqb};
-ghost use lib.ListN.{length, take, drop, replicate};
+ghost use Prim.Native.Nat.{_+_, _≤_, _<_};
+ghost use lib.Dec.{ltb, eqb};
+ghost use lib.ListN.{length, take};
 ghost use Rattle.field.specs.Modulus.{modulus};
-ghost use Rattle.interpolation.specs.Interpolation.{interpolate};
-ghost use Rattle.fit.specs.Fit.{pointsOf, hits, sent, received, firstFitting, fit};
-ghost use Rattle.fit.specs.Answer.{answer, given, found, Searching, fitIn};
+ghost use Rattle.trial.specs.Trial.{pointsOf, received, tried};
+ghost use Rattle.trial.specs.Answer.{answer, fourIn};
+ghost use Rattle.fit.specs.Fit.{sent, fit};
+ghost use Rattle.fit.specs.Answer.{fitIn};
 ghost use Rattle.fit.specs.Grouping.{Behind, Grouping};
 ghost use Rattle.fit.specs.Pairs.{fourAt};
-
-// Whether a polynomial was found, and its coefficients, the constant first, with 0 behind them.
-pub struct Fitted {
-    pub found: bool,
-    pub coefficients: [u16; 4],
-}
-
-fn nothing() -> Fitted
-    ensures { λ r. ⌜ r ≡ answer none ⌝ }
-{
-    Fitted {
-        found: false,
-        coefficients: [0; 4],
-    }
-}
-
-// What is found where the coefficients have passed.
-fn given(passed: bool, f: [u16; 4]) -> Fitted
-    ensures { λ r. ⌜ r ≡ given passed f ⌝ }
-{
-    if passed {
-        return Fitted {
-            found: true,
-            coefficients: f,
-        };
-    }
-    nothing()
-}
-
-// The same, written anew. A call's answer that is returned as it is would be copied as a block that cuts across its two parts, and the
-// processor waits until both are in memory.
-fn copied(f: Fitted) -> Fitted
-    ensures { λ r. ⌜ r ≡ f ⌝ }
-{
-    let g = f.coefficients;
-    Fitted {
-        found: f.found,
-        coefficients: g,
-    }
-}
-
-// Whether at least `need` of the points agree with a + b X + c X² + d X³. The loop goes from the end, and stops as soon as too many
-// have differed: with a wrong polynomial that is soon.
-fn enough(a: u16, b: u16, c: u16, d: u16, xs: &[u16], ys: &[u16], need: usize) -> bool
-    requires { ⌜ length (now xs) ≡ length (now ys) ⌝ }
-    ensures { λ r. ⌜ r ≡ leb need (hits modulus (a ∷ b ∷ c ∷ d ∷ []) (now (xs .entry)) (now (ys .entry))) ⌝ }
-{
-    let mut i = xs.len();
-    if i < need {
-        return false;
-    }
-    let mut slack = i - need;
-    while 0 < i {
-        i -= 1;
-        if polynomial::cubic(a, b, c, d, xs[i]) != ys[i] {
-            if slack == 0 {
-                return false;
-            }
-            slack -= 1;
-        }
-    }
-    true
-}
+use trial::Fitted;
 
 // How many values were sent. The loop goes from the end: n is always the count of the values from i on.
 fn sent(ys: &[u16]) -> usize
@@ -89,96 +27,6 @@ fn sent(ys: &[u16]) -> usize
         }
     }
     n
-}
-
-// Puts the polynomial through the c points taken in the place of their values, and says whether it agrees with enough of all points.
-fn test(xs: &[u16], ys: &[u16], need: usize, c: usize, cx: &[u16], f: &mut [u16]) -> bool
-    requires { ⌜ length (now xs) ≡ length (now ys) ⌝ }
-    requires { ⌜ (c ≤ 4) × (length (now cx) ≡ 4) × (length (now f) ≡ 4) ⌝ }
-    requires { ⌜ drop c (now f) ≡ replicate (4 - c) 0 ⌝ }
-    ensures { λ r. ⌜ given r (now (f .exit)) ≡ answer (firstFitting modulus need (now (xs .entry)) (now (ys .entry)) (interpolate modulus (take c (now (cx .entry))) (take c (now (f .entry))) ∷ [])) ⌝ }
-{
-    interpolation::interpolate(&cx[..c], &mut f[..c]);
-    enough(f[0], f[1], f[2], f[3], xs, ys, need)
-}
-
-// The search from place i on where no point may be passed over: the next `more` points sent are taken. The first c places of cx and
-// cy hold the points taken before. A value that was not sent is no point.
-fn straight(
-    xs: &[u16],
-    ys: &[u16],
-    need: usize,
-    i: usize,
-    more: usize,
-    c: usize,
-    cx: [u16; 4],
-    cy: [u16; 4],
-) -> Fitted
-    requires { ⌜ Searching (now xs) (now ys) i more c cy ⌝ }
-    ensures { λ r. ⌜ r ≡ answer (found modulus need (now (xs .entry)) (now (ys .entry)) more 0 (take c cx) (take c cy) i) ⌝ }
-{
-    let mut j = i;
-    let mut left = more;
-    let mut d = c;
-    let mut dx = cx;
-    let mut dy = cy;
-    while 0 < left {
-        if xs.len() <= j {
-            return nothing();
-        }
-        let x = xs[j];
-        let y = ys[j];
-        j += 1;
-        if y < field::MODULUS {
-            dx[d] = x;
-            dy[d] = y;
-            d += 1;
-            left -= 1;
-        }
-    }
-    let passed = test(xs, ys, need, d, &dx, &mut dy);
-    given(passed, dy)
-}
-
-// The search from place i on: `more` points are still to be taken, and `spare` of those sent may be passed over.
-// A call has its own copy of the points taken, so that nothing is to be undone.
-// A value that was not sent is passed over at no cost: it is no point, and never counts as wrong.
-fn search(
-    xs: &[u16],
-    ys: &[u16],
-    need: usize,
-    i: usize,
-    more: usize,
-    spare: usize,
-    c: usize,
-    cx: [u16; 4],
-    cy: [u16; 4],
-) -> Fitted
-    requires { ⌜ Searching (now xs) (now ys) i more c cy ⌝ }
-    ensures { λ r. ⌜ r ≡ answer (found modulus need (now (xs .entry)) (now (ys .entry)) more spare (take c cx) (take c cy) i) ⌝ }
-{
-    if spare == 0 {
-        return copied(straight(xs, ys, need, i, more, c, cx, cy));
-    }
-    if more == 0 {
-        return copied(straight(xs, ys, need, i, 0, c, cx, cy));
-    }
-    if xs.len() <= i {
-        return nothing();
-    }
-    let y = ys[i];
-    if field::MODULUS <= y {
-        return copied(search(xs, ys, need, i + 1, more, spare, c, cx, cy));
-    }
-    let mut dx = cx;
-    let mut dy = cy;
-    dx[c] = xs[i];
-    dy[c] = y;
-    let with_it = search(xs, ys, need, i + 1, more - 1, spare, c + 1, dx, dy);
-    if with_it.found {
-        return copied(with_it);
-    }
-    copied(search(xs, ys, need, i + 1, more, spare - 1, c, cx, cy))
 }
 
 // The place behind the next k values sent from place i on.
@@ -214,15 +62,15 @@ fn groups(t: usize, need: usize, xs: &[u16], ys: &[u16], sent: usize, spare: usi
         i = behind(ys, i, t + 1);
         left -= t + 1;
         wrong -= 1;
-        let group = straight(xs, ys, need, i, t + 1, 0, [0; 4], [0; 4]);
+        let group = trial::next(xs, ys, need, i, t + 1);
         if group.found {
-            return copied(group);
+            return trial::copied(group);
         }
         if wrong == 0 {
-            return nothing();
+            return trial::nothing();
         }
     }
-    copied(search(xs, ys, need, i, t + 1, wrong, 0, [0; 4], [0; 4]))
+    trial::copied(trial::choices(xs, ys, need, i, t + 1, wrong))
 }
 
 // The first ten points sent.
@@ -266,13 +114,10 @@ fn test_pairs(
     a: usize,
     b: usize,
 ) -> Fitted
-    requires { ⌜ (length (now xs) ≡ length (now ys)) × (a ≤ 8) × (b ≤ 8) ⌝ }
-    ensures { λ r. ⌜ r ≡ answer (firstFitting modulus need (now (xs .entry)) (now (ys .entry)) (interpolate modulus (fourAt a b (now (px .entry))) (fourAt a b (now (py .entry))) ∷ [])) ⌝ }
+    requires { ⌜ (a ≤ 8) × (b ≤ 8) ⌝ }
+    ensures { λ r. ⌜ r ≡ fourIn need (now (xs .entry)) (now (ys .entry)) (fourAt a b (now (px .entry))) (fourAt a b (now (py .entry))) ⌝ }
 {
-    let cx = four_at(px, a, b);
-    let mut f = four_at(py, a, b);
-    let passed = test(xs, ys, need, 4, &cx, &mut f);
-    given(passed, f)
+    trial::four(xs, ys, need, four_at(px, a, b), four_at(py, a, b))
 }
 
 // Two of five pairs of points, each by the place of its first point: every choice but that of the first two.
@@ -295,11 +140,11 @@ fn by_pairs(xs: &[u16], ys: &[u16], need: usize, sent: usize) -> Fitted
         let b = OTHER[k];
         let fitted = test_pairs(xs, ys, need, &px, &py, a, b);
         if fitted.found {
-            return copied(fitted);
+            return trial::copied(fitted);
         }
         k += 1;
     }
-    nothing()
+    trial::nothing()
 }
 
 // Whether a cubic is looked for, three of the n points may be wrong, and there are too few for four groups of four.
@@ -317,23 +162,23 @@ fn short_of_groups(t: usize, wrong: usize, n: usize) -> bool
 
 // The search where nothing that fits goes through the first t + 1 points sent.
 fn later(t: usize, need: usize, xs: &[u16], ys: &[u16]) -> Fitted
-    requires { ⌜ (t ≤ 3) × (length (now xs) ≡ length (now ys)) × (found modulus need (now xs) (now ys) (t + 1) 0 [] [] 0 ≡ none) ⌝ }
+    requires { ⌜ (t ≤ 3) × (length (now xs) ≡ length (now ys)) × (tried modulus need (now xs) (now ys) 0 (t + 1) 0 ≡ none) ⌝ }
     ensures { λ r. ⌜ r ≡ answer (fit modulus t need (now (xs .entry)) (now (ys .entry))) ⌝ }
 {
     let n = sent(ys);
     if n <= need {
-        return nothing();
+        return trial::nothing();
     }
     let spare = n - need;
     if spare + t < need {
         if polynomial::points(xs) {
             if short_of_groups(t, spare, n) {
-                return copied(by_pairs(xs, ys, need, n));
+                return trial::copied(by_pairs(xs, ys, need, n));
             }
-            return copied(groups(t, need, xs, ys, n, spare));
+            return trial::copied(groups(t, need, xs, ys, n, spare));
         }
     }
-    copied(search(xs, ys, need, 0, t + 1, spare, 0, [0; 4], [0; 4]))
+    trial::copied(trial::choices(xs, ys, need, 0, t + 1, spare))
 }
 
 // The polynomial of degree at most t that agrees with at least `need` of the points (xs[i], ys[i]), if one is found.
@@ -343,14 +188,14 @@ pub fn fit(t: usize, need: usize, xs: &[u16], ys: &[u16]) -> Fitted
     ensures { λ r. ⌜ r ≡ fitIn t need (now (xs .entry)) (now (ys .entry)) ⌝ }
 {
     if 3 < t {
-        return nothing();
+        return trial::nothing();
     }
     if xs.len() != ys.len() {
-        return nothing();
+        return trial::nothing();
     }
-    let first = straight(xs, ys, need, 0, t + 1, 0, [0; 4], [0; 4]);
+    let first = trial::next(xs, ys, need, 0, t + 1);
     if first.found {
-        return copied(first);
+        return trial::copied(first);
     }
-    copied(later(t, need, xs, ys))
+    trial::copied(later(t, need, xs, ys))
 }

@@ -15,7 +15,8 @@ use Rattle.field.specs.Arithmetic.{add, sub, mul, inv, invWithin}
 use Rattle.interpolation.specs.Interpolation.{interpolate}
 use Rattle.mutual.specs.Agreement.{agree, agreements}
 use Rattle.happy.specs.Happy.{joins, better, best, largest, largestIn, happySet}
-use Rattle.fit.specs.Fit.{hits, sent, received, through, fit}
+use Rattle.trial.specs.Trial.{hits, received, through}
+use Rattle.fit.specs.Fit.{sent, fit}
 use Rattle.parties.specs.Parties.{sizes, isParty, pointOf, entry, notSent}
 use Rattle.parties.proofs.Parties.{party-facts}
 use Rattle.consistency.specs.Deal.{firstFrom, secondFrom, sound, pairFor, confirms, reportOf}

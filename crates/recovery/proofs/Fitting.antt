@@ -13,7 +13,8 @@ use Rattle.lists.specs.Choices.{hide}
 use Rattle.lists.specs.Masks.{bit}
 use Rattle.lists.specs.Tabulate.{tabulate}
 use Rattle.field.specs.Modulus.{modulus}
-use Rattle.fit.specs.Answer.{answer, fitIn}
+use Rattle.trial.specs.Answer.{answer}
+use Rattle.fit.specs.Answer.{fitIn}
 use Rattle.fit.specs.Fit.{fit}
 use Rattle.fit.proofs.Answers.{fit-within}
 use Rattle.fit.proofs.Selection.{fit-hide}

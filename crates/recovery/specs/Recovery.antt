@@ -15,9 +15,9 @@ use Rattle.lists.specs.Choices.{select}
 use Rattle.lists.specs.Masks.{bit}
 use Rattle.lists.specs.Tabulate.{tabulate}
 use Rattle.field.specs.Modulus.{modulus}
-use Rattle.fit.specs.Answer.{answer}
+use Rattle.trial.specs.Answer.{answer}
 use Rattle.fit.specs.Fit.{fit}
-use Rattle.fit.specs.declared.Fitted.{Fitted}
+use Rattle.trial.specs.declared.Fitted.{Fitted}
 use Rattle.parties.specs.Parties.{sizes, isParty, points}
 
 -- The column that fits the points (j, first number heard from j) for j in S, a set of the n parties: at most t of them differ.

@@ -1,17 +1,16 @@
 // What is fitted to the parties' points: the column repaired from what the happy parties said, and the opening of published shares.
 ghost use mathlib.Core.Path.{_≡_};
-ghost use mathlib.Core.Option.{none};
 ghost use Prim.Native.Nat.{_-_, _≤_};
 ghost use lib.ListN.{length, take, set};
 ghost use Rattle.lists.specs.Choices.{hide};
 ghost use Rattle.lists.specs.Masks.{bit};
 ghost use Rattle.lists.specs.Tabulate.{tabulate};
 ghost use Rattle.field.specs.Modulus.{modulus};
-ghost use Rattle.fit.specs.Answer.{answer};
+ghost use Rattle.trial.specs.Answer.{answer};
 ghost use Rattle.fit.specs.Fit.{fit};
 ghost use Rattle.parties.specs.Parties.{points, notSent};
 ghost use Rattle.recovery.specs.Recovery.{repairIn, openingIn};
-use fit::Fitted;
+use trial::Fitted;
 
 // The first n numbers heard, with "not sent" for each party outside the set, first in an array.
 fn heard_from(n: u8, set: u16, heard: [u16; 16]) -> [u16; 16]
@@ -48,21 +47,12 @@ fn less(a: usize, b: usize) -> usize
     if b < a { a - b } else { 0 }
 }
 
-fn nothing() -> Fitted
-    ensures { λ r. ⌜ r ≡ answer none ⌝ }
-{
-    Fitted {
-        found: false,
-        coefficients: [0; 4],
-    }
-}
-
 // The column that fits what the parties of the set said first, if one does. For a bad size none does.
 pub fn repair(n: u8, t: u8, set: u16, heard: [u16; 16]) -> Fitted
     ensures { λ r. ⌜ r ≡ repairIn n t set heard ⌝ }
 {
     if !parties::sizes(n, t) {
-        return nothing();
+        return trial::nothing();
     }
     let values = heard_from(n, set, heard);
     let count = happy::count(set) as usize;
@@ -90,13 +80,13 @@ pub fn opening(n: u8, t: u8, i: u8, share: u16, shares: &[u16]) -> Fitted
     ensures { λ r. ⌜ r ≡ openingIn n t i share (now (shares .entry)) ⌝ }
 {
     if !parties::sizes(n, t) {
-        return nothing();
+        return trial::nothing();
     }
     if !parties::is_party(n, i) {
-        return nothing();
+        return trial::nothing();
     }
     if shares.len() != n as usize {
-        return nothing();
+        return trial::nothing();
     }
     let values = with_own(i, share, shares);
     fit_parties(n, t, (n - t) as usize, values)

@@ -7,9 +7,9 @@ use Prim.Native.Nat.{ℕ, _-_}
 use lib.ListN.{length, getD}
 use Rattle.lists.proofs.Padded.{getD-zeros}
 use Rattle.field.specs.Modulus.{modulus}
-use Rattle.fit.specs.declared.Fitted.{Fitted}
+use Rattle.trial.specs.declared.Fitted.{Fitted}
+use Rattle.trial.specs.Answer.{answer}
 use Rattle.fit.specs.Fit.{fit}
-use Rattle.fit.specs.Answer.{answer}
 use Rattle.parties.specs.Parties.{points}
 use Rattle.answers.specs.declared.Refusal.the-variants.{WrongSize, WrongNumber, WrongLength, WrongStage, AlteredReport, DealerRejected, NoColumn, NoOpening}
 use Rattle.answers.specs.declared.Answer.{Answer}

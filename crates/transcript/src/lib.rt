@@ -4,7 +4,7 @@ ghost use mathlib.Core.List.{[], _∷_};
 ghost use Prim.Native.Nat.{_+_, _≤_};
 ghost use lib.ListN.{length, take, drop};
 ghost use Rattle.field.specs.Modulus.{modulus};
-ghost use Rattle.fit.specs.Answer.{answer};
+ghost use Rattle.trial.specs.Answer.{answer};
 ghost use Rattle.recovery.specs.Recovery.{openingOf};
 ghost use Rattle.answers.specs.Answer.{numberOf};
 ghost use Rattle.lamp.specs.Lamp.{made, after};
@@ -12,10 +12,10 @@ ghost use Rattle.text.specs.Letters.{Added};
 ghost use Rattle.transcript.specs.Outcomes.{isAccepted, lampLine, orZero, lastLine};
 ghost use Rattle.transcript.specs.Transcript.{numbersOf, dealCall, pairsCall, run, lampLines, textOf, text, rendering, Whole};
 use answers::Answer;
-use fit::Fitted;
 use lamp::Lamp;
 use lamp::Reply;
 use record::Reading;
+use trial::Fitted;
 
 // ---- the numbers of a record
 

@@ -1,10 +1,11 @@
 -- `fit::by_pairs` meets its contract. The loop keeps `Trying`; each answer is one law of proofs/Pairs.
-use mathlib.Core.Path.{_∙_}
+use mathlib.Core.Path.{sym, _∙_}
 use Prim.Native.Nat.{_-_}
 use native.Mathlib.Omega.{arith}
 use borrow.Author.Needs.{needs}
 use Rattle.field.specs.Modulus.{modulus}
 use Rattle.field.proofs.Primes.{prime}
+use Rattle.trial.proofs.Answers.{four-within}
 use Rattle.fit.proofs.Pairs.{Trying, apart, trying-start, trying-next, trying-end, pairs-found}
 use Rattle.fit.proofs.by_pairs.Statement.{statement}
 use Rattle.fit.proofs.by_pairs.Tie as tie
@@ -46,9 +47,8 @@ array-read-b c = search needs
 
 test-pairs-requires : tie.Need-test-pairs-requires Inv-loop μ-loop
 test-pairs-requires c κs =
-    let s = c .before .before .before .before .before .before .before .before .before .before .before in
     let far = apart (c .before .before .before .loop .k) (omega arith) in
-    (s .pre .0 .sizes, omega (arith, far .0, far .1), far .1)
+    (omega (arith, far .0, far .1), far .1)
 
 copied-requires : tie.Need-copied-requires Inv-loop μ-loop
 copied-requires c κs = search needs
@@ -62,7 +62,7 @@ returns c =
     let far = apart (k .k) (omega arith) in
     c .copied .ensures
     ∙ pairs-found modulus prime _ _ _ (ten .last .1 .1 .0) (ten .last .1 .1 .1 .0) (s .args .sent) (s .pre .0) (s .pre .1) (omega arith) (omega arith) (k .inv .ten) _ _ (far .0) (far .1) _
-    (tested .test-pairs .ensures) (c .before .if1 .taken)
+    (tested .test-pairs .ensures ∙ sym (four-within _ _ _ _ _ (s .pre .0 .sizes))) (c .before .if1 .taken)
 
 add-k : tie.Need-add-k Inv-loop μ-loop
 add-k c = search needs
@@ -76,7 +76,7 @@ loop-again c =
     let k = tested .before .before .before .before .loop in
     let s = tested .before .before .before .before .before .before .before .before .before .before .before .before in
     trying-next modulus prime _ _ _ _ _ (s .args .sent) (s .pre .0) (s .pre .1) (omega arith) (omega arith) (k .k) (k .inv) (omega arith) _
-    (tested .test-pairs .ensures) (c .if1 .left)
+    (tested .test-pairs .ensures ∙ sym (four-within _ _ _ _ _ (s .pre .0 .sizes))) (c .if1 .left)
 
 nothing-requires : tie.Need-nothing-requires Inv-loop μ-loop
 nothing-requires c κs = search needs

@@ -1,11 +1,14 @@
 -- `fit::groups` meets its contract. The loop keeps `Grouping`; each answer is one law of proofs/Grouping.
-use mathlib.Core.Path.{_≡_, refl, _∙_}
+use mathlib.Core.Path.{_≡_, sym, _∙_}
 use mathlib.Core.Bool.{false}
 use Prim.Native.Nat.{_+_, _-_, _<_}
 use native.Mathlib.Omega.{arith}
 use borrow.Author.Needs.{needs}
 use Rattle.field.specs.Modulus.{modulus}
 use Rattle.field.proofs.Primes.{prime}
+use Rattle.trial.specs.Trial.{tried}
+use Rattle.trial.specs.Answer.{answer}
+use Rattle.trial.proofs.Answers.{tried-within}
 use Rattle.fit.specs.Grouping.{Grouping}
 use Rattle.fit.proofs.Grouping.{groups-found, groups-none, groups-next, groups-last}
 use Rattle.fit.proofs.groups.Statement.{statement}
@@ -17,15 +20,23 @@ Inv-loop t need xs ys sent spare i₀ left₀ wrong₀ i left wrong = Grouping m
 abbrev μ-loop : tie.MeasureT-loop
 μ-loop t need xs ys sent spare i₀ left₀ wrong₀ i left wrong = left
 
+-- What the next group gives.
+group : (g : tie.After-next Inv-loop μ-loop)
+    → let s = g .before .before .before .before .before .before .args in
+    g .next .result ≡ answer (tried modulus (s .need) (s .xs .now) (s .ys .now) (g .before .behind .result) (s .t + 1) 0)
+group g =
+    let k = g .before .before .before .loop .inv .0 in
+    g .next .ensures ∙ sym (tried-within _ _ _ (g .before .behind .result) _ 0 (omega (arith, k .degree)) (k .sizes))
+
 -- A group has failed: behind it one point fewer is wrong.
-failed : (g : tie.After-straight Inv-loop μ-loop) → g .straight .result .found ≡ false
+failed : (g : tie.After-next Inv-loop μ-loop) → g .next .result .found ≡ false
     → let k = g .before .before .before .loop in
     let s = g .before .before .before .before .before .before .args in
     Grouping modulus (s .t) (s .need) (s .xs .now) (s .ys .now) (g .before .behind .result) (k .left - (s .t + 1)) (k .wrong - 1)
 failed g lost =
     let k = g .before .before .before .loop in
     groups-next modulus prime _ _ _ _ (k .i) (k .left) (k .wrong) (k .inv .0) _ _ (λ z. omega arith) (omega arith)
-    (g .before .behind .ensures) (g .straight .ensures) lost
+    (g .before .behind .ensures) (group g) lost
 
 loop-holds : tie.Need-loop-holds Inv-loop μ-loop
 loop-holds c = c .before .before .pre
@@ -54,23 +65,21 @@ sub-left c = search needs
 sub-wrong : tie.Need-sub-wrong Inv-loop μ-loop
 sub-wrong c = search needs
 
-add-straight : tie.Need-add-straight Inv-loop μ-loop
-add-straight c = search needs
+add-next : tie.Need-add-next Inv-loop μ-loop
+add-next c = search needs
 
-straight-requires : tie.Need-straight-requires Inv-loop μ-loop
-straight-requires c κs =
-    let k = c .before .before .loop .inv .0 in
-    record { sizes = k .sizes; inside = omega (arith, c .behind .ensures .within, k .sizes); room = omega arith; zeros = refl }
+next-requires : tie.Need-next-requires Inv-loop μ-loop
+next-requires c κs = search needs
 
 copied-requires : tie.Need-copied-requires Inv-loop μ-loop
 copied-requires c κs = search needs
 
 returns : tie.Need-returns Inv-loop μ-loop
 returns c =
-    let group = c .before .before in
-    let k = group .before .before .before .loop in
+    let g = c .before .before in
+    let k = g .before .before .before .loop in
     c .copied .ensures
-    ∙ groups-found modulus prime _ _ _ _ (k .i) (k .left) (k .wrong) (k .inv .0) 0 (group .before .behind .result) _ (group .straight .ensures)
+    ∙ groups-found modulus prime _ _ _ _ (k .i) (k .left) (k .wrong) (k .inv .0) 0 (g .before .behind .result) _ (group g)
     (c .before .if1 .taken)
 
 nothing-requires : tie.Need-nothing-requires Inv-loop μ-loop
@@ -78,8 +87,8 @@ nothing-requires c κs = search needs
 
 returns-2 : tie.Need-returns-2 Inv-loop μ-loop
 returns-2 c =
-    let group = c .before .before .before in
-    c .nothing .ensures ∙ groups-none modulus prime _ _ _ _ _ _ _ (failed group (c .before .before .if1 .left)) (c .before .if2 .taken)
+    let g = c .before .before .before in
+    c .nothing .ensures ∙ groups-none modulus prime _ _ _ _ _ _ _ (failed g (c .before .before .if1 .left)) (c .before .if2 .taken)
 
 loop-less : tie.Need-loop-less Inv-loop μ-loop
 loop-less c = search needs
@@ -87,13 +96,11 @@ loop-less c = search needs
 loop-again : tie.Need-loop-again Inv-loop μ-loop
 loop-again c = (failed (c .before .before) (c .before .if1 .left), omega arith)
 
-add-search : tie.Need-add-search Inv-loop μ-loop
-add-search c = search needs
+add-choices : tie.Need-add-choices Inv-loop μ-loop
+add-choices c = search needs
 
-search-requires : tie.Need-search-requires Inv-loop μ-loop
-search-requires c κs =
-    let k = c .before .loop .inv .0 in
-    record { sizes = k .sizes; inside = k .inside; room = omega arith; zeros = refl }
+choices-requires : tie.Need-choices-requires Inv-loop μ-loop
+choices-requires c κs = search needs
 
 copied-requires-2 : tie.Need-copied-requires-2 Inv-loop μ-loop
 copied-requires-2 c κs = search needs
@@ -101,7 +108,10 @@ copied-requires-2 c κs = search needs
 returns-3 : tie.Need-returns-3 Inv-loop μ-loop
 returns-3 c =
     let k = c .before .before .before .loop in
-    c .copied2 .ensures ∙ c .before .search .ensures ∙ groups-last modulus prime _ _ _ _ (k .i) (k .left) (k .wrong) (k .inv .0)
+    c .copied2 .ensures
+    ∙ c .before .choices .ensures
+    ∙ sym (tried-within _ _ _ (k .i) _ (k .wrong) (omega (arith, k .inv .0 .degree)) (k .inv .0 .sizes))
+    ∙ groups-last modulus prime _ _ _ _ (k .i) (k .left) (k .wrong) (k .inv .0)
 
 pub groups-spec : {M : Type 1} → statement M
 groups-spec =
@@ -118,15 +128,15 @@ groups-spec =
     add-left
     sub-left
     sub-wrong
-    add-straight
-    straight-requires
+    add-next
+    next-requires
     copied-requires
     returns
     nothing-requires
     returns-2
     loop-less
     loop-again
-    add-search
-    search-requires
+    add-choices
+    choices-requires
     copied-requires-2
     returns-3)

@@ -7,11 +7,12 @@ use native.Mathlib.Omega.{arith}
 use borrow.Author.Tests.{eqb-true}
 use lib.Dec.{ltb, eqb}
 use Rattle.field.specs.Modulus.{modulus}
+use Rattle.trial.specs.Answer.{answer}
+use Rattle.trial.proofs.Answers.{tried-within}
 use Rattle.fit.specs.Fit.{fit}
-use Rattle.fit.specs.Answer.{answer}
 use Rattle.fit.specs.Grouping.{Grouping}
 use Rattle.fit.proofs.Rule.{sent-length}
-use Rattle.fit.proofs.Arrays.{fit-search, fit-first-none}
+use Rattle.fit.proofs.First.{fit-search, fit-first-none}
 use Rattle.fit.proofs.Grouping.{groups-start}
 use borrow.Author.Needs.{needs}
 use Rattle.fit.proofs.later.Statement.{statement}
@@ -90,11 +91,11 @@ copied-requires-2 c κs = search needs
 returns-3 : tie.Need-returns-3
 returns-3 c = c .copied2 .ensures ∙ c .before .groups .ensures
 
-add-search : tie.Need-add-search
-add-search c = search needs
+add-choices : tie.Need-add-choices
+add-choices c = search needs
 
-search-requires : tie.Need-search-requires
-search-requires c κs = record { sizes = omega arith; inside = omega arith; room = omega arith; zeros = refl }
+choices-requires : tie.Need-choices-requires
+choices-requires c κs = search needs
 
 copied-requires-3 : tie.Need-copied-requires-3
 copied-requires-3 c κs = search needs
@@ -102,7 +103,11 @@ copied-requires-3 c κs = search needs
 returns-4 : tie.Need-returns-4
 returns-4 c =
     let counted = c .before .before .before .before in
-    c .copied3 .ensures ∙ c .before .search .ensures ∙ fit-search _ _ _ _ _ _ (counted .sent .ensures) refl
+    let s = counted .before .before .before in
+    c .copied3 .ensures
+    ∙ c .before .choices .ensures
+    ∙ sym (tried-within _ _ _ 0 _ _ (omega (arith, s .pre .0)) (s .pre .1))
+    ∙ fit-search _ _ _ _ _ _ (counted .sent .ensures) refl
 
 pub later-spec : {M : Type 1} → statement M
 later-spec =
@@ -121,7 +126,7 @@ later-spec =
     groups-requires
     copied-requires-2
     returns-3
-    add-search
-    search-requires
+    add-choices
+    choices-requires
     copied-requires-3
     returns-4)

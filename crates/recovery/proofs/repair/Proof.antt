@@ -5,7 +5,7 @@ use Prim.Native.Nat.{_-_, _≤_}
 use native.Mathlib.Omega.{arith}
 use borrow.Author.Tests.{not-true, not-false}
 use Rattle.field.specs.Modulus.{modulus}
-use Rattle.fit.specs.Answer.{answer}
+use Rattle.trial.specs.Answer.{answer}
 use Rattle.fit.specs.Fit.{fit}
 use Rattle.parties.specs.Parties.{sizes, points}
 use Rattle.parties.proofs.Parties.{sizes-facts}

@@ -1,12 +1,12 @@
--- `fit::enough` meets its contract. The loop goes from the end and keeps `Slack`.
+-- `trial::enough` meets its contract. The loop goes from the end and keeps `Slack`.
 use mathlib.Core.Path.{sym, _∙_}
 use mathlib.Core.List.{[], _∷_}
 use native.Mathlib.Omega.{arith}
 use borrow.Author.Needs.{needs}
 use Rattle.field.specs.Modulus.{modulus}
-use Rattle.fit.proofs.Counting.{Slack, too-few, slack-start, slack-hit, slack-miss, slack-few, slack-end}
-use Rattle.fit.proofs.enough.Statement.{statement}
-use Rattle.fit.proofs.enough.Tie as tie
+use Rattle.trial.proofs.Counting.{Slack, too-few, slack-start, slack-hit, slack-miss, slack-few, slack-end}
+use Rattle.trial.proofs.enough.Statement.{statement}
+use Rattle.trial.proofs.enough.Tie as tie
 
 abbrev Inv-loop : tie.InvT-loop
 Inv-loop a b c d xs ys need i₀ slack₀ i slack = Slack modulus (a ∷ b ∷ c ∷ d ∷ []) xs ys need i slack

@@ -1,4 +1,4 @@
--- `fit::search` meets its contract. Its measure is the number of points from place i on; each answer is one law of proofs/Arrays.
+-- `trial::search` meets its contract. Its measure is the number of points from place i on; each answer is one law of proofs/Arrays.
 use mathlib.Core.Path.{_≡_, refl, sym, ap, _∙_}
 use Prim.Native.Nat.{ℕ, _-_, _<_}
 use native.Mathlib.Nat.{pos-of-ne-zero}
@@ -6,18 +6,19 @@ use native.Mathlib.Omega.{arith}
 use borrow.Author.Needs.{needs}
 use lib.ListN.{length, take}
 use Rattle.field.specs.Modulus.{modulus}
-use Rattle.fit.specs.Answer.{answer, found}
-use Rattle.fit.proofs.Arrays.{found-one, found-none, found-unsent, Branches, branches, zeros-next}
+use Rattle.trial.specs.Answer.{answer}
+use Rattle.trial.specs.Search.{found}
+use Rattle.trial.proofs.Arrays.{found-one, found-none, found-unsent, Branches, branches, zeros-next}
 use borrow.Fn.Kinds.{In}
 use borrow.Fn.PlainCycle.{Measures, is, falls, and}
-use Rattle.fit.proofs.search.Reads as search′
-use Rattle.fit.proofs.search.Kinds as search-kinds
-use Rattle.fit.proofs.+search.Lts-search as search-lts
-use Rattle.fit.proofs.copied.Reads as copied-reads
-use Rattle.fit.proofs.nothing.Reads as nothing-reads
-use Rattle.fit.proofs.straight.Reads as straight-reads
-use Rattle.fit.proofs.+search.{statement}
-use Rattle.fit.proofs.+search.Tie.{close}
+use Rattle.trial.proofs.search.Reads as search′
+use Rattle.trial.proofs.search.Kinds as search-kinds
+use Rattle.trial.proofs.+search.Lts-search as search-lts
+use Rattle.trial.proofs.copied.Reads as copied-reads
+use Rattle.trial.proofs.nothing.Reads as nothing-reads
+use Rattle.trial.proofs.straight.Reads as straight-reads
+use Rattle.trial.proofs.+search.{statement}
+use Rattle.trial.proofs.+search.Tie.{close}
 
 abbrev μ-search : Measures 2 search-kinds.ps ℕ
 μ-search κs a = length (a .0 .now) - a .1 .1 .1 .0
@@ -68,7 +69,7 @@ module _ (t : ℕ) where
   straight-requires-2 : search-lts.Need-straight-requires-2 (claims t) (search-at t) search′.Post
   straight-requires-2 c κs =
       let k = c .before .before .before .before .pre .1 in
-      record { sizes = k .sizes; inside = k .inside; room = omega (arith, k .room); zeros = k .zeros }
+      record { sizes = k .sizes; room = omega (arith, k .room); zeros = k .zeros }
 
   copied-requires-2 : search-lts.Need-copied-requires-2 (claims t) (search-at t) search′.Post
   copied-requires-2 c κs = search needs
@@ -100,7 +101,7 @@ module _ (t : ℕ) where
   search-requires : search-lts.Need-search-requires (claims t) (search-at t) search′.Post
   search-requires c κs =
       let s = c .before .before .before .before .before .before .before in
-      (omega arith, record { sizes = s .pre .1 .sizes; inside = omega arith; room = omega arith; zeros = s .pre .1 .zeros })
+      (omega arith, record { sizes = s .pre .1 .sizes; room = omega arith; zeros = s .pre .1 .zeros })
 
   copied-requires-3 : search-lts.Need-copied-requires-3 (claims t) (search-at t) search′.Post
   copied-requires-3 c κs = search needs
@@ -143,7 +144,7 @@ module _ (t : ℕ) where
   search-requires-2 c κs =
       let s = c .before .before .before .before .before .before .before .before in
       let zeros = zeros-next (s .args .c) _ (s .args .cy) (omega arith) (sizes t s .1) (s .pre .1 .zeros) in
-      (omega arith, record { sizes = s .pre .1 .sizes; inside = omega arith; room = omega arith; zeros = zeros })
+      (omega arith, record { sizes = s .pre .1 .sizes; room = omega arith; zeros = zeros })
 
   copied-requires-4 : search-lts.Need-copied-requires-4 (claims t) (search-at t) search′.Post
   copied-requires-4 c κs = search needs
@@ -160,7 +161,7 @@ module _ (t : ℕ) where
   search-requires-3 : search-lts.Need-search-requires-3 (claims t) (search-at t) search′.Post
   search-requires-3 c κs =
       let s = c .before .before .before .before .before .before .before .before .before .before in
-      (omega arith, record { sizes = s .pre .1 .sizes; inside = omega arith; room = omega arith; zeros = s .pre .1 .zeros })
+      (omega arith, record { sizes = s .pre .1 .sizes; room = omega arith; zeros = s .pre .1 .zeros })
 
   copied-requires-5 : search-lts.Need-copied-requires-5 (claims t) (search-at t) search′.Post
   copied-requires-5 c κs = search needs

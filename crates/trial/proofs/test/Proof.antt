@@ -1,12 +1,12 @@
--- `fit::test` meets its contract: the polynomial stands in the first c places of the list, with 0 behind it.
+-- `trial::test` meets its contract: the polynomial stands in the first c places of the list, with 0 behind it.
 use mathlib.Core.Path.{sym}
 use native.Mathlib.Omega.{arith}
 use lib.Seq.{length-take-le}
 use Rattle.field.specs.Modulus.{modulus}
-use Rattle.fit.proofs.Arrays.{test-given}
+use Rattle.trial.proofs.Arrays.{test-given}
 use borrow.Author.Needs.{needs}
-use Rattle.fit.proofs.test.Statement.{statement}
-use Rattle.fit.proofs.test.Tie as tie
+use Rattle.trial.proofs.test.Statement.{statement}
+use Rattle.trial.proofs.test.Tie as tie
 
 slice-aggregate-interpolate : tie.Need-slice-aggregate-interpolate
 slice-aggregate-interpolate c =

@@ -12,17 +12,16 @@ use lib.ListN.{length, take, drop, getD, set, replicate, length-set, length-appe
 use lib.Seq.{length-take-le, take-suc-set}
 use Rattle.lists.proofs.Padded.{four}
 use Rattle.lists.proofs.InPlace.{drop-end, drop-next, rest-kept}
-use Rattle.field.specs.Modulus.{modulus}
 use Rattle.interpolation.specs.Interpolation.{newton, interpolate, interpolateIn}
 use Rattle.interpolation.proofs.Interpolation.{length-newton, length-expand}
 use Rattle.interpolation.proofs.Lent.{interpolate-in}
-use Rattle.fit.specs.declared.Fitted.{Fitted}
-use Rattle.fit.specs.Fit.{hits, sent, received, through, firstFitting, fit}
-use Rattle.fit.specs.Answer.{answer, given, candidates, found, Searching}
+use Rattle.trial.specs.declared.Fitted.{Fitted}
+use Rattle.trial.specs.Trial.{hits, received, through, firstFitting, tried}
+use Rattle.trial.specs.Answer.{answer, given}
+use Rattle.trial.specs.Search.{candidates, found, Searching}
 use Rattle.lists.proofs.Choices.{first-append}
-use Rattle.fit.proofs.Counting.{hits-zeros}
-use Rattle.fit.proofs.Answers.{answer-found}
-use Rattle.fit.proofs.Steps.{received-next, received-over, candidates-one, candidates-none, candidates-spare, candidates-last, candidates-front}
+use Rattle.trial.proofs.Counting.{hits-zeros}
+use Rattle.trial.proofs.Steps.{received-next, received-over, candidates-one, candidates-none, candidates-spare, candidates-last}
 
 -- ---- one point after the other
 module _ (p need : ℕ) (xs ys : List ℕ) where
@@ -33,17 +32,6 @@ module _ (p need : ℕ) (xs ys : List ℕ) where
   unfolding received
   found-none zero s cx cy i n h = absurd (n refl)
   found-none (suc k) s cx cy i n h = rw (drop-end xs i h) (ap (firstFitting p need xs ys) (sym (candidates-none p s cx cy k)))
-
-  -- What is found where no point may be passed over is found first in any case.
-  found-front : (k s : ℕ) (cx cy : List ℕ) (i : ℕ) (f : List ℕ) → found p need xs ys k 0 cx cy i ≡ some f → found p need xs ys k s cx cy i ≡ some f
-  unfolding orElse
-  found-front k s cx cy i f e =
-      let qs : List (ℕ × ℕ) = received p (drop i xs) (drop i ys) in
-      let test : List ℕ → Bool = λ f. leb need (hits p f xs ys) in
-      let (rest, split) = candidates-front p k s cx cy qs in
-      ap (firstFitting p need xs ys) split
-      ∙ first-append test (candidates p k 0 cx cy qs) rest
-      ∙ ap (λ o. orElse o (firstFitting p need xs ys rest)) e
 
   module _ (sizes : length xs ≡ length ys) (i : ℕ) (inside : i < length xs) (s : ℕ) (cx cy : List ℕ) where
     abbrev x : ℕ
@@ -79,6 +67,11 @@ module _ (p need : ℕ) (xs ys : List ℕ) where
         rw (received-next p xs ys sizes i inside q, candidates-spare p s cx cy k x y later (pos-of-ne-zero m), less)
         (sym (first-append (λ f. leb need (hits p f xs ys)) (candidates p k s (cx ++ x ∷ []) (cy ++ y ∷ []) later) (candidates p (suc k) (s - 1) cx cy later)))
 
+  -- With no point taken yet the search finds what is tried.
+  pub found-tried : (i k s : ℕ) → found p need xs ys k s [] [] i ≡ tried p need xs ys i k s
+  unfolding candidates tried through
+  found-tried i k s = refl
+
 -- ---- the arrays of the points taken
 -- A point more is taken.
 take-next : (c v : ℕ) (cs : List ℕ) → c < length cs → take (c + 1) (set cs c v) ≡ take c cs ++ v ∷ []
@@ -93,19 +86,19 @@ zeros-next c v cs h l e =
 
 -- ---- the loop of `straight`: with the points taken so far the search finds what it finds from its start on
 pub record Straight (p need : ℕ) (xs ys : List ℕ) (goal : Option (List ℕ)) (j left d : ℕ) (dx dy : List ℕ) : Type 0 where
-  pub searching : Searching xs ys j left d dy
+  pub searching : Searching xs ys left d dy
   pub width-x : length dx ≡ 4
   pub width-y : length dy ≡ 4
   pub finds : found p need xs ys left 0 (take d dx) (take d dy) j ≡ goal
 
 module _ (p need : ℕ) (xs ys : List ℕ) (goal : Option (List ℕ)) (j left d : ℕ) (dx dy : List ℕ)
     (k : Straight p need xs ys goal j left d dx dy) (inside : j < length xs) where
-  abbrev s : Searching xs ys j left d dy
+  abbrev s : Searching xs ys left d dy
   s = k .searching
 
   pub straight-unsent : p ≤ getD ys j 0 → Straight p need xs ys goal (j + 1) left d dx dy
   straight-unsent q = record {
-    searching = record { sizes = s .sizes; inside = omega arith; room = s .room; zeros = s .zeros };
+    searching = s;
     width-x = k .width-x;
     width-y = k .width-y;
     finds = found-unsent p need xs ys (s .sizes) j inside 0 (take d dx) (take d dy) left q ∙ k .finds;
@@ -116,7 +109,6 @@ module _ (p need : ℕ) (xs ys : List ℕ) (goal : Option (List ℕ)) (j left d 
   straight-sent h q = record {
     searching = record {
       sizes = s .sizes;
-      inside = omega arith;
       room = omega (arith, s .room);
       zeros = zeros-next d _ dy (omega (arith, s .room)) (k .width-y) (s .zeros);
     };
@@ -215,31 +207,3 @@ module _ (p c : ℕ) (cx cy f : List ℕ) (room : c ≤ 4) (lx : length cx ≡ 4
         → given passed (f ++ drop c cy) ≡ tested (interpolate p (take c cx) (take c cy))
     test-given zeros true e = test-passed zeros (sym e)
     test-given zeros false e = test-failed zeros (sym e)
-
--- ---- the whole: the search starts with all points, and none is taken
-module _ (t need : ℕ) (xs ys : List ℕ) where
-  pub fit-search : (n e : ℕ) → n ≡ sent modulus ys → e ≡ n - need
-      → answer (found modulus need xs ys (t + 1) e [] [] 0) ≡ answer (fit modulus t need xs ys)
-  unfolding fit candidates through
-  fit-search n e counted spare = rw (add-one t, spare, counted) refl
-
-  abbrev spare : ℕ
-  spare = sent modulus ys - need
-
-  whole : answer (found modulus need xs ys (t + 1) spare [] [] 0) ≡ answer (fit modulus t need xs ys)
-  whole = fit-search (sent modulus ys) spare refl refl
-
-  -- What the first points sent give is the answer.
-  pub fit-first : (r : Fitted) → r ≡ answer (found modulus need xs ys (t + 1) 0 [] [] 0) → r .found ≡ true → r ≡ answer (fit modulus t need xs ys)
-  fit-first r e told =
-      let (f, some-f) = answer-found _ (sym (ap (λ w. w .found) e) ∙ told) in
-      e ∙ ap answer (some-f ∙ sym (found-front modulus need xs ys (t + 1) spare [] [] 0 f some-f)) ∙ whole
-
-  -- Where they give nothing, and none may be wrong, that is.
-  pub fit-first-none : (n : ℕ) → n ≡ sent modulus ys → n ≤ need → found modulus need xs ys (t + 1) 0 [] [] 0 ≡ none
-      → answer none ≡ answer (fit modulus t need xs ys)
-  fit-first-none n counted few lost =
-      let none-spare : 0 ≡ spare = omega arith in
-      ap answer (sym lost)
-      ∙ ap (λ s. answer (found modulus need xs ys (t + 1) s [] [] 0)) none-spare
-      ∙ whole

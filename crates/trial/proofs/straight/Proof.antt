@@ -1,14 +1,15 @@
--- `fit::straight` meets its contract. The loop keeps `Straight`; the points that are left become fewer with each turn.
+-- `trial::straight` meets its contract. The loop keeps `Straight`; the points that are left become fewer with each turn.
 use mathlib.Core.Path.{refl, ap, _∙_}
 use Prim.Native.Nat.{_-_}
 use native.Mathlib.Omega.{arith}
 use borrow.Author.Needs.{needs}
 use lib.ListN.{length, take}
 use Rattle.field.specs.Modulus.{modulus}
-use Rattle.fit.specs.Answer.{answer, found}
-use Rattle.fit.proofs.Arrays.{found-one, found-none, Straight, straight-sent, straight-unsent}
-use Rattle.fit.proofs.straight.Statement.{statement}
-use Rattle.fit.proofs.straight.Tie as tie
+use Rattle.trial.specs.Answer.{answer}
+use Rattle.trial.specs.Search.{found}
+use Rattle.trial.proofs.Arrays.{found-one, found-none, Straight, straight-sent, straight-unsent}
+use Rattle.trial.proofs.straight.Statement.{statement}
+use Rattle.trial.proofs.straight.Tie as tie
 
 abbrev Inv-loop : tie.InvT-loop
 Inv-loop xs ys need i more c j₀ left₀ d₀ dx₀ dy₀ j left d dx dy = Straight modulus need xs ys (found modulus need xs ys more 0 (take c dx₀) (take c dy₀) i) j left d dx dy

@@ -1,0 +1,207 @@
+// Decoding by trial: polynomials through some of the points, one after the other, until one agrees with at least `need` of all points.
+ghost use mathlib.Core.Path.{_≡_};
+ghost use mathlib.Core.List.{[], _∷_};
+ghost use mathlib.Core.Option.{none};
+ghost use Prim.Native.Nat.{_-_, _≤_};
+ghost use lib.Dec.{leb};
+ghost use lib.ListN.{length, take, drop, replicate};
+ghost use Rattle.field.specs.Modulus.{modulus};
+ghost use Rattle.interpolation.specs.Interpolation.{interpolate};
+ghost use Rattle.trial.specs.Trial.{hits, firstFitting};
+ghost use Rattle.trial.specs.Answer.{answer, given, triedIn, fourIn};
+ghost use Rattle.trial.specs.Search.{found, Searching};
+
+// Whether a polynomial was found, and its coefficients, the constant first, with 0 behind them.
+pub struct Fitted {
+    pub found: bool,
+    pub coefficients: [u16; 4],
+}
+
+// The answer where no polynomial is found.
+pub fn nothing() -> Fitted
+    ensures { λ r. ⌜ r ≡ answer none ⌝ }
+{
+    Fitted {
+        found: false,
+        coefficients: [0; 4],
+    }
+}
+
+// What is found where the coefficients have passed.
+fn given(passed: bool, f: [u16; 4]) -> Fitted
+    ensures { λ r. ⌜ r ≡ given passed f ⌝ }
+{
+    if passed {
+        return Fitted {
+            found: true,
+            coefficients: f,
+        };
+    }
+    nothing()
+}
+
+// The same, written anew. A call's answer that is returned as it is would be copied as a block that cuts across its two parts, and the
+// processor waits until both are in memory.
+pub fn copied(f: Fitted) -> Fitted
+    ensures { λ r. ⌜ r ≡ f ⌝ }
+{
+    let g = f.coefficients;
+    Fitted {
+        found: f.found,
+        coefficients: g,
+    }
+}
+
+// Whether at least `need` of the points agree with a + b X + c X² + d X³. The loop goes from the end, and stops as soon as too many
+// have differed: with a wrong polynomial that is soon.
+fn enough(a: u16, b: u16, c: u16, d: u16, xs: &[u16], ys: &[u16], need: usize) -> bool
+    requires { ⌜ length (now xs) ≡ length (now ys) ⌝ }
+    ensures { λ r. ⌜ r ≡ leb need (hits modulus (a ∷ b ∷ c ∷ d ∷ []) (now (xs .entry)) (now (ys .entry))) ⌝ }
+{
+    let mut i = xs.len();
+    if i < need {
+        return false;
+    }
+    let mut slack = i - need;
+    while 0 < i {
+        i -= 1;
+        if polynomial::cubic(a, b, c, d, xs[i]) != ys[i] {
+            if slack == 0 {
+                return false;
+            }
+            slack -= 1;
+        }
+    }
+    true
+}
+
+// Puts the polynomial through the c points taken in the place of their values, and says whether it agrees with enough of all points.
+fn test(xs: &[u16], ys: &[u16], need: usize, c: usize, cx: &[u16], f: &mut [u16]) -> bool
+    requires { ⌜ length (now xs) ≡ length (now ys) ⌝ }
+    requires { ⌜ (c ≤ 4) × (length (now cx) ≡ 4) × (length (now f) ≡ 4) ⌝ }
+    requires { ⌜ drop c (now f) ≡ replicate (4 - c) 0 ⌝ }
+    ensures { λ r. ⌜ given r (now (f .exit)) ≡ answer (firstFitting modulus need (now (xs .entry)) (now (ys .entry)) (interpolate modulus (take c (now (cx .entry))) (take c (now (f .entry))) ∷ [])) ⌝ }
+{
+    interpolation::interpolate(&cx[..c], &mut f[..c]);
+    enough(f[0], f[1], f[2], f[3], xs, ys, need)
+}
+
+// The polynomial through the four points (cx[j], cy[j]), if it agrees with at least `need` of the points (xs[i], ys[i]).
+// With lists of two lengths none is found.
+pub fn four(xs: &[u16], ys: &[u16], need: usize, cx: [u16; 4], cy: [u16; 4]) -> Fitted
+    ensures { λ r. ⌜ r ≡ fourIn need (now (xs .entry)) (now (ys .entry)) cx cy ⌝ }
+{
+    if xs.len() != ys.len() {
+        return nothing();
+    }
+    let mut f = cy;
+    let passed = test(xs, ys, need, 4, &cx, &mut f);
+    given(passed, f)
+}
+
+// The search from place i on where no point may be passed over: the next `more` points sent are taken. The first c places of cx and
+// cy hold the points taken before. A value that was not sent is no point.
+fn straight(
+    xs: &[u16],
+    ys: &[u16],
+    need: usize,
+    i: usize,
+    more: usize,
+    c: usize,
+    cx: [u16; 4],
+    cy: [u16; 4],
+) -> Fitted
+    requires { ⌜ Searching (now xs) (now ys) more c cy ⌝ }
+    ensures { λ r. ⌜ r ≡ answer (found modulus need (now (xs .entry)) (now (ys .entry)) more 0 (take c cx) (take c cy) i) ⌝ }
+{
+    let mut j = i;
+    let mut left = more;
+    let mut d = c;
+    let mut dx = cx;
+    let mut dy = cy;
+    while 0 < left {
+        if xs.len() <= j {
+            return nothing();
+        }
+        let x = xs[j];
+        let y = ys[j];
+        j += 1;
+        if y < field::MODULUS {
+            dx[d] = x;
+            dy[d] = y;
+            d += 1;
+            left -= 1;
+        }
+    }
+    let passed = test(xs, ys, need, d, &dx, &mut dy);
+    given(passed, dy)
+}
+
+// The polynomial through the next k points sent from place i on, if it agrees with at least `need` of the points (xs[j], ys[j]).
+// For k above 4, or lists of two lengths, none is found.
+pub fn next(xs: &[u16], ys: &[u16], need: usize, i: usize, k: usize) -> Fitted
+    ensures { λ r. ⌜ r ≡ triedIn need (now (xs .entry)) (now (ys .entry)) i k 0 ⌝ }
+{
+    if 4 < k {
+        return nothing();
+    }
+    if xs.len() != ys.len() {
+        return nothing();
+    }
+    copied(straight(xs, ys, need, i, k, 0, [0; 4], [0; 4]))
+}
+
+// The search from place i on: `more` points are still to be taken, and `spare` of those sent may be passed over.
+// A call has its own copy of the points taken, so that nothing is to be undone.
+// A value that was not sent is passed over at no cost: it is no point, and never counts as wrong.
+fn search(
+    xs: &[u16],
+    ys: &[u16],
+    need: usize,
+    i: usize,
+    more: usize,
+    spare: usize,
+    c: usize,
+    cx: [u16; 4],
+    cy: [u16; 4],
+) -> Fitted
+    requires { ⌜ Searching (now xs) (now ys) more c cy ⌝ }
+    ensures { λ r. ⌜ r ≡ answer (found modulus need (now (xs .entry)) (now (ys .entry)) more spare (take c cx) (take c cy) i) ⌝ }
+{
+    if spare == 0 {
+        return copied(straight(xs, ys, need, i, more, c, cx, cy));
+    }
+    if more == 0 {
+        return copied(straight(xs, ys, need, i, 0, c, cx, cy));
+    }
+    if xs.len() <= i {
+        return nothing();
+    }
+    let y = ys[i];
+    if field::MODULUS <= y {
+        return copied(search(xs, ys, need, i + 1, more, spare, c, cx, cy));
+    }
+    let mut dx = cx;
+    let mut dy = cy;
+    dx[c] = xs[i];
+    dy[c] = y;
+    let with_it = search(xs, ys, need, i + 1, more - 1, spare, c + 1, dx, dy);
+    if with_it.found {
+        return copied(with_it);
+    }
+    copied(search(xs, ys, need, i + 1, more, spare - 1, c, cx, cy))
+}
+
+// The first polynomial that does, of those through k of the next k + spare points sent from place i on.
+// For k above 4, or lists of two lengths, none is found.
+pub fn choices(xs: &[u16], ys: &[u16], need: usize, i: usize, k: usize, spare: usize) -> Fitted
+    ensures { λ r. ⌜ r ≡ triedIn need (now (xs .entry)) (now (ys .entry)) i k spare ⌝ }
+{
+    if 4 < k {
+        return nothing();
+    }
+    if xs.len() != ys.len() {
+        return nothing();
+    }
+    copied(search(xs, ys, need, i, k, spare, 0, [0; 4], [0; 4]))
+}
