@@ -2,7 +2,7 @@
 
 use crate::contenders::{dealing, happy, opening, repairing, writing};
 use crate::graphs::{self, Graph};
-use crate::hunt::neighbours;
+use crate::hunt::{calls, neighbours};
 use crate::inputs::{Bytes, Dealing, Deals, Text};
 use crate::measure::{Bench, Row};
 use crate::plain::happy_now;
@@ -57,6 +57,7 @@ fn random_row(percent: usize, count: usize) -> Box<dyn Bench> {
 }
 
 fn worst_row(count: usize) -> Box<dyn Bench> {
+    assert_eq!(calls(happy_now::counted, &happy_now::WORST), happy_now::MOST, "the worst graph is one of another search");
     let graphs = neighbours(happy_now::counted, SEED, &happy_now::WORST, count);
     let mut rng = Rng::new(SEED);
     let inputs = graphs.iter().map(|graph| graphs::reports(&mut rng, graph)).collect();
@@ -84,6 +85,9 @@ type Size = (u8, u8, &'static [usize], &'static [usize]);
 const SIZES: [Size; 4] =
     [(5, 1, &[0], &[0]), (9, 2, &[0, 1], &[0, 3]), (13, 3, &[0, 1, 2], &[0, 4, 8]), (16, 3, &[0, 1, 2], &[0, 4, 8])];
 
+/// One lie in each of the first three pairs: the worst for decoding by pairs, where the last choice is the first right one.
+const PAIRS: &[usize] = &[0, 2, 4];
+
 /// Lies at `places`, in words that count from 1.
 fn lies_at(places: &[usize]) -> String {
     let named: Vec<String> = places.iter().map(|place| (place + 1).to_string()).collect();
@@ -102,6 +106,7 @@ fn repair_rows(count: usize) -> Vec<Box<dyn Bench>> {
     vec![
         row("first", 10, &[0, 1, 2]),
         row("groups", 10, &[0, 4, 5]),
+        row("pairs", 10, PAIRS),
         row("first", 16, &[0, 1, 2]),
         row("groups", 16, &[0, 4, 8]),
     ]
@@ -122,6 +127,7 @@ fn open_rows(count: usize) -> Vec<Box<dyn Bench>> {
             rows.push(at("groups", (n, t), groups));
         }
     }
+    rows.push(at("pairs", (13, 3), PAIRS));
     rows.push(open_row("any", (16, 3), count, Lies::Any(3), "3 lies anywhere"));
     rows.push(open_row("refused", (16, 3), count, Lies::At(&[0, 4, 8, 12]), "4 lies, refused"));
     rows

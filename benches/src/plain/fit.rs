@@ -25,13 +25,15 @@ pub fn is_sent(y: u16) -> bool {
     u32::from(y) < P
 }
 
-/// The coefficients of the polynomial through the points taken: Newton's divided differences, multiplied out.
+/// The coefficients of the polynomial through the points taken: Newton's divided differences, multiplied out. The slope to
+/// the next point, one further on, is not divided.
 #[inline]
 pub fn interpolate(taken: &Taken) -> [u16; 4] {
     let (xs, mut ys, count) = (&taken.xs, taken.ys, taken.count.min(4));
     for i in 0..count {
         for j in i + 1..count {
-            ys[j] = mul(sub(ys[j], ys[i]), inverse(sub(xs[j], xs[i])));
+            let (rise, run) = (sub(ys[j], ys[i]), sub(xs[j], xs[i]));
+            ys[j] = if run == 1 { rise } else { mul(rise, inverse(run)) };
         }
     }
     multiplied_out(xs, ys, count)

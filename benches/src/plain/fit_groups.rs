@@ -17,11 +17,14 @@ pub fn fit(t: usize, need: usize, xs: &[u16], ys: &[u16]) -> Option<[u16; 4]> {
         let f = interpolate(taken);
         enough(&f, need, xs, ys).then_some(f)
     };
-    let spare = surplus(need, ys);
     let next = |i| test(&taken_from(i, t + 1, xs, ys)?);
     let first = next(0);
-    if first.is_some() || spare == 0 {
+    if first.is_some() {
         return first;
+    }
+    let spare = surplus(need, ys);
+    if spare == 0 {
+        return None;
     }
     if need <= spare + t || !distinct(xs) {
         return search(xs, ys, &test, 0, t + 1, spare, Taken::default());

@@ -1,6 +1,5 @@
 // What a call answers and what the lamp holds after it, as a line of text on standard output.
 use answers::Answer;
-use answers::Stage;
 use dealer::Dealing;
 use lamp::Lamp;
 use libc::STDOUT_FILENO;
@@ -43,11 +42,11 @@ pub(crate) fn answer(answer: Answer) {
 
 // What the desk answered.
 pub(crate) fn dealing(answer: Dealing) {
-    match answer {
-        Dealing::Written => word(b"ok"),
-        Dealing::WrongSize => refused(1),
-        Dealing::WrongLength => refused(3),
-        Dealing::NotResidue => refused(5),
+    let refusal = dealer::refusal_number(answer);
+    if refusal == 0 {
+        word(b"ok");
+    } else {
+        refused(refusal as u16);
     }
 }
 
@@ -58,21 +57,11 @@ pub(crate) fn numbers(list: &[u16]) {
     }
 }
 
-fn stage(stage: Stage) {
-    match stage {
-        Stage::Waiting => number(0),
-        Stage::Dealt => number(1),
-        Stage::Reported => number(2),
-        Stage::Holding => number(3),
-        Stage::Closed => number(4),
-    }
-}
-
 // The end of a line: the lamp's stage, share, happy set and report.
 pub(crate) fn state(lamp: Lamp) {
     word(b" ;");
-    let reached = lamp.stage;
-    stage(reached);
+    let stage = lamp.stage;
+    number(answers::stage_number(stage) as u16);
     number(lamp.share);
     number(lamp.happy);
     number(lamp.report);

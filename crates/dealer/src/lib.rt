@@ -2,15 +2,28 @@
 ghost use mathlib.Core.Path.{_≡_};
 ghost use Prim.Native.Nat.{_*_, _≤_};
 ghost use lib.ListN.{length};
+ghost use Rattle.lists.specs.Options.{orZero};
 ghost use Rattle.field.specs.Modulus.{modulus};
-ghost use Rattle.dealer.specs.Desk.{deal, deals, verdict, desk};
+ghost use Rattle.dealer.specs.Desk.{deal, deals, numberOf, verdict, desk};
 
-// What the desk answers. Document 01's number of each refusal is `numberOf` in the definitions.
+// What the desk answers.
 pub enum Dealing {
     Written,
     WrongSize,
     WrongLength,
     NotResidue,
+}
+
+// Document 01's number of a refusal, 0 where the deals are written.
+pub fn refusal_number(answer: Dealing) -> u8
+    ensures { λ r. ⌜ r ≡ orZero (numberOf answer) ⌝ }
+{
+    match answer {
+        Dealing::Written => 0,
+        Dealing::WrongSize => 1,
+        Dealing::WrongLength => 3,
+        Dealing::NotResidue => 5,
+    }
 }
 
 // The lowest refusal that applies, or that all may be written.

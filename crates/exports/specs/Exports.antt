@@ -11,6 +11,7 @@ use mathlib.Core.List.{List}
 use Prim.Native.Nat.{ℕ, suc, _+_, _*_, _-_}
 use lib.Dec.{leb, eqb}
 use lib.ListN.{length}
+use Rattle.lists.specs.Options.{orZero}
 use Rattle.field.specs.Modulus.{modulus}
 use Rattle.fit.specs.Fit.{fit}
 use Rattle.parties.specs.Parties.{sizes}
@@ -19,7 +20,6 @@ use Rattle.dealer.specs.Desk.{numberOf, desk}
 use Rattle.answers.specs.declared.Refusal.the-variants.{WrongSize, WrongLength, NoColumn, NoOpening}
 use Rattle.answers.specs.Answer.{refusalNumber}
 use Rattle.lamp.specs.Lamp.{constant}
-use Rattle.transcript.specs.Outcomes.{orZero}
 
 -- The desk's list, and its answer as a number.
 unfoldable pub dealing : ℕ → ℕ → List ℕ → List ℕ → List ℕ × ℕ

@@ -4,23 +4,8 @@ ghost use mathlib.Core.Path.{_≡_};
 ghost use Prim.Native.Nat.{_≤_};
 ghost use lib.ListN.{length, take};
 ghost use Rattle.happy.specs.Happy.{happySet};
-ghost use Rattle.dealer.specs.Desk.{numberOf};
-ghost use Rattle.transcript.specs.Outcomes.{orZero};
 ghost use Rattle.transcript.specs.Transcript.{rendering};
 ghost use Rattle.exports.specs.Exports.{dealing, lengthsFit, repairing, opening};
-use dealer::Dealing;
-
-// Document 01's number of what the desk answers, 0 where the deals are written.
-fn number_of(answer: Dealing) -> u8
-    ensures { λ r. ⌜ r ≡ orZero (numberOf answer) ⌝ }
-{
-    match answer {
-        Dealing::Written => 0,
-        Dealing::WrongSize => 1,
-        Dealing::WrongLength => 3,
-        Dealing::NotResidue => 5,
-    }
-}
 
 // Deals F, whose coefficients stand in `f`, to n lamps.
 #[no_mangle]
@@ -28,7 +13,7 @@ pub extern "C" fn doumbaht_deal(n: u8, t: u8, f: &[u16], deals: &mut [u16]) -> u
     ensures { λ r. ⌜ (now (deals .exit), r) ≡ dealing n t (now (f .entry)) (now (deals .entry)) ⌝ }
 {
     let answer = dealer::deal(n, t, f, deals);
-    number_of(answer)
+    dealer::refusal_number(answer)
 }
 
 // The happy set by the reports.

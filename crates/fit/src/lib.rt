@@ -121,9 +121,9 @@ fn test_pairs(
 }
 
 // Two of five pairs of points, each by the place of its first point: every choice but that of the first two.
-const ONE: [usize; 9] = [4, 0, 0, 2, 2, 0, 2, 4, 6];
+const FIRST_PAIRS: [usize; 9] = [4, 0, 0, 2, 2, 0, 2, 4, 6];
 
-const OTHER: [usize; 9] = [6, 4, 6, 4, 6, 8, 8, 8, 8];
+const SECOND_PAIRS: [usize; 9] = [6, 4, 6, 4, 6, 8, 8, 8, 8];
 
 // The search for a cubic where at most one fits, at most three of the points sent are wrong, and one of the first four is. Of five
 // pairs of points two have no wrong point, so ten choices are enough where points one by one would take 35.
@@ -136,8 +136,8 @@ fn by_pairs(xs: &[u16], ys: &[u16], need: usize, sent: usize) -> Fitted
     first_ten(xs, ys, &mut px, &mut py);
     let mut k = 0;
     while k < 9 {
-        let a = ONE[k];
-        let b = OTHER[k];
+        let a = FIRST_PAIRS[k];
+        let b = SECOND_PAIRS[k];
         let fitted = test_pairs(xs, ys, need, &px, &py, a, b);
         if fitted.found {
             return trial::copied(fitted);

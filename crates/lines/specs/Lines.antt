@@ -29,7 +29,7 @@ unfoldable pub names : ℕ → ℕ → List (List ℕ)
 names set zero = []
 names set (suc k) = names set k ++ name set k
 
--- Those of "happy i j ..".
+-- The words of "happy i j ..".
 abbrev pub happyWords : ℕ → ℕ → List (List ℕ)
 happyWords set n = (letters "happy" ∷ names set n) ++ letters "\n" ∷ []
 

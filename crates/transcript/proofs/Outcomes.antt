@@ -5,6 +5,7 @@ use mathlib.Core.Option.{Option, none, some}
 use mathlib.Core.List.{List, _++_}
 use Prim.Native.Nat.{ℕ, _-_}
 use lib.ListN.{length, getD}
+use Rattle.lists.specs.Options.{orZero}
 use Rattle.lists.proofs.Padded.{getD-zeros}
 use Rattle.field.specs.Modulus.{modulus}
 use Rattle.trial.specs.declared.Fitted.{Fitted}
@@ -18,7 +19,7 @@ use Rattle.lamp.specs.declared.Reply.{Reply}
 use Rattle.answers.specs.Answer.{numberOf}
 use Rattle.text.specs.Letters.{letters, field, joined}
 use Rattle.lines.specs.Lines.{outcomeWords, lampWords, openedWords}
-use Rattle.transcript.specs.Outcomes.{outcome, lampLine, orZero, openedLine, lastLine}
+use Rattle.transcript.specs.Outcomes.{outcome, lampLine, openedLine, lastLine}
 
 -- ---- a lamp: no refusal has the number 0
 outcome-by : (a : Answer) (v : ℕ) → joined (outcomeWords (letters " share ") (orZero (numberOf a)) v) ≡ outcome v (numberOf a)

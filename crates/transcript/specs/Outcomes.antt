@@ -2,7 +2,6 @@
 --   isAccepted set n t      the verdict, by the happy set
 --   lampLine i r            what lamp i holds, or why it refused, by its reply
 --   openedLine f, lastLine accepted n t shares   what the published shares open
---   orZero k                a refusal's number, 0 where there is none
 -- Laws: proofs/Outcomes.
 use mathlib.Core.Bool.{Bool, cond}
 use mathlib.Core.Option.{Option, none, some}
@@ -32,11 +31,6 @@ outcome share (some k) = line (letters " refused ") k
 -- "lamp i share v" or "lamp i refused k", by what the lamp gave back.
 unfoldable pub lampLine : ℕ → Reply → List ℕ
 lampLine i r = field (letters "lamp ") i ++ outcome (r .lamp .share) (numberOf (r .answer))
-
--- A refusal's number, 0 where there is none: what the code hands on.
-abbrev pub orZero : Option ℕ → ℕ
-orZero none = 0
-orZero (some k) = k
 
 -- ---- the opening
 

@@ -72,11 +72,11 @@ pub(crate) fn answer(i: u8, reply: Reply) {
 // What the desk answered.
 pub(crate) fn dealing(answer: Dealing) {
     word(b"desk");
-    match answer {
-        Dealing::Written => word(b" written"),
-        Dealing::WrongSize => refused(1),
-        Dealing::WrongLength => refused(3),
-        Dealing::NotResidue => refused(5),
+    let refusal = dealer::refusal_number(answer);
+    if refusal == 0 {
+        word(b" written");
+    } else {
+        refused(refusal as u16);
     }
     word(b"\n");
 }
