@@ -19,7 +19,8 @@ use Rattle.fit.specs.Answer.{fitIn}
 use Rattle.fit.proofs.Answers.{fit-within}
 use Rattle.fit.proofs.Decoding.{fit-sound}
 use Rattle.parties.specs.Parties.{sizes, points}
-use Rattle.parties.proofs.Parties.{sizes-facts, length-points}
+use Rattle.recovery.specs.Recovery.{publishedIn}
+use Rattle.recovery.proofs.Fitting.{published-within}
 use Rattle.exports.specs.Exports.{lengthsFit, repaired, repairing, opened, opening}
 
 -- ---- the lengths of a repair
@@ -123,11 +124,9 @@ module _ (n t : ℕ) (shares : List ℕ) (old : ℕ) where
       unfolding opening
       opening-by = rw (s, eq-eqb (length shares) n l)
 
-      module _ (r : Fitted) (xs : List ℕ) (front : xs ≡ points n) (e : r ≡ fitIn t (n - t) xs shares) where
+      module _ (r : Fitted) (e : r ≡ publishedIn n t shares) where
         fitted-shares : r ≡ answer (fit modulus t (n - t) (points n) shares)
-        fitted-shares =
-            e ∙ ap (λ zs. fitIn t (n - t) zs shares) front
-            ∙ sym (fit-within t (n - t) (points n) shares (sizes-facts n t s .1) (length-points n ∙ sym l))
+        fitted-shares = e ∙ sym (published-within n t shares s l)
 
         pub opening-not : r .found ≡ false → (old, 10) ≡ opening n t shares old
         opening-not h = opened-not r old (fit modulus t (n - t) (points n) shares) fitted-shares h ∙ sym opening-by

@@ -86,12 +86,10 @@ pub extern "C" fn doumbaht_open(n: u8, t: u8, shares: &[u16], opened: &mut u16) 
     if !parties::sizes(n, t) {
         return 1;
     }
-    let count = n as usize;
-    if shares.len() != count {
+    if shares.len() != n as usize {
         return 3;
     }
-    let xs = parties::points();
-    let fitted = fit::fit(t as usize, (n - t) as usize, &xs[..count], shares);
+    let fitted = recovery::published(n, t, shares);
     if !fitted.found {
         return 10;
     }

@@ -8,7 +8,6 @@ use native.Mathlib.Omega.{arith}
 use borrow.Author.Tests.{eq-eqb, ne-eqb}
 use lib.Count.{ones}
 use lib.ListN.{length, take}
-use lib.Seq.{length-take-le}
 use Rattle.lists.specs.Choices.{hide}
 use Rattle.lists.specs.Masks.{bit}
 use Rattle.lists.specs.Tabulate.{tabulate}
@@ -20,14 +19,13 @@ use Rattle.fit.proofs.Answers.{fit-within}
 use Rattle.fit.proofs.Selection.{fit-hide}
 use Rattle.parties.specs.Parties.{sizes, isParty, points, notSent}
 use Rattle.parties.proofs.Parties.{length-points, not-sent-above}
-use Rattle.recovery.specs.Recovery.{repair, openingWith, repairIn, openingIn}
+use Rattle.recovery.specs.Recovery.{repair, openingOf, openingWith, repairIn, publishedIn, openingIn}
 
 -- ---- the points and values that the code lends
-pub fit-lent : (n t need : ℕ) (xs values : List ℕ) → t ≤ 3 → n ≤ length values → xs ≡ points n
-    → fitIn t need xs (take n values) ≡ answer (fit modulus t need (points n) (take n values))
-fit-lent n t need xs values h inside e =
-    ap (λ ps. fitIn t need ps (take n values)) e
-    ∙ sym (fit-within t need (points n) (take n values) h (length-points n ∙ sym (length-take-le n values inside)))
+pub fit-lent : (n t need : ℕ) (xs values : List ℕ) → t ≤ 3 → length values ≡ n → xs ≡ points n
+    → fitIn t need xs values ≡ answer (fit modulus t need (points n) values)
+fit-lent n t need xs values h l e =
+    ap (λ ps. fitIn t need ps values) e ∙ sym (fit-within t need (points n) values h (length-points n ∙ sym l))
 
 -- To hide what parties outside the set said is to leave their points out.
 pub repair-hidden : (n t S : ℕ) (heard : List ℕ)
@@ -45,6 +43,19 @@ module _ (n t : ℕ) where
   pub repair-refused : (S : ℕ) (heard : List ℕ) → sizes n t ≡ false → answer none ≡ repairIn n t S heard
   unfolding repairIn
   repair-refused S heard h = rw h
+
+  module _ (xs : List ℕ) where
+    pub published-within : sizes n t ≡ true → length xs ≡ n → answer (openingOf modulus n t xs) ≡ publishedIn n t xs
+    unfolding publishedIn
+    published-within h e = rw (h, eq-eqb (length xs) n e)
+
+    pub published-size : sizes n t ≡ false → answer none ≡ publishedIn n t xs
+    unfolding publishedIn
+    published-size h = rw h
+
+    pub published-length : sizes n t ≡ true → (length xs ≡ n → ⊥) → answer none ≡ publishedIn n t xs
+    unfolding publishedIn
+    published-length h d = rw (h, ne-eqb (length xs) n d)
 
   module _ (i v : ℕ) (xs : List ℕ) where
     pub opening-within : sizes n t ≡ true → isParty n i ≡ true → length xs ≡ n → answer (openingWith modulus n t i v xs) ≡ openingIn n t i v xs

@@ -2,7 +2,7 @@
 --   repair p n t S heard            the column repaired from the points (j, first number heard from j) for j in S
 --   openingOf p n t xs              the opening of the published shares xs by themselves
 --   openingWith p n t i v xs        the same with party i's own share v in its own place
---   repairIn, openingIn             what the code answers, for every input
+--   repairIn, publishedIn, openingIn   what the code answers, for every input
 -- Laws: proofs/Fitting.
 use mathlib.Core.Bool.{cond, _&&_}
 use mathlib.Core.Option.{Option, none}
@@ -39,6 +39,12 @@ unfoldable pub repairIn : ℕ → ℕ → ℕ → List ℕ → Fitted
 repairIn n t S heard =
     let repaired = answer (repair modulus n t S heard) in
     cond (sizes n t) repaired (answer none)
+
+-- A bad size or length is answered as nothing found.
+unfoldable pub publishedIn : ℕ → ℕ → List ℕ → Fitted
+publishedIn n t xs =
+    let opened = answer (openingOf modulus n t xs) in
+    cond (sizes n t && eqb (length xs) n) opened (answer none)
 
 -- A bad size, number or length is answered as nothing found.
 unfoldable pub openingIn : ℕ → ℕ → ℕ → ℕ → List ℕ → Fitted

@@ -9,7 +9,7 @@ ghost use Rattle.field.specs.Modulus.{modulus};
 ghost use Rattle.trial.specs.Answer.{answer};
 ghost use Rattle.fit.specs.Fit.{fit};
 ghost use Rattle.parties.specs.Parties.{points, notSent};
-ghost use Rattle.recovery.specs.Recovery.{repairIn, openingIn};
+ghost use Rattle.recovery.specs.Recovery.{repairIn, publishedIn, openingIn};
 use trial::Fitted;
 
 // The first n numbers heard, with "not sent" for each party outside the set, first in an array.
@@ -29,15 +29,14 @@ fn heard_from(n: u8, set: u16, heard: [u16; 16]) -> [u16; 16]
     list
 }
 
-// The polynomial of degree at most t that fits the first n values at the parties' points, if one does.
-fn fit_parties(n: u8, t: u8, need: usize, values: [u16; 16]) -> Fitted
-    requires { ⌜ (n ≤ 16) × (t ≤ 3) ⌝ }
-    ensures { λ r. ⌜ r ≡ answer (fit modulus t need (points n) (take n values)) ⌝ }
+// The polynomial of degree at most t that fits the n values at the parties' points, if one does.
+fn fit_parties(n: u8, t: u8, need: usize, values: &[u16]) -> Fitted
+    requires { ⌜ (n ≤ 16) × (t ≤ 3) × (length (now values) ≡ n) ⌝ }
+    ensures { λ r. ⌜ r ≡ answer (fit modulus t need (points n) (now (values .entry))) ⌝ }
 {
     let count = n as usize;
     let xs = parties::points();
-    let ys = values;
-    fit::fit(t as usize, need, &xs[..count], &ys[..count])
+    fit::fit(t as usize, need, &xs[..count], values)
 }
 
 // a - b, or 0 where b is larger.
@@ -57,7 +56,7 @@ pub fn repair(n: u8, t: u8, set: u16, heard: [u16; 16]) -> Fitted
     let values = heard_from(n, set, heard);
     let count = happy::count(set) as usize;
     let need = less(count, t as usize);
-    fit_parties(n, t, need, values)
+    fit_parties(n, t, need, &values[..n as usize])
 }
 
 // The shares with party i's own in its own place, first in an array.
@@ -74,8 +73,20 @@ fn with_own(i: u8, share: u16, shares: &[u16]) -> [u16; 16]
     list
 }
 
-// The polynomial that fits the published shares, party i's own share in its own place, if one does.
-// For a bad size, number or length none does.
+// The polynomial that fits the published shares by themselves, if one does. For a bad size or length none does.
+pub fn published(n: u8, t: u8, shares: &[u16]) -> Fitted
+    ensures { λ r. ⌜ r ≡ publishedIn n t (now (shares .entry)) ⌝ }
+{
+    if !parties::sizes(n, t) {
+        return trial::nothing();
+    }
+    if shares.len() != n as usize {
+        return trial::nothing();
+    }
+    fit_parties(n, t, (n - t) as usize, shares)
+}
+
+// The same with party i's own share in its own place. For a bad size, number or length none does.
 pub fn opening(n: u8, t: u8, i: u8, share: u16, shares: &[u16]) -> Fitted
     ensures { λ r. ⌜ r ≡ openingIn n t i share (now (shares .entry)) ⌝ }
 {
@@ -85,9 +96,10 @@ pub fn opening(n: u8, t: u8, i: u8, share: u16, shares: &[u16]) -> Fitted
     if !parties::is_party(n, i) {
         return trial::nothing();
     }
-    if shares.len() != n as usize {
+    let count = n as usize;
+    if shares.len() != count {
         return trial::nothing();
     }
     let values = with_own(i, share, shares);
-    fit_parties(n, t, (n - t) as usize, values)
+    published(n, t, &values[..count])
 }

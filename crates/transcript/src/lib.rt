@@ -118,8 +118,7 @@ fn fitted(bytes: &[u8], n: u8, t: u8) -> Fitted
 {
     let count = n as usize;
     let list = part(bytes, 3, 0, count);
-    let xs = parties::points();
-    fit::fit(t as usize, (n - t) as usize, &xs[..count], &list[..count])
+    recovery::published(n, t, &list[..count])
 }
 
 // Puts what the published shares open, or 8 after a rejected dealer.

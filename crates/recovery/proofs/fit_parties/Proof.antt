@@ -1,4 +1,4 @@
--- `recovery::fit_parties` meets its contract: n points and n values are lent.
+-- `recovery::fit_parties` meets its contract: n points are lent with the n values.
 use mathlib.Core.Path.{sym, ap, _∙_}
 use native.Mathlib.Omega.{arith}
 use lib.ListN.{take}
@@ -16,31 +16,19 @@ array-share-prefix-xs : tie.Need-array-share-prefix-xs
 array-share-prefix-xs c = search needs
 
 slice-aggregate-fit : tie.Need-slice-aggregate-fit
-slice-aggregate-fit c = sym (length-take-le (c .before .before .args .n) (c .before .points .result) (omega arith))
-
-array-share-prefix-ys : tie.Need-array-share-prefix-ys
-array-share-prefix-ys c = search needs
-
-slice-aggregate-fit-2 : tie.Need-slice-aggregate-fit-2
-slice-aggregate-fit-2 c = let a = c .before .before .before .args in sym (length-take-le (a .n) (a .values) (omega arith))
+slice-aggregate-fit c = sym (length-take-le (c .before .before .before .args .n) (c .before .points .result) (omega arith))
 
 fit-requires : tie.Need-fit-requires
 fit-requires c κs = search needs
 
 returns : tie.Need-returns
 returns c =
-    let p = c .before .before .before in
-    let a = p .before .args in
-    c .fit .ensures ∙ fit-lent (a .n) (a .t) (a .need) _ (a .values) (omega arith) (omega arith) (ap (take (a .n)) (p .points .ensures) ∙ points-front 16 (a .n) (omega arith))
+    let p = c .before .before in
+    let s = p .before .before in
+    let a = s .args in
+    c .fit .ensures
+    ∙ fit-lent (a .n) (a .t) (a .need) _ (a .values .now) (s .pre .1) (s .pre .2)
+    (ap (take (a .n)) (p .points .ensures) ∙ points-front 16 (a .n) (s .pre .0))
 
 pub fit-parties-spec : {M : Type 1} → statement M
-fit-parties-spec =
-    tie.close
-    (tie.spec
-    points-requires
-    array-share-prefix-xs
-    slice-aggregate-fit
-    array-share-prefix-ys
-    slice-aggregate-fit-2
-    fit-requires
-    returns)
+fit-parties-spec = tie.close (tie.spec points-requires array-share-prefix-xs slice-aggregate-fit fit-requires returns)

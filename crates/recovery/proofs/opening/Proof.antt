@@ -4,13 +4,12 @@ use mathlib.Core.Bool.{true}
 use Prim.Native.Nat.{_-_, _≤_}
 use native.Mathlib.Omega.{arith}
 use borrow.Author.Tests.{not-true, not-false}
-use lib.ListN.{take}
-use Rattle.field.specs.Modulus.{modulus}
-use Rattle.trial.specs.Answer.{answer}
-use Rattle.fit.specs.Fit.{fit}
-use Rattle.parties.specs.Parties.{sizes, isParty, points}
+use lib.ListN.{take, set, length-set}
+use lib.Seq.{length-take-le}
+use Rattle.parties.specs.Parties.{sizes, isParty}
 use Rattle.parties.proofs.Parties.{sizes-facts, party-facts}
-use Rattle.recovery.proofs.Fitting.{opening-within, opening-size, opening-number, opening-length}
+use Rattle.recovery.specs.Recovery.{publishedIn}
+use Rattle.recovery.proofs.Fitting.{published-within, opening-within, opening-size, opening-number, opening-length}
 use borrow.Author.Needs.{needs}
 use Rattle.recovery.proofs.opening.Statement.{statement}
 use Rattle.recovery.proofs.opening.Tie as tie
@@ -63,22 +62,24 @@ with-own-requires c κs =
     let g = small (e .before .before) in
     (omega arith, omega arith, omega arith)
 
-sub-fit-parties : tie.Need-sub-fit-parties
-sub-fit-parties c = omega (arith, small (c .before .before .before .before))
+array-share-prefix-values : tie.Need-array-share-prefix-values
+array-share-prefix-values c = omega (arith, small (c .before .before .before .before))
 
-cast-fit-parties : tie.Need-cast-fit-parties
-cast-fit-parties c = search needs
+slice-aggregate-published : tie.Need-slice-aggregate-published
+slice-aggregate-published c = sym (length-take-le _ _ (omega (arith, small (c .before .before .before .before .before))))
 
-fit-parties-requires : tie.Need-fit-parties-requires
-fit-parties-requires c κs = let f = small (c .before .before .before .before) in (omega arith, omega arith)
+published-requires : tie.Need-published-requires
+published-requires c κs = search needs
 
 returns-4 : tie.Need-returns-4
 returns-4 c =
-    let w = c .before in
+    let w = c .before .before in
     let e = w .before .before in
     let a = e .before .before .before .before .before .args in
-    c .fit-parties .ensures
-    ∙ ap (λ ys. answer (fit modulus (a .t) (a .n - a .t) (points (a .n)) ys)) (ap (λ k. take k (w .with-own .result)) (sym (w .before .if3 .left)) ∙ w .with-own .ensures)
+    let own = ap (λ k. take k (w .with-own .result)) (sym (w .before .if3 .left)) ∙ w .with-own .ensures in
+    c .published .ensures
+    ∙ ap (publishedIn (a .n) (a .t)) own
+    ∙ sym (published-within (a .n) (a .t) (set (a .shares .now) (a .i - 1) (a .share)) (sized (e .before .before)) (length-set (a .shares .now) (a .i - 1) (a .share) ∙ w .before .if3 .left))
     ∙ opening-within (a .n) (a .t) (a .i) (a .share) (a .shares .now) (sized (e .before .before)) (numbered e) (w .before .if3 .left)
 
 pub opening-spec : {M : Type 1} → statement M
@@ -94,7 +95,7 @@ opening-spec =
     nothing-requires-3
     returns-3
     with-own-requires
-    sub-fit-parties
-    cast-fit-parties
-    fit-parties-requires
+    array-share-prefix-values
+    slice-aggregate-published
+    published-requires
     returns-4)

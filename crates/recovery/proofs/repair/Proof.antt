@@ -4,6 +4,7 @@ use mathlib.Core.Bool.{true}
 use Prim.Native.Nat.{_-_, _≤_}
 use native.Mathlib.Omega.{arith}
 use borrow.Author.Tests.{not-true, not-false}
+use lib.Seq.{length-take-le}
 use Rattle.field.specs.Modulus.{modulus}
 use Rattle.trial.specs.Answer.{answer}
 use Rattle.fit.specs.Fit.{fit}
@@ -44,12 +45,20 @@ cast-count c = search needs
 less-requires : tie.Need-less-requires
 less-requires c κs = search needs
 
+array-share-prefix-values : tie.Need-array-share-prefix-values
+array-share-prefix-values c = omega (arith, small (c .before .before .before))
+
+slice-aggregate-fit-parties : tie.Need-slice-aggregate-fit-parties
+slice-aggregate-fit-parties c = sym (length-take-le _ _ (omega (arith, small (c .before .before .before .before))))
+
 fit-parties-requires : tie.Need-fit-parties-requires
-fit-parties-requires c κs = small (c .before .before .before)
+fit-parties-requires c κs =
+    let f = small (c .before .before .before .before) in
+    (f .0, f .1, length-take-le _ _ (omega arith))
 
 returns-2 : tie.Need-returns-2
 returns-2 c =
-    let need = c .before in
+    let need = c .before .before in
     let h = need .before .before in
     let e = h .before in
     let a = e .before .before .args in
@@ -69,5 +78,7 @@ repair-spec =
     count-requires
     cast-count
     less-requires
+    array-share-prefix-values
+    slice-aggregate-fit-parties
     fit-parties-requires
     returns-2)
