@@ -1,7 +1,7 @@
 //! Gao's decoder: the polynomial through all points sent, then Euclid's algorithm against the product of X - x, stopped
 //! half way; the remainder divided by its cofactor is the polynomial that fits. What was not sent is left out.
 
-use crate::plain::field::{inverse, mul, mul_add, sub, P};
+use crate::plain::field::{inverse, mul, mul_add, residue, sub, P};
 
 /// Coefficients, the constant first, with zeros behind them: a product of 16 factors has 17, and one is to spare.
 type Polynomial = [u32; 18];
@@ -37,7 +37,7 @@ impl Sent {
     fn of(xs: &[u16], ys: &[u16]) -> Sent {
         let mut sent = Sent { count: 0, xs: [0; 16], ys: [0; 16] };
         for (&x, &y) in xs.iter().zip(ys) {
-            sent.xs[sent.count & 15] = u32::from(x);
+            sent.xs[sent.count & 15] = residue(x);
             sent.ys[sent.count & 15] = u32::from(y);
             sent.count += usize::from(u32::from(y) < P);
         }

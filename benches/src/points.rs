@@ -48,7 +48,7 @@ pub fn happy_points(rng: &mut Rng, count: usize, t: u8, lies: Lies) -> Points {
     Points { t, xs, ys }
 }
 
-/// Any distinct points, and values with more or fewer lies than may be, some not sent.
+/// Any distinct points, some of them not written as residues, and values with more or fewer lies than may be, some not sent.
 pub fn any_points(rng: &mut Rng) -> Points {
     let t = 1 + rng.below(3);
     let count = 3 * t + 1 + rng.below(16 - 3 * t);
@@ -57,6 +57,11 @@ pub fn any_points(rng: &mut Rng) -> Points {
         let x = if rng.chance(50) { rng.below(17) as u16 } else { rng.element() };
         if !xs.contains(&x) {
             xs.push(x);
+        }
+    }
+    for x in &mut xs {
+        if *x < 15 && rng.chance(10) {
+            *x += 65_521;
         }
     }
     let ys = disturbed(rng, t, &xs);

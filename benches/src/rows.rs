@@ -57,7 +57,11 @@ fn random_row(percent: usize, count: usize) -> Box<dyn Bench> {
 }
 
 fn worst_row(count: usize) -> Box<dyn Bench> {
-    assert_eq!(calls(happy_now::counted, &happy_now::WORST), happy_now::MOST, "the worst graph is one of another search");
+    assert_eq!(
+        calls(happy_now::counted, &happy_now::WORST),
+        happy_now::MOST,
+        "the worst graph is one of another search"
+    );
     let graphs = neighbours(happy_now::counted, SEED, &happy_now::WORST, count);
     let mut rng = Rng::new(SEED);
     let inputs = graphs.iter().map(|graph| graphs::reports(&mut rng, graph)).collect();

@@ -20,6 +20,12 @@ pub fn sub(a: u32, b: u32) -> u32 {
     d.min(d.wrapping_add(P))
 }
 
+/// The residue of a number below 65,536.
+#[inline(always)]
+pub fn residue(a: u16) -> u32 {
+    u32::from(a) % P
+}
+
 /// The inverse of a residue, 0 for 0: each turn puts the remainder of the prime by d in the place of d.
 #[inline]
 pub fn inverse(a: u32) -> u32 {

@@ -1,6 +1,6 @@
 //! What the decoders by trial share: interpolation, and whether enough points agree.
 
-use super::field::{inverse, mul, mul_add, sub, P};
+use super::field::{inverse, mul, mul_add, residue, sub, P};
 
 /// At most four points that were taken.
 #[derive(Clone, Copy, Default)]
@@ -13,7 +13,7 @@ pub struct Taken {
 impl Taken {
     #[inline(always)]
     pub fn with(mut self, x: u16, y: u16) -> Taken {
-        self.xs[self.count & 3] = u32::from(x);
+        self.xs[self.count & 3] = residue(x);
         self.ys[self.count & 3] = u32::from(y);
         self.count += 1;
         self
@@ -25,18 +25,42 @@ pub fn is_sent(y: u16) -> bool {
     u32::from(y) < P
 }
 
-/// The coefficients of the polynomial through the points taken: Newton's divided differences, multiplied out. The slope to
-/// the next point, one further on, is not divided.
+/// The slope between residues. To the next point, one further on, nothing is divided.
+#[inline(always)]
+fn slope(x: u32, y: u32, z: u32, w: u32) -> u32 {
+    let (rise, run) = (sub(w, y), sub(z, x));
+    if run == 1 {
+        rise
+    } else {
+        mul(rise, inverse(run))
+    }
+}
+
+/// The coefficients of the polynomial through the points taken: Newton's divided differences, multiplied out.
 #[inline]
 pub fn interpolate(taken: &Taken) -> [u16; 4] {
     let (xs, mut ys, count) = (&taken.xs, taken.ys, taken.count.min(4));
     for i in 0..count {
         for j in i + 1..count {
-            let (rise, run) = (sub(ys[j], ys[i]), sub(xs[j], xs[i]));
-            ys[j] = if run == 1 { rise } else { mul(rise, inverse(run)) };
+            ys[j] = slope(xs[i], ys[i], xs[j], ys[j]);
         }
     }
     multiplied_out(xs, ys, count)
+}
+
+/// The same for four points of residues, one step after the other.
+#[inline(always)]
+pub fn cubic_through(xs: [u32; 4], ys: [u32; 4]) -> [u16; 4] {
+    let less = |y, x, c| mul_add(P - x, c, y);
+    let [x, y, z, w] = xs;
+    let a = ys[0];
+    let b = slope(x, a, y, ys[1]);
+    let c = slope(y, b, z, slope(x, a, z, ys[2]));
+    let d = slope(z, c, w, slope(y, b, w, slope(x, a, w, ys[3])));
+    let c = less(c, z, d);
+    let b = less(b, y, c);
+    let c = less(c, y, d);
+    [less(a, x, b), less(b, x, c), less(c, x, d), d].map(|c| c as u16)
 }
 
 /// Newton's form with `count` coefficients, multiplied out.
@@ -57,12 +81,13 @@ pub fn value(f: &[u16], x: u16) -> u16 {
     super::field::value(f, u32::from(x)) as u16
 }
 
-/// The value at x of four coefficients: Horner's rule without a loop, and by one reduction, since all fits 64 bits.
+/// Whether y is the value at x of four coefficients: Horner's rule without a loop. The value less y fits 64 bits, and
+/// whether P divides it is asked by a product.
 #[inline(always)]
-fn cubic(f: &[u16; 4], x: u16) -> u16 {
+fn meets(f: &[u16; 4], x: u16, y: u16) -> bool {
     let [a, b, c, d] = f.map(u64::from);
     let x = u64::from(x);
-    ((((d * x + c) * x + b) * x + a) % u64::from(P)) as u16
+    is_sent(y) && (((d * x + c) * x + b) * x + a + u64::from(P - u32::from(y))) % u64::from(P) == 0
 }
 
 /// Whether at least `need` points agree with f: from the end, and no further where too many have differed.
@@ -73,7 +98,7 @@ pub fn enough(f: &[u16; 4], need: usize, xs: &[u16], ys: &[u16]) -> bool {
     }
     let mut spare = xs.len() - need;
     for (&x, &y) in xs.iter().zip(ys).rev() {
-        if cubic(f, x) != y {
+        if !meets(f, x, y) {
             if spare == 0 {
                 return false;
             }

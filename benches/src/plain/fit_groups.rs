@@ -2,7 +2,8 @@
 //! and one fewer may be wrong among the rest. Where the rest gets short, its choices are tried as in the first
 //! algorithm. A cubic with three wrong points among fewer than 16 is looked for by pairs of points.
 
-use super::fit::{enough, interpolate, is_sent, search, surplus, Taken};
+use super::field::P;
+use super::fit::{cubic_through, enough, interpolate, is_sent, search, surplus, Taken};
 
 pub const NAME: &str = "groups of t + 1, or pairs";
 
@@ -30,7 +31,7 @@ pub fn fit(t: usize, need: usize, xs: &[u16], ys: &[u16]) -> Option<[u16; 4]> {
         return search(xs, ys, &test, 0, t + 1, spare, Taken::default());
     }
     if t == 3 && spare == 3 && spare + need < 16 {
-        return pairs(xs, ys, &test);
+        return pairs(need, xs, ys);
     }
     let (mut i, mut left, mut wrong) = (0, spare + need, spare);
     while 2 * t + 1 + wrong <= left {
@@ -49,7 +50,7 @@ pub fn fit(t: usize, need: usize, xs: &[u16], ys: &[u16]) -> Option<[u16; 4]> {
 }
 
 /// Of five pairs of points two have no wrong one, where three of the ten are wrong.
-fn pairs(xs: &[u16], ys: &[u16], test: &impl Fn(&Taken) -> Option<[u16; 4]>) -> Option<[u16; 4]> {
+fn pairs(need: usize, xs: &[u16], ys: &[u16]) -> Option<[u16; 4]> {
     let mut ten = [(0, 0); 10];
     let sent = xs.iter().zip(ys).filter(|&(_, &y)| is_sent(y));
     for (place, (&x, &y)) in ten.iter_mut().zip(sent) {
@@ -57,7 +58,8 @@ fn pairs(xs: &[u16], ys: &[u16], test: &impl Fn(&Taken) -> Option<[u16; 4]>) -> 
     }
     CHOICES.iter().find_map(|&(a, b)| {
         let four = [ten[a], ten[a + 1], ten[b], ten[b + 1]];
-        test(&Taken { count: 4, xs: four.map(|(x, _)| u32::from(x)), ys: four.map(|(_, y)| u32::from(y)) })
+        let f = cubic_through(four.map(|(x, _)| u32::from(x)), four.map(|(_, y)| u32::from(y)));
+        enough(&f, need, xs, ys).then_some(f)
     })
 }
 
@@ -76,13 +78,15 @@ fn taken_from(i: usize, count: usize, xs: &[u16], ys: &[u16]) -> Option<Taken> {
     None
 }
 
-/// In one pass where the points rise; elsewhere without a way out half way, so that many comparisons go at a time.
+/// Whether the points are distinct residues: in one pass where they rise; elsewhere without a way out half way, so that
+/// many comparisons go at a time.
 fn distinct(xs: &[u16]) -> bool {
+    let is_residue = |&x: &u16| u32::from(x) < P;
     if xs.windows(2).all(|pair| pair[0] < pair[1]) {
-        return true;
+        return xs.last().is_none_or(is_residue);
     }
     let again = |i: usize| xs[..i].iter().fold(false, |again, &x| again | (x == xs[i]));
-    (0..xs.len()).all(|i| !again(i))
+    (0..xs.len()).all(|i| !again(i)) && xs.iter().all(is_residue)
 }
 
 /// The place behind the next `count` values sent.

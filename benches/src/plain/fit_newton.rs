@@ -1,7 +1,7 @@
 //! Decoding by the second algorithm: the same choices in the same order, but the search carries Newton's form of the
 //! points taken so far, and the count stops where too many have differed.
 
-use super::field::{inverse, mul, mul_add, sub};
+use super::field::{inverse, mul, mul_add, residue, sub};
 use super::fit::{is_sent, multiplied_out, surplus};
 
 pub const NAME: &str = "every choice in order, with Newton's form carried along";
@@ -32,7 +32,7 @@ impl Form {
     /// With one point more: its coefficient is the divided difference over all points taken.
     #[inline(always)]
     fn with(mut self, x: u16, y: u16) -> Form {
-        let (x, mut c) = (u32::from(x), u32::from(y));
+        let (x, mut c) = (residue(x), u32::from(y));
         for k in 0..self.count.min(4) {
             c = mul(sub(c, self.coefficients[k]), inverse(sub(x, self.xs[k])));
         }
@@ -47,7 +47,7 @@ impl Form {
     fn value(&self, x: u16) -> u32 {
         let mut v = 0u32;
         for k in (0..self.count.min(4)).rev() {
-            v = mul_add(sub(u32::from(x), self.xs[k]), v, self.coefficients[k]);
+            v = mul_add(sub(residue(x), self.xs[k]), v, self.coefficients[k]);
         }
         v
     }

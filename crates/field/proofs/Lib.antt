@@ -3,3 +3,4 @@ pub mod Ring
 pub mod Primality
 pub mod Primes
 pub mod Inverse
+mod Slopes

@@ -1,6 +1,10 @@
-// Arithmetic modulo the prime 65,521 on 16-bit numbers. Every function takes any number and answers a residue.
+// Arithmetic modulo the prime 65,521 on 16-bit numbers. Every public function takes any number and answers a residue; the others take
+// residues, 32 bits wide, which a processor handles best.
 ghost use mathlib.Core.Path.{_≡_};
+ghost use Prim.Native.Nat.{_%_, _<_};
+ghost use lib.Dec.{eqb};
 ghost use Rattle.field.specs.Arithmetic.{add, sub, neg, mul, inv};
+ghost use Rattle.field.specs.Differences.{slope, newton};
 ghost use Rattle.field.specs.Modulus.{modulus};
 
 pub const MODULUS: u16 = 65521;
@@ -11,16 +15,22 @@ pub fn add(a: u16, b: u16) -> u16
     ((a as u32 + b as u32) % MODULUS as u32) as u16
 }
 
+// The difference of two residues.
+fn difference(a: u32, b: u32) -> u32
+    requires { ⌜ (a < modulus) × (b < modulus) ⌝ }
+    ensures { λ r. ⌜ (r ≡ sub modulus a b) × (r < modulus) ⌝ }
+{
+    if b <= a {
+        a - b
+    } else {
+        a + (MODULUS as u32 - b)
+    }
+}
+
 pub fn sub(a: u16, b: u16) -> u16
     ensures { λ r. ⌜ r ≡ sub modulus a b ⌝ }
 {
-    let high = a % MODULUS;
-    let low = b % MODULUS;
-    if low <= high {
-        high - low
-    } else {
-        high + (MODULUS - low)
-    }
+    difference((a % MODULUS) as u32, (b % MODULUS) as u32) as u16
 }
 
 pub fn neg(a: u16) -> u16
@@ -29,10 +39,18 @@ pub fn neg(a: u16) -> u16
     (MODULUS - a % MODULUS) % MODULUS
 }
 
+// The product of two numbers of 16 bits, which fits 32 before it is reduced.
+fn product(a: u32, b: u32) -> u32
+    requires { ⌜ (a < 65536) × (b < 65536) ⌝ }
+    ensures { λ r. ⌜ (r ≡ mul modulus a b) × (r < modulus) ⌝ }
+{
+    a * b % MODULUS as u32
+}
+
 pub fn mul(a: u16, b: u16) -> u16
     ensures { λ r. ⌜ r ≡ mul modulus a b ⌝ }
 {
-    (a as u32 * b as u32 % MODULUS as u32) as u16
+    product(a as u32, b as u32) as u16
 }
 
 // c + a b by one reduction: a product of two numbers of 16 bits and a third number still fit 32.
@@ -42,19 +60,90 @@ pub fn mul_add(a: u16, b: u16, c: u16) -> u16
     ((a as u32 * b as u32 + c as u32) % MODULUS as u32) as u16
 }
 
-// The inverse of a, and 0 where a is a multiple of the prime. Throughout the loop a * t is d: each turn puts the
-// remainder of the prime by d, which is smaller, in the place of d.
+// c − a b, likewise.
+pub fn mul_sub(a: u16, b: u16, c: u16) -> u16
+    ensures { λ r. ⌜ r ≡ sub modulus c (mul modulus a b) ⌝ }
+{
+    mul_add(MODULUS - a % MODULUS, b, c)
+}
+
+// Whether y is the residue of v: by a division without remainder, which takes a product where a remainder takes two.
+pub fn reduces_to(v: u64, y: u16) -> bool
+    ensures { λ r. ⌜ r ≡ eqb (v % modulus) y ⌝ }
+{
+    if MODULUS <= y {
+        return false;
+    }
+    if v < y as u64 {
+        return false;
+    }
+    (v - y as u64) % MODULUS as u64 == 0
+}
+
+// The inverse of a residue, and 0 of 0. Throughout the loop a * t is d: each turn puts the remainder of the prime by d, which is
+// smaller, in the place of d.
+fn inverse_of(a: u32) -> u32
+    requires { ⌜ a < modulus ⌝ }
+    ensures { λ r. ⌜ (r ≡ inv modulus a) × (r < modulus) ⌝ }
+{
+    if a == 0 {
+        return 0;
+    }
+    let mut d = a;
+    let mut t: u32 = 1;
+    while 1 < d {
+        t = product(t, MODULUS as u32 - MODULUS as u32 / d);
+        d = MODULUS as u32 % d;
+    }
+    t
+}
+
+// The inverse of a, and 0 where a is a multiple of the prime.
 pub fn inv(a: u16) -> u16
     ensures { λ r. ⌜ r ≡ inv modulus a ⌝ }
 {
-    let mut d = a % MODULUS;
-    if d == 0 {
-        return 0;
+    inverse_of((a % MODULUS) as u32) as u16
+}
+
+// The slope from (x, y) to (z, w). One step on, nothing is divided.
+fn slope_of(x: u32, y: u32, z: u32, w: u32) -> u32
+    requires { ⌜ (x < modulus) × (y < modulus) × (z < modulus) × (w < modulus) ⌝ }
+    ensures { λ r. ⌜ (r ≡ slope modulus x y z w) × (r < modulus) ⌝ }
+{
+    let run = difference(z, x);
+    let rise = difference(w, y);
+    if run == 1 {
+        return rise;
     }
-    let mut t: u16 = 1;
-    while 1 < d {
-        t = mul(t, MODULUS - MODULUS / d);
-        d = MODULUS % d;
-    }
-    t
+    product(rise, inverse_of(run))
+}
+
+// The slope from (x, y) to (z, w); 0 where x and z are one point.
+pub fn slope(x: u16, y: u16, z: u16, w: u16) -> u16
+    ensures { λ r. ⌜ r ≡ slope modulus x y z w ⌝ }
+{
+    slope_of(
+        (x % MODULUS) as u32,
+        (y % MODULUS) as u32,
+        (z % MODULUS) as u32,
+        (w % MODULUS) as u32,
+    ) as u16
+}
+
+// Newton's coefficients for four points: each number is reduced once, and no list is written and read again.
+pub fn divided_differences(xs: [u16; 4], ys: [u16; 4]) -> [u16; 4]
+    ensures { λ r. ⌜ r ≡ newton modulus xs ys ⌝ }
+{
+    let x0 = (xs[0] % MODULUS) as u32;
+    let x1 = (xs[1] % MODULUS) as u32;
+    let x2 = (xs[2] % MODULUS) as u32;
+    let x3 = (xs[3] % MODULUS) as u32;
+    let y0 = (ys[0] % MODULUS) as u32;
+    let y1 = (ys[1] % MODULUS) as u32;
+    let y2 = (ys[2] % MODULUS) as u32;
+    let y3 = (ys[3] % MODULUS) as u32;
+    let b = slope_of(x0, y0, x1, y1);
+    let c = slope_of(x1, b, x2, slope_of(x0, y0, x2, y2));
+    let d = slope_of(x2, c, x3, slope_of(x1, b, x3, slope_of(x0, y0, x3, y3)));
+    [ys[0], b as u16, c as u16, d as u16]
 }

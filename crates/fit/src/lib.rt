@@ -134,10 +134,12 @@ fn by_pairs(xs: &[u16], ys: &[u16], need: usize, sent: usize) -> Fitted
     let mut px = [0u16; 10];
     let mut py = [0u16; 10];
     first_ten(xs, ys, &mut px, &mut py);
+    let firsts = FIRST_PAIRS;
+    let seconds = SECOND_PAIRS;
     let mut k = 0;
     while k < 9 {
-        let a = FIRST_PAIRS[k];
-        let b = SECOND_PAIRS[k];
+        let a = firsts[k];
+        let b = seconds[k];
         let fitted = test_pairs(xs, ys, need, &px, &py, a, b);
         if fitted.found {
             return trial::copied(fitted);

@@ -1,21 +1,9 @@
 // Interpolation after Newton, in the place of the values.
 ghost use mathlib.Core.Path.{_≡_};
 ghost use lib.ListN.{length};
-ghost use Rattle.field.specs.Arithmetic.{sub, mul, inv};
+ghost use Rattle.field.specs.Differences.{slopes, newton};
 ghost use Rattle.field.specs.Modulus.{modulus};
-ghost use Rattle.interpolation.specs.Interpolation.{slopes, newton, raise, expand, interpolateIn};
-
-// The slope from (x, y) to (z, w). One step on, nothing is divided.
-fn slope(x: u16, y: u16, z: u16, w: u16) -> u16
-    ensures { λ r. ⌜ r ≡ mul modulus (sub modulus w y) (inv modulus (sub modulus z x)) ⌝ }
-{
-    let run = field::sub(z, x);
-    let rise = field::sub(w, y);
-    if run == 1 {
-        return rise;
-    }
-    field::mul(rise, field::inv(run))
-}
+ghost use Rattle.interpolation.specs.Interpolation.{raise, expand, interpolate, interpolateIn};
 
 // The slopes from (x, y) to the points, in the place of their values.
 fn slopes(x: u16, y: u16, xs: &[u16], ys: &mut [u16])
@@ -24,7 +12,7 @@ fn slopes(x: u16, y: u16, xs: &[u16], ys: &mut [u16])
 {
     let mut i = 0;
     while i < xs.len() {
-        ys[i] = slope(x, y, xs[i], ys[i]);
+        ys[i] = field::slope(x, y, xs[i], ys[i]);
         i += 1;
     }
 }
@@ -48,10 +36,9 @@ fn raise(x: u16, ys: &mut [u16])
     ensures { λ r. ⌜ now (ys .exit) ≡ raise modulus x (now (ys .entry)) ⌝ }
 {
     let n = ys.len();
-    let minus = field::neg(x);
     let mut i = 0;
     while i + 1 < n {
-        ys[i] = field::mul_add(minus, ys[i + 1], ys[i]);
+        ys[i] = field::mul_sub(x, ys[i + 1], ys[i]);
         i += 1;
     }
 }
@@ -76,4 +63,19 @@ pub fn interpolate(xs: &[u16], ys: &mut [u16])
         newton(xs, ys);
         expand(xs, ys);
     }
+}
+
+// The cubic through four points: a + (X − x₀)(b + (X − x₁)(c + (X − x₂) d)), multiplied out from the inside.
+pub fn cubic(x: [u16; 4], y: [u16; 4]) -> [u16; 4]
+    ensures { λ r. ⌜ r ≡ interpolate modulus x y ⌝ }
+{
+    let f = field::divided_differences(x, y);
+    let d = f[3];
+    let c = field::mul_sub(x[2], d, f[2]);
+    let b = field::mul_sub(x[1], c, f[1]);
+    let e = field::mul_sub(x[1], d, c);
+    let constant = field::mul_sub(x[0], b, f[0]);
+    let linear = field::mul_sub(x[0], e, b);
+    let square = field::mul_sub(x[0], d, e);
+    [constant, linear, square, d]
 }

@@ -1,6 +1,7 @@
 // Polynomials modulo the field's prime: lists of coefficients, the constant first.
 ghost use mathlib.Core.Path.{_≡_};
 ghost use mathlib.Core.List.{[], _∷_};
+ghost use lib.Dec.{eqb};
 ghost use Rattle.field.specs.Modulus.{modulus};
 ghost use Rattle.polynomial.specs.Polynomial.{residues, absent, points, value};
 
@@ -73,13 +74,13 @@ pub fn value(f: &[u16], x: u16) -> u16
     v
 }
 
-// a + b x + c x² + d x³: Horner's rule for four coefficients, without a loop and by one reduction. Products of four numbers of 16
-// bits, and what is added to them, still fit 64.
-pub fn cubic(a: u16, b: u16, c: u16, d: u16, x: u16) -> u16
-    ensures { λ r. ⌜ r ≡ value modulus (a ∷ b ∷ c ∷ d ∷ []) x ⌝ }
+// Whether y is a + b x + c x² + d x³: Horner's rule for four coefficients, without a loop and unreduced. Products of four numbers of
+// 16 bits, and what is added to them, still fit 64.
+pub fn is_value(a: u16, b: u16, c: u16, d: u16, x: u16, y: u16) -> bool
+    ensures { λ r. ⌜ r ≡ eqb (value modulus (a ∷ b ∷ c ∷ d ∷ []) x) y ⌝ }
 {
     let by = x as u64;
     let high = by * d as u64 + c as u64;
     let middle = by * high + b as u64;
-    ((by * middle + a as u64) % field::MODULUS as u64) as u16
+    field::reduces_to(by * middle + a as u64, y)
 }

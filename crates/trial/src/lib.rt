@@ -65,7 +65,7 @@ fn enough(a: u16, b: u16, c: u16, d: u16, xs: &[u16], ys: &[u16], need: usize) -
     let mut slack = i - need;
     while 0 < i {
         i -= 1;
-        if polynomial::cubic(a, b, c, d, xs[i]) != ys[i] {
+        if !polynomial::is_value(a, b, c, d, xs[i], ys[i]) {
             if slack == 0 {
                 return false;
             }
@@ -94,8 +94,8 @@ pub fn four(xs: &[u16], ys: &[u16], need: usize, cx: [u16; 4], cy: [u16; 4]) -> 
     if xs.len() != ys.len() {
         return nothing();
     }
-    let mut f = cy;
-    let passed = test(xs, ys, need, 4, &cx, &mut f);
+    let f = interpolation::cubic(cx, cy);
+    let passed = enough(f[0], f[1], f[2], f[3], xs, ys, need);
     given(passed, f)
 }
 
@@ -172,7 +172,9 @@ fn search(
         return copied(straight(xs, ys, need, i, more, c, cx, cy));
     }
     if more == 0 {
-        return copied(straight(xs, ys, need, i, 0, c, cx, cy));
+        let mut f = cy;
+        let passed = test(xs, ys, need, c, &cx, &mut f);
+        return given(passed, f);
     }
     if xs.len() <= i {
         return nothing();

@@ -1,23 +1,26 @@
--- `field::sub` meets its contract: the modulus is added where b is the larger.
-use native.Mathlib.Omega.{arith}
-use Rattle.field.specs.Arithmetic.{sub}
+-- `field::sub` meets its contract: the difference of the residues is that of the numbers.
+use mathlib.Core.Path.{_∙_}
+use Rattle.field.specs.Modulus.{modulus}
+use Rattle.field.proofs.Slopes.{sub-mod}
 use borrow.Author.Needs.{needs}
 use Rattle.field.proofs.sub.Statement.{statement}
 use Rattle.field.proofs.sub.Tie as tie
 
-sub-result : tie.Need-sub-result
-sub-result c = search needs
+cast-difference : tie.Need-cast-difference
+cast-difference c = search needs
 
-add-result : tie.Need-add-result
-add-result c = search needs
+cast-difference-2 : tie.Need-cast-difference-2
+cast-difference-2 c = search needs
+
+difference-requires : tie.Need-difference-requires
+difference-requires c κs = search needs
+
+cast-result : tie.Need-cast-result
+cast-result c = search needs
 
 returns : tie.Need-returns
-unfolding sub
-returns c = omega arith
-
-returns-2 : tie.Need-returns-2
-unfolding sub
-returns-2 c = omega arith
+returns c = c .difference .ensures .0 ∙ sub-mod modulus _ _
 
 pub sub-spec : {M : Type 1} → statement M
-sub-spec = tie.close (tie.spec sub-result add-result returns returns-2)
+sub-spec =
+    tie.close (tie.spec cast-difference cast-difference-2 difference-requires cast-result returns)

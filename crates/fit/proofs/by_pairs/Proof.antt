@@ -11,10 +11,10 @@ use Rattle.fit.proofs.by_pairs.Statement.{statement}
 use Rattle.fit.proofs.by_pairs.Tie as tie
 
 abbrev Inv-loop : tie.InvT-loop
-Inv-loop xs ys need sent px py k₀ k = Trying modulus need xs ys px py k
+Inv-loop xs ys need sent px py firsts seconds k₀ k = Trying modulus need xs ys px py k
 
 abbrev μ-loop : tie.MeasureT-loop
-μ-loop xs ys need sent px py k₀ k = 9 - k
+μ-loop xs ys need sent px py firsts seconds k₀ k = 9 - k
 
 slice-aggregate-first-ten : tie.Need-slice-aggregate-first-ten Inv-loop μ-loop
 slice-aggregate-first-ten c = search needs

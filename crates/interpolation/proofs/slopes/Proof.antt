@@ -5,12 +5,12 @@ use Rattle.field.specs.Modulus.{modulus}
 use Rattle.lists.proofs.InPlace.{Zipping, zip-start, zip-next, zip-end}
 use Prim.Native.Nat.{_-_}
 use lib.ListN.{length}
-use Rattle.field.specs.Arithmetic.{sub, mul, inv}
+use Rattle.field.specs.Differences.{slope}
 use Rattle.interpolation.proofs.slopes.Statement.{statement}
 use Rattle.interpolation.proofs.slopes.Tie as tie
 
 abbrev Inv-loop : tie.InvT-loop
-Inv-loop x y xs ys₀ i₀ ys i = Zipping (λ z w. mul modulus (sub modulus w y) (inv modulus (sub modulus z x))) xs ys₀ ys i
+Inv-loop x y xs ys₀ i₀ ys i = Zipping (slope modulus x y) xs ys₀ ys i
 
 abbrev μ-loop : tie.MeasureT-loop
 μ-loop x y xs ys₀ i₀ ys i = length xs - i

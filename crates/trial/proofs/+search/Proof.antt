@@ -1,4 +1,5 @@
 -- `trial::search` meets its contract. Its measure is the number of points from place i on; each answer is one law of proofs/Arrays.
+-- The parameter cx, which is lent on, is called t8 here.
 use mathlib.Core.Path.{_≡_, refl, sym, ap, _∙_}
 use Prim.Native.Nat.{ℕ, _-_, _<_}
 use native.Mathlib.Nat.{pos-of-ne-zero}
@@ -17,6 +18,8 @@ use Rattle.trial.proofs.+search.Lts-search as search-lts
 use Rattle.trial.proofs.copied.Reads as copied-reads
 use Rattle.trial.proofs.nothing.Reads as nothing-reads
 use Rattle.trial.proofs.straight.Reads as straight-reads
+use Rattle.trial.proofs.test.Reads as test-reads
+use Rattle.trial.proofs.given.Reads as given-reads
 use Rattle.trial.proofs.+search.{statement}
 use Rattle.trial.proofs.+search.Tie.{close}
 
@@ -32,22 +35,22 @@ search-below t = and 2 search-kinds.ps (falls 2 search-kinds.ps _<_ μ-search t)
 -- What the callees are known by.
 abbrev claims : ℕ → search-lts.Claims
 claims t =
-    (straight-reads.Asked, straight-reads.Learnt, copied-reads.Asked, copied-reads.Learnt, nothing-reads.Asked, nothing-reads.Learnt, search-below t, search′.Post)
+    (straight-reads.Asked, straight-reads.Learnt, copied-reads.Asked, copied-reads.Learnt, test-reads.Asked, test-reads.Learnt, given-reads.Asked, given-reads.Learnt, nothing-reads.Asked, nothing-reads.Learnt, search-below t, search′.Post)
 
 -- The arrays hold four numbers each.
-sizes : (t : ℕ) (s : search-lts.Start (claims t) (search-at t) search′.Post) → (length (s .args .cx) ≡ 4) × (length (s .args .cy) ≡ 4)
+sizes : (t : ℕ) (s : search-lts.Start (claims t) (search-at t) search′.Post) → (length (s .args .t8) ≡ 4) × (length (s .args .cy) ≡ 4)
 sizes t s = (omega arith, omega arith)
 
 -- The call that takes the point has answered.
 taken : (t : ℕ) (a : search-lts.After-search2 (claims t) (search-at t) search′.Post)
     → let s = a .before .before .before .before .before .before .before .before .before .args in
-    Branches modulus (s .need) (s .xs .now) (s .ys .now) (s .i) (s .c) (s .cx) (s .cy) (s .more) (s .spare) (a .search2 .result)
+    Branches modulus (s .need) (s .xs .now) (s .ys .now) (s .i) (s .c) (s .t8) (s .cy) (s .more) (s .spare) (a .search2 .result)
 taken t a =
     let tested = a .before .before .before .before in
     let s = tested .before .before .before .before .before in
     let l = sizes t s in
     let more = tested .before .if2 .left in
-    branches modulus (s .args .need) (s .args .xs .now) (s .args .ys .now) (s .args .i) (s .args .c) (s .args .cx) (s .args .cy)
+    branches modulus (s .args .need) (s .args .xs .now) (s .args .ys .now) (s .args .i) (s .args .c) (s .args .t8) (s .args .cy)
     (s .args .more) (s .args .spare) _ (s .pre .1 .sizes) (tested .if3 .left) (omega (arith, s .pre .1 .room, pos-of-ne-zero more))
     (l .0) (l .1) more (tested .before .before .if1 .left) (a .before .before .if4 .left) (a .search2 .ensures)
 
@@ -63,23 +66,30 @@ module _ (t : ℕ) where
       let s = c .before .before .before .before .before .args in
       c .copied .ensures
       ∙ c .before .straight .ensures
-      ∙ ap (λ n. answer (found modulus (s .need) (s .xs .now) (s .ys .now) (s .more) n (take (s .c) (s .cx)) (take (s .c) (s .cy)) (s .i)))
+      ∙ ap (λ n. answer (found modulus (s .need) (s .xs .now) (s .ys .now) (s .more) n (take (s .c) (s .t8)) (take (s .c) (s .cy)) (s .i)))
       (sym (c .before .before .if1 .taken))
 
-  straight-requires-2 : search-lts.Need-straight-requires-2 (claims t) (search-at t) search′.Post
-  straight-requires-2 c κs =
-      let k = c .before .before .before .before .pre .1 in
-      record { sizes = k .sizes; room = omega (arith, k .room); zeros = k .zeros }
+  slice-aggregate-test : search-lts.Need-slice-aggregate-test (claims t) (search-at t) search′.Post
+  slice-aggregate-test c = search needs
 
-  copied-requires-2 : search-lts.Need-copied-requires-2 (claims t) (search-at t) search′.Post
-  copied-requires-2 c κs = search needs
+  slice-aggregate-test-2 : search-lts.Need-slice-aggregate-test-2 (claims t) (search-at t) search′.Post
+  slice-aggregate-test-2 c = search needs
+
+  test-requires : search-lts.Need-test-requires (claims t) (search-at t) search′.Post
+  test-requires c κs =
+      let s = c .before .before .before .before .before .before in
+      let k = s .pre .1 in
+      let l = sizes t s in
+      (k .sizes, ((omega (arith, k .room), l .0, l .1), k .zeros))
+
+  given-requires : search-lts.Need-given-requires (claims t) (search-at t) search′.Post
+  given-requires c κs = search needs
 
   returns-2 : search-lts.Need-returns-2 (claims t) (search-at t) search′.Post
   returns-2 c =
-      let s = c .before .before .before .before .before .before .args in
-      c .copied2 .ensures
-      ∙ c .before .straight2 .ensures
-      ∙ ap answer (sym (found-one modulus _ _ _ 0 0 _ _ (s .i) refl) ∙ found-one modulus _ _ _ _ _ _ _ (s .i) (c .before .before .if2 .taken))
+      let tested = c .before .before in
+      let last = tested .before .before .before in
+      c .given .ensures ∙ tested .test .ensures ∙ ap answer (found-one modulus _ _ _ _ _ _ _ (last .before .before .before .before .args .i) (last .if2 .taken))
 
   nothing-requires : search-lts.Need-nothing-requires (claims t) (search-at t) search′.Post
   nothing-requires c κs = search needs
@@ -103,13 +113,13 @@ module _ (t : ℕ) where
       let s = c .before .before .before .before .before .before .before in
       (omega arith, record { sizes = s .pre .1 .sizes; room = omega arith; zeros = s .pre .1 .zeros })
 
-  copied-requires-3 : search-lts.Need-copied-requires-3 (claims t) (search-at t) search′.Post
-  copied-requires-3 c κs = search needs
+  copied-requires-2 : search-lts.Need-copied-requires-2 (claims t) (search-at t) search′.Post
+  copied-requires-2 c κs = search needs
 
   returns-4 : search-lts.Need-returns-4 (claims t) (search-at t) search′.Post
   returns-4 c =
       let s = c .before .before .before .before .before .before .before .before .before in
-      c .copied3 .ensures
+      c .copied2 .ensures
       ∙ c .before .search .ensures
       ∙ ap answer (found-unsent modulus _ _ _ (omega arith) (s .args .i) (omega arith) _ _ _ _ (c .before .before .if4 .taken))
 
@@ -146,11 +156,11 @@ module _ (t : ℕ) where
       let zeros = zeros-next (s .args .c) _ (s .args .cy) (omega arith) (sizes t s .1) (s .pre .1 .zeros) in
       (omega arith, record { sizes = s .pre .1 .sizes; room = omega arith; zeros = zeros })
 
-  copied-requires-4 : search-lts.Need-copied-requires-4 (claims t) (search-at t) search′.Post
-  copied-requires-4 c κs = search needs
+  copied-requires-3 : search-lts.Need-copied-requires-3 (claims t) (search-at t) search′.Post
+  copied-requires-3 c κs = search needs
 
   returns-5 : search-lts.Need-returns-5 (claims t) (search-at t) search′.Post
-  returns-5 c = c .copied4 .ensures ∙ taken t (c .before .before) .with-it (c .before .if5 .taken)
+  returns-5 c = c .copied3 .ensures ∙ taken t (c .before .before) .with-it (c .before .if5 .taken)
 
   add-search-4 : search-lts.Need-add-search-4 (claims t) (search-at t) search′.Post
   add-search-4 c = search needs
@@ -163,12 +173,12 @@ module _ (t : ℕ) where
       let s = c .before .before .before .before .before .before .before .before .before .before in
       (omega arith, record { sizes = s .pre .1 .sizes; room = omega arith; zeros = s .pre .1 .zeros })
 
-  copied-requires-5 : search-lts.Need-copied-requires-5 (claims t) (search-at t) search′.Post
-  copied-requires-5 c κs = search needs
+  copied-requires-4 : search-lts.Need-copied-requires-4 (claims t) (search-at t) search′.Post
+  copied-requires-4 c κs = search needs
 
   returns-6 : search-lts.Need-returns-6 (claims t) (search-at t) search′.Post
   returns-6 c =
-      c .copied5 .ensures ∙ c .before .search3 .ensures ∙ taken t (c .before .before .before) .without-it (c .before .before .if5 .left)
+      c .copied4 .ensures ∙ c .before .search3 .ensures ∙ taken t (c .before .before .before) .without-it (c .before .before .if5 .left)
 
 pub +search-spec : {M : Type 1} → statement M
 +search-spec = close μ-search λ t. search-lts.spec (claims t)
@@ -177,8 +187,10 @@ pub +search-spec : {M : Type 1} → statement M
     (straight-requires t)
     (copied-requires t)
     (returns t)
-    (straight-requires-2 t)
-    (copied-requires-2 t)
+    (slice-aggregate-test t)
+    (slice-aggregate-test-2 t)
+    (test-requires t)
+    (given-requires t)
     (returns-2 t)
     (nothing-requires t)
     (returns-3 t)
@@ -186,7 +198,7 @@ pub +search-spec : {M : Type 1} → statement M
     (shared-slice-read-y t)
     (add-search t)
     (search-requires t)
-    (copied-requires-3 t)
+    (copied-requires-2 t)
     (returns-4 t)
     (mul-dx t)
     (shared-slice-read-dx t)
@@ -198,10 +210,10 @@ pub +search-spec : {M : Type 1} → statement M
     (sub-search t)
     (add-search-3 t)
     (search-requires-2 t)
-    (copied-requires-4 t)
+    (copied-requires-3 t)
     (returns-5 t)
     (add-search-4 t)
     (sub-search-2 t)
     (search-requires-3 t)
-    (copied-requires-5 t)
+    (copied-requires-4 t)
     (returns-6 t)

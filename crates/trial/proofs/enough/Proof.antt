@@ -3,6 +3,7 @@ use mathlib.Core.Path.{sym, _∙_}
 use mathlib.Core.List.{[], _∷_}
 use native.Mathlib.Omega.{arith}
 use borrow.Author.Needs.{needs}
+use borrow.Author.Tests.{not-true, not-false}
 use Rattle.field.specs.Modulus.{modulus}
 use Rattle.trial.proofs.Counting.{Slack, too-few, slack-start, slack-hit, slack-miss, slack-few, slack-end}
 use Rattle.trial.proofs.enough.Statement.{statement}
@@ -23,27 +24,27 @@ loop-holds c = slack-start modulus _ _ _ _ (omega arith)
 sub-i : tie.Need-sub-i Inv-loop μ-loop
 sub-i c = search needs
 
-mul-cubic : tie.Need-mul-cubic Inv-loop μ-loop
-mul-cubic c = search needs
+mul-is-value : tie.Need-mul-is-value Inv-loop μ-loop
+mul-is-value c = search needs
 
-shared-slice-read-cubic : tie.Need-shared-slice-read-cubic Inv-loop μ-loop
-shared-slice-read-cubic c = search needs
+shared-slice-read-is-value : tie.Need-shared-slice-read-is-value Inv-loop μ-loop
+shared-slice-read-is-value c = search needs
 
-cubic-requires : tie.Need-cubic-requires Inv-loop μ-loop
-cubic-requires c κs = search needs
+mul-is-value-2 : tie.Need-mul-is-value-2 Inv-loop μ-loop
+mul-is-value-2 c = search needs
 
-mul-if2 : tie.Need-mul-if2 Inv-loop μ-loop
-mul-if2 c = search needs
+shared-slice-read-is-value-2 : tie.Need-shared-slice-read-is-value-2 Inv-loop μ-loop
+shared-slice-read-is-value-2 c = search needs
 
-shared-slice-read-if2 : tie.Need-shared-slice-read-if2 Inv-loop μ-loop
-shared-slice-read-if2 c = search needs
+is-value-requires : tie.Need-is-value-requires Inv-loop μ-loop
+is-value-requires c κs = search needs
 
 returns-2 : tie.Need-returns-2 Inv-loop μ-loop
 returns-2 c =
-    let v = c .before .before .before in
-    let k = v .before .before .before .loop in
+    let v = c .before .before in
+    let k = v .before .before .before .before .loop in
     slack-few modulus _ _ _ _ (k .i) (k .slack) (omega arith) (omega arith) (k .inv)
-    (λ e. c .before .if2 .taken (v .cubic .ensures ∙ e)) (c .if3 .taken)
+    (sym (v .is-value .ensures) ∙ not-true _ (c .before .if2 .taken)) (c .if3 .taken)
 
 sub-slack : tie.Need-sub-slack Inv-loop μ-loop
 sub-slack c = search needs
@@ -53,19 +54,19 @@ loop-less c = search needs
 
 loop-again : tie.Need-loop-again Inv-loop μ-loop
 loop-again c =
-    let v = c .before .before .before in
-    let k = v .before .before .before .loop in
+    let v = c .before .before in
+    let k = v .before .before .before .before .loop in
     slack-miss modulus _ _ _ _ (k .i) (k .slack) (omega arith) (omega arith) (k .inv)
-    (λ e. c .before .if2 .taken (v .cubic .ensures ∙ e)) (c .if3 .left)
+    (sym (v .is-value .ensures) ∙ not-true _ (c .before .if2 .taken)) (c .if3 .left)
 
 loop-less-2 : tie.Need-loop-less-2 Inv-loop μ-loop
 loop-less-2 c = search needs
 
 loop-again-2 : tie.Need-loop-again-2 Inv-loop μ-loop
 loop-again-2 c =
-    let v = c .before .before in
-    let k = v .before .before .before .loop in
-    slack-hit modulus _ _ _ _ (k .i) (k .slack) (omega arith) (omega arith) (k .inv) (sym (v .cubic .ensures) ∙ c .if2 .left)
+    let v = c .before in
+    let k = v .before .before .before .before .loop in
+    slack-hit modulus _ _ _ _ (k .i) (k .slack) (omega arith) (omega arith) (k .inv) (sym (v .is-value .ensures) ∙ not-false _ (c .if2 .left))
 
 returns-3 : tie.Need-returns-3 Inv-loop μ-loop
 returns-3 c = slack-end modulus _ _ _ _ _ _ (omega arith) (c .before .loop .inv)
@@ -79,11 +80,11 @@ enough-spec =
     returns
     loop-holds
     sub-i
-    mul-cubic
-    shared-slice-read-cubic
-    cubic-requires
-    mul-if2
-    shared-slice-read-if2
+    mul-is-value
+    shared-slice-read-is-value
+    mul-is-value-2
+    shared-slice-read-is-value-2
+    is-value-requires
     returns-2
     sub-slack
     loop-less

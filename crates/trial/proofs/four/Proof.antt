@@ -1,15 +1,10 @@
--- `trial::four` meets its contract: what `test` says of four points. The parameter cx, which is lent on, is called t4 here.
-use mathlib.Core.Path.{ap₂, _∙_}
-use mathlib.Core.List.{[], _∷_}
+-- `trial::four` meets its contract: the cubic through the four points, if it passes.
+use mathlib.Core.Path.{_∙_}
 use native.Mathlib.Omega.{arith}
-use borrow.Author.Needs.{needs}
-use lib.Seq.{take-all}
-use Rattle.lists.proofs.InPlace.{drop-end}
 use Rattle.field.specs.Modulus.{modulus}
-use Rattle.interpolation.specs.Interpolation.{interpolate}
-use Rattle.trial.specs.Trial.{firstFitting}
-use Rattle.trial.specs.Answer.{answer}
 use Rattle.trial.proofs.Answers.{four-uneven, four-within}
+use Rattle.trial.proofs.Arrays.{four-given}
+use borrow.Author.Needs.{needs}
 use Rattle.trial.proofs.four.Statement.{statement}
 use Rattle.trial.proofs.four.Tie as tie
 
@@ -19,30 +14,47 @@ nothing-requires c κs = search needs
 returns : tie.Need-returns
 returns c = c .nothing .ensures ∙ four-uneven _ _ _ _ _ (c .before .if1 .taken)
 
-slice-aggregate-test : tie.Need-slice-aggregate-test
-slice-aggregate-test c = search needs
+cubic-requires : tie.Need-cubic-requires
+cubic-requires c κs = search needs
 
-slice-aggregate-test-2 : tie.Need-slice-aggregate-test-2
-slice-aggregate-test-2 c = search needs
+array-read-enough : tie.Need-array-read-enough
+array-read-enough c = search needs
 
-test-requires : tie.Need-test-requires
-test-requires c κs =
-    let s = c .before .before .before .before .before .args in
-    (c .before .before .if1 .left, ((omega arith, omega arith, omega arith), drop-end (s .cy) 4 (omega arith)))
+array-read-enough-2 : tie.Need-array-read-enough-2
+array-read-enough-2 c = search needs
+
+array-read-enough-3 : tie.Need-array-read-enough-3
+array-read-enough-3 c = search needs
+
+array-read-enough-4 : tie.Need-array-read-enough-4
+array-read-enough-4 c = search needs
+
+enough-requires : tie.Need-enough-requires
+enough-requires c κs = search needs
 
 given-requires : tie.Need-given-requires
 given-requires c κs = search needs
 
 returns-2 : tie.Need-returns-2
 returns-2 c =
-    let tested = c .before .before in
-    let s = tested .before .before .before .before .before .before .args in
+    let counted = c .before in
+    let f = counted .before in
+    let s = f .before .before .before .before .args in
     c .given .ensures
-    ∙ tested .test .ensures
-    ∙ ap₂ (λ u v. answer (firstFitting modulus (s .need) (s .xs .now) (s .ys .now) (interpolate modulus u v ∷ [])))
-    (take-all 4 (s .t4) (omega arith)) (take-all 4 (s .cy) (omega arith))
-    ∙ four-within _ _ _ _ _ (tested .before .before .before .if1 .left)
+    ∙ four-given modulus (s .need) (s .xs .now) (s .ys .now) (s .cx) (s .cy) (f .cubic .result) (omega arith) (f .cubic .ensures) _ (counted .enough .ensures)
+    ∙ four-within _ _ _ _ _ (f .before .if1 .left)
 
 pub four-spec : {M : Type 1} → statement M
 four-spec =
-    tie.close (tie.spec nothing-requires returns slice-aggregate-test slice-aggregate-test-2 test-requires given-requires returns-2)
+    tie.close
+    (tie.spec
+    nothing-requires
+    returns
+    cubic-requires
+    array-read-enough
+    array-read-enough-2
+    array-read-enough-3
+    array-read-enough-4
+    enough-requires
+    given-requires
+    returns-2)

@@ -46,8 +46,8 @@ returns : tie.Need-returns
 returns c =
     let i = c .before .before .before .before .before .before .before in
     let s = i .before .before .before .before .before .before .before in
-    test-given modulus (s .args .c) (s .args .cx .now) (s .args .f .now) _ (s .pre .1 .0 .0) (s .pre .1 .0 .1) (s .pre .1 .0 .2)
-    (i .interpolate .ensures) (s .args .need) _ _ (s .pre .1 .1) _ (c .enough .ensures)
+    test-given modulus (s .args .need) _ _ (s .args .c) (s .args .cx .now) (s .args .f .now) _ (s .pre .1 .0 .0) (s .pre .1 .0 .1) (s .pre .1 .0 .2)
+    (i .interpolate .ensures) (s .pre .1 .1) _ (c .enough .ensures)
 
 pub test-spec : {M : Type 1} → statement M
 test-spec =

@@ -1,16 +1,17 @@
--- `polynomial::cubic` meets its contract: each step is one of Horner's, reduced or not, and no step leaves 64 bits.
+-- `polynomial::is_value` meets its contract: each step is one of Horner's, reduced or not, and no step leaves 64 bits.
 use mathlib.Core.Path.{_≡_, refl, sym, ap, _∙_}
 use Prim.Native.Nat.{ℕ, _+_, _*_, _%_, _≤_}
 use native.Mathlib.Nat.{mul-le-mul, add-mod-mod}
 use native.Mathlib.Omega.{arith}
+use lib.Dec.{eqb}
 use Rattle.field.specs.Arithmetic.{add, mul}
 use Rattle.field.specs.Modulus.{modulus}
 use Rattle.field.proofs.Ring.{add-residue}
 use Rattle.field.proofs.Remainders.{mul-mod-mod}
 use Rattle.polynomial.proofs.Division.{value-cubic}
 use borrow.Author.Needs.{needs}
-use Rattle.polynomial.proofs.cubic.Statement.{statement}
-use Rattle.polynomial.proofs.cubic.Tie as tie
+use Rattle.polynomial.proofs.is_value.Statement.{statement}
+use Rattle.polynomial.proofs.is_value.Tie as tie
 
 -- A step of Horner's rule whose value so far is not reduced.
 step : (p x w v c : ℕ) → w % p ≡ v % p → (x * w + c) % p ≡ add p c (mul p x v)
@@ -51,35 +52,30 @@ mul-middle c = omega (arith, middle-le c)
 add-middle : tie.Need-add-middle
 add-middle c = omega (arith, middle-le c)
 
-mul-result : tie.Need-mul-result
-mul-result c = omega (arith, all-le c)
+mul-reduces-to : tie.Need-mul-reduces-to
+mul-reduces-to c = omega (arith, all-le c)
 
-add-result : tie.Need-add-result
-add-result c = omega (arith, all-le c)
+add-reduces-to : tie.Need-add-reduces-to
+add-reduces-to c = omega (arith, all-le c)
 
-cast-result : tie.Need-cast-result
-cast-result c = search needs
-
-rem-result : tie.Need-rem-result
-rem-result c = search needs
-
-cast-result-2 : tie.Need-cast-result-2
-cast-result-2 c = search needs
+reduces-to-requires : tie.Need-reduces-to-requires
+reduces-to-requires c κs = search needs
 
 returns : tie.Need-returns
-returns c = let s = c .args in steps modulus (s .a) (s .b) (s .c) (s .d) (s .x) ∙ value-cubic modulus (s .a) (s .b) (s .c) (s .d) (s .x)
+returns c =
+    let s = c .before .args in
+    c .reduces-to .ensures
+    ∙ ap (λ v. eqb v (s .y)) (steps modulus (s .a) (s .b) (s .c) (s .d) (s .x) ∙ value-cubic modulus (s .a) (s .b) (s .c) (s .d) (s .x))
 
-pub cubic-spec : {M : Type 1} → statement M
-cubic-spec =
+pub is-value-spec : {M : Type 1} → statement M
+is-value-spec =
     tie.close
     (tie.spec
     mul-high
     add-high
     mul-middle
     add-middle
-    mul-result
-    add-result
-    cast-result
-    rem-result
-    cast-result-2
+    mul-reduces-to
+    add-reduces-to
+    reduces-to-requires
     returns)

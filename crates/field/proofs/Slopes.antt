@@ -1,0 +1,71 @@
+-- Slopes: they are residues, they depend on residues alone, and a run of 1 divides nothing.
+use mathlib.Core.Path.{_≡_, refl, sym, ap, ap₂, _∙_}
+use mathlib.Core.List.{List, [], _∷_, zipWith}
+use Prim.Native.Nat.{ℕ, _%_, _-_, _<_}
+use native.Mathlib.Nat.{mod-eq-of-lt, mod-mod}
+use native.Mathlib.Omega.{arith}
+use lib.ListN.{length, getD}
+use Rattle.lists.proofs.Padded.{four}
+use Rattle.field.specs.Arithmetic.{add, sub, neg, mul, inv, invWithin}
+use Rattle.field.specs.Differences.{slope, newton}
+use Rattle.field.specs.Modulus.{modulus}
+use Rattle.field.proofs.Remainders.{mod-mul-mod, remainders}
+use Rattle.field.proofs.Ring.{add-mul-neg, mul-one, mul-lt, sub-lt}
+
+-- ---- reduced numbers
+module _ (p : ℕ) where
+  pub sub-mod : (a b : ℕ) → sub p (a % p) (b % p) ≡ sub p a b
+  unfolding sub
+  sub-mod a b = simp (mod-mod, remainders)
+
+  pub inv-mod : (a : ℕ) → inv p (a % p) ≡ inv p a
+  unfolding inv
+  inv-mod a = simp mod-mod
+
+  -- A product is taken away by what is left of p besides a factor.
+  pub mul-rest : (a b c : ℕ) → 0 < p → add p c (mul p (p - a % p) b) ≡ sub p c (mul p a b)
+  unfolding mul neg
+  mul-rest a b c positive = ap (add p c) (sym (mod-mul-mod (p - a % p) b p)) ∙ add-mul-neg p c a b positive
+
+  slope-at : (x y z w : ℕ) → slope p (x % p) y (z % p) w ≡ slope p x y z w
+  slope-at x y z w = ap (λ (u : ℕ). mul p (sub p w y) (inv p u)) (sub-mod z x)
+
+  pub slope-mod : (x y z w : ℕ) → slope p (x % p) (y % p) (z % p) (w % p) ≡ slope p x y z w
+  slope-mod x y z w = slope-at x (y % p) z (w % p) ∙ ap (λ (u : ℕ). mul p u (inv p (sub p z x))) (sub-mod w y)
+
+-- ---- a run of 1
+inv-one : inv modulus 1 ≡ 1
+unfolding inv invWithin
+inv-one = refl
+
+pub undivided : (w y u : ℕ) → u ≡ 1 → sub modulus w y ≡ mul modulus (sub modulus w y) (inv modulus u)
+undivided w y u e =
+    sym (ap (λ (z : ℕ). mul modulus (sub modulus w y) (inv modulus z)) e
+    ∙ ap (mul modulus (sub modulus w y)) inv-one
+    ∙ mul-one modulus (sub modulus w y)
+    ∙ mod-eq-of-lt (sub-lt modulus w y (omega arith)))
+
+-- ---- four points: the divided differences of residues are those of the numbers
+module _ (p : ℕ) (xs ys : List ℕ) (lx : length xs ≡ 4) (ly : length ys ≡ 4) where
+  abbrev x : ℕ → ℕ
+  x i = getD xs i 0
+
+  abbrev y : ℕ → ℕ
+  y i = getD ys i 0
+
+  -- From the first point to another.
+  abbrev first : ℕ → ℕ
+  first i = slope p (x 0 % p) (y 0 % p) (x i % p) (y i % p)
+
+  pub newton-four : (b c₁ c d₁ d₂ d : ℕ) → b ≡ first 1
+      → c₁ ≡ first 2 → c ≡ slope p (x 1 % p) b (x 2 % p) c₁
+      → d₁ ≡ first 3 → d₂ ≡ slope p (x 1 % p) b (x 3 % p) d₁ → d ≡ slope p (x 2 % p) c (x 3 % p) d₂
+      → y 0 ∷ b ∷ c ∷ d ∷ [] ≡ newton p xs ys
+  unfolding zipWith
+  newton-four b c₁ c d₁ d₂ d eb ec₁ ec ed₁ ed₂ ed =
+      let from-first : (i : ℕ) → first i ≡ slope p (x 0) (y 0) (x i) (y i) = λ i. slope-mod p (x 0) (y 0) (x i) (y i) in
+      let b′ = eb ∙ from-first 1 in
+      let c′ = ec ∙ slope-at p (x 1) b (x 2) c₁ ∙ ap₂ (λ u v. slope p (x 1) u (x 2) v) b′ (ec₁ ∙ from-first 2) in
+      let d₂′ = ed₂ ∙ slope-at p (x 1) b (x 3) d₁ ∙ ap₂ (λ u v. slope p (x 1) u (x 3) v) b′ (ed₁ ∙ from-first 3) in
+      let d′ = ed ∙ slope-at p (x 2) c (x 3) d₂ ∙ ap₂ (λ u v. slope p (x 2) u (x 3) v) c′ d₂′ in
+      ap₂ (λ u v. y 0 ∷ u ∷ v) b′ (ap₂ (λ u v. u ∷ v ∷ []) c′ d′) ∙ ap₂ (newton p) (four xs lx) (four ys ly)
