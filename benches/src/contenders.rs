@@ -84,6 +84,22 @@ pub fn repairing(key: &str, title: &str, inputs: Vec<Points>) -> Row<Points, (u8
     )
 }
 
+/// The same where points may be repeated, of those who answer then too: the library and plain Rust.
+pub fn repairing_repeated(title: &str, inputs: Vec<Points>) -> Row<Points, (u8, [u16; 4])> {
+    row(
+        "",
+        title,
+        inputs,
+        (0, [0; 4]),
+        &[
+            (Role::Proved, "proved", proved::repair),
+            (Role::Plain, "plain", |input, out| repaired(input, out, fit_now::fit)),
+            (Role::Version, fit_old::NAME, |input, out| repaired(input, out, fit_old::fit)),
+            (Role::Version, fit_newton::NAME, |input, out| repaired(input, out, fit_newton::fit)),
+        ],
+    )
+}
+
 /// An opening by a fit: sizes and lengths are right.
 #[inline(always)]
 fn opened(input: &Shares, out: &mut (u8, u16), fit: Fit) {

@@ -68,6 +68,16 @@ pub fn any_points(rng: &mut Rng) -> Points {
     Points { t: t as u8, xs, ys }
 }
 
+/// The same, with some points put in the place of others.
+pub fn repeated_points(rng: &mut Rng) -> Points {
+    let mut points = any_points(rng);
+    for _ in 0..1 + rng.below(3) {
+        let (from, to) = (rng.below(points.xs.len()), rng.below(points.xs.len()));
+        points.xs[to] = points.xs[from];
+    }
+    points
+}
+
 /// Any published shares of any size, likewise.
 pub fn any_shares(rng: &mut Rng) -> Shares {
     let t = 1 + rng.below(3);

@@ -52,15 +52,15 @@ pub fn interpolate(taken: &Taken) -> [u16; 4] {
 #[inline(always)]
 pub fn cubic_through(xs: [u32; 4], ys: [u32; 4]) -> [u16; 4] {
     let less = |y, x, c| mul_add(P - x, c, y);
-    let [x, y, z, w] = xs;
+    let [x0, x1, x2, x3] = xs;
     let a = ys[0];
-    let b = slope(x, a, y, ys[1]);
-    let c = slope(y, b, z, slope(x, a, z, ys[2]));
-    let d = slope(z, c, w, slope(y, b, w, slope(x, a, w, ys[3])));
-    let c = less(c, z, d);
-    let b = less(b, y, c);
-    let c = less(c, y, d);
-    [less(a, x, b), less(b, x, c), less(c, x, d), d].map(|c| c as u16)
+    let b = slope(x0, a, x1, ys[1]);
+    let c = slope(x1, b, x2, slope(x0, a, x2, ys[2]));
+    let d = slope(x2, c, x3, slope(x1, b, x3, slope(x0, a, x3, ys[3])));
+    let c = less(c, x2, d);
+    let b = less(b, x1, c);
+    let c = less(c, x1, d);
+    [less(a, x0, b), less(b, x0, c), less(c, x0, d), d].map(|c| c as u16)
 }
 
 /// Newton's form with `count` coefficients, multiplied out.

@@ -35,14 +35,11 @@ pub fn fit(t: usize, need: usize, xs: &[u16], ys: &[u16]) -> Option<[u16; 4]> {
     }
     let (mut i, mut left, mut wrong) = (0, spare + need, spare);
     while 2 * t + 1 + wrong <= left {
-        if wrong == 0 {
-            return None;
-        }
         i = behind(ys, i, t + 1);
         left -= t + 1;
         wrong -= 1;
         let group = next(i);
-        if group.is_some() {
+        if group.is_some() || wrong == 0 {
             return group;
         }
     }
@@ -83,7 +80,7 @@ fn taken_from(i: usize, count: usize, xs: &[u16], ys: &[u16]) -> Option<Taken> {
 fn distinct(xs: &[u16]) -> bool {
     let is_residue = |&x: &u16| u32::from(x) < P;
     if xs.windows(2).all(|pair| pair[0] < pair[1]) {
-        return xs.last().is_none_or(is_residue);
+        return xs.last().map_or(true, is_residue);
     }
     let again = |i: usize| xs[..i].iter().fold(false, |again, &x| again | (x == xs[i]));
     (0..xs.len()).all(|i| !again(i)) && xs.iter().all(is_residue)

@@ -3,7 +3,7 @@
 use Prim.Native.Nat.{ℕ, zero, suc, _*_, _-_, _/_, _%_, _≤_, _<_}
 use mathlib.Core.Path.{_≡_, sym, _∙_, ap}
 use mathlib.Core.Logic.{_⊎_, inl, inr, ⊎-elim}
-use native.Mathlib.Nat.{mod-lt, mod-eq-of-lt, mod-add-div, zero-mod, sub-add-cancel, div-le-self, eq-zero-or-pos}
+use native.Mathlib.Nat.{mod-lt, mod-eq-of-lt, mod-mod, mod-add-div, zero-mod, sub-add-cancel, div-le-self, eq-zero-or-pos}
 use native.Mathlib.Decide.{decLt}
 use native.Mathlib.Omega.{arith}
 use borrow.Author.Tests.{le-leb, lt-leb}
@@ -52,6 +52,14 @@ within-lt p (suc n) a positive high =
 pub inv-zero : (p a : ℕ) → a % p ≡ 0 → inv p a ≡ 0
 unfolding inv invWithin
 inv-zero p a e = rw e
+
+pub inv-mod : (p a : ℕ) → inv p (a % p) ≡ inv p a
+unfolding inv
+inv-mod p a = simp mod-mod
+
+pub inv-one : (p : ℕ) → 2 ≤ p → inv p 1 ≡ 1
+unfolding inv invWithin
+inv-one p h = let e : 1 % p ≡ 1 = mod-eq-of-lt (omega arith) in rw e
 
 -- What a was multiplied by comes back by an inverse of a.
 undone : (p a i b : ℕ) → mul p a i ≡ 1 → mul p i (mul p a b) ≡ b % p

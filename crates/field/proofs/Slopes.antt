@@ -1,49 +1,29 @@
--- Slopes: they are residues, they depend on residues alone, and a run of 1 divides nothing.
-use mathlib.Core.Path.{_≡_, refl, sym, ap, ap₂, _∙_}
+-- Slopes depend on residues alone, and a run of 1 divides nothing; Newton's coefficients of four points.
+use mathlib.Core.Path.{_≡_, sym, ap, ap₂, _∙_}
 use mathlib.Core.List.{List, [], _∷_, zipWith}
-use Prim.Native.Nat.{ℕ, _%_, _-_, _<_}
-use native.Mathlib.Nat.{mod-eq-of-lt, mod-mod}
+use Prim.Native.Nat.{ℕ, _%_, _≤_}
+use native.Mathlib.Nat.{mod-eq-of-lt}
 use native.Mathlib.Omega.{arith}
 use lib.ListN.{length, getD}
 use Rattle.lists.proofs.Padded.{four}
-use Rattle.field.specs.Arithmetic.{add, sub, neg, mul, inv, invWithin}
+use Rattle.field.specs.Arithmetic.{sub, mul, inv}
 use Rattle.field.specs.Differences.{slope, newton}
-use Rattle.field.specs.Modulus.{modulus}
-use Rattle.field.proofs.Remainders.{mod-mul-mod, remainders}
-use Rattle.field.proofs.Ring.{add-mul-neg, mul-one, mul-lt, sub-lt}
+use Rattle.field.proofs.Ring.{sub-mod, mul-one, sub-lt}
+use Rattle.field.proofs.Inverse.{inv-one}
 
--- ---- reduced numbers
 module _ (p : ℕ) where
-  pub sub-mod : (a b : ℕ) → sub p (a % p) (b % p) ≡ sub p a b
-  unfolding sub
-  sub-mod a b = simp (mod-mod, remainders)
-
-  pub inv-mod : (a : ℕ) → inv p (a % p) ≡ inv p a
-  unfolding inv
-  inv-mod a = simp mod-mod
-
-  -- A product is taken away by what is left of p besides a factor.
-  pub mul-rest : (a b c : ℕ) → 0 < p → add p c (mul p (p - a % p) b) ≡ sub p c (mul p a b)
-  unfolding mul neg
-  mul-rest a b c positive = ap (add p c) (sym (mod-mul-mod (p - a % p) b p)) ∙ add-mul-neg p c a b positive
-
   slope-at : (x y z w : ℕ) → slope p (x % p) y (z % p) w ≡ slope p x y z w
-  slope-at x y z w = ap (λ (u : ℕ). mul p (sub p w y) (inv p u)) (sub-mod z x)
+  slope-at x y z w = ap (λ (u : ℕ). mul p (sub p w y) (inv p u)) (sub-mod p z x)
 
   pub slope-mod : (x y z w : ℕ) → slope p (x % p) (y % p) (z % p) (w % p) ≡ slope p x y z w
-  slope-mod x y z w = slope-at x (y % p) z (w % p) ∙ ap (λ (u : ℕ). mul p u (inv p (sub p z x))) (sub-mod w y)
+  slope-mod x y z w = slope-at x (y % p) z (w % p) ∙ ap (λ (u : ℕ). mul p u (inv p (sub p z x))) (sub-mod p w y)
 
--- ---- a run of 1
-inv-one : inv modulus 1 ≡ 1
-unfolding inv invWithin
-inv-one = refl
-
-pub undivided : (w y u : ℕ) → u ≡ 1 → sub modulus w y ≡ mul modulus (sub modulus w y) (inv modulus u)
-undivided w y u e =
-    sym (ap (λ (z : ℕ). mul modulus (sub modulus w y) (inv modulus z)) e
-    ∙ ap (mul modulus (sub modulus w y)) inv-one
-    ∙ mul-one modulus (sub modulus w y)
-    ∙ mod-eq-of-lt (sub-lt modulus w y (omega arith)))
+  pub undivided : (w y u : ℕ) → 2 ≤ p → u ≡ 1 → sub p w y ≡ mul p (sub p w y) (inv p u)
+  undivided w y u h e =
+      sym (ap (λ (z : ℕ). mul p (sub p w y) (inv p z)) e
+      ∙ ap (mul p (sub p w y)) (inv-one p h)
+      ∙ mul-one p (sub p w y)
+      ∙ mod-eq-of-lt (sub-lt p w y (omega arith)))
 
 -- ---- four points: the divided differences of residues are those of the numbers
 module _ (p : ℕ) (xs ys : List ℕ) (lx : length xs ≡ 4) (ly : length ys ≡ 4) where

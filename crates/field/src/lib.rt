@@ -1,5 +1,5 @@
-// Arithmetic modulo the prime 65,521 on 16-bit numbers. Every public function takes any number and answers a residue; the others take
-// residues, 32 bits wide, which a processor handles best.
+// Arithmetic modulo the prime 65,521. Every public function takes any numbers; where others follow each other, they take residues, 32
+// bits wide, which a processor handles best, so that a number is reduced once.
 ghost use mathlib.Core.Path.{_≡_};
 ghost use Prim.Native.Nat.{_%_, _<_};
 ghost use lib.Dec.{eqb};
@@ -67,7 +67,7 @@ pub fn mul_sub(a: u16, b: u16, c: u16) -> u16
     mul_add(MODULUS - a % MODULUS, b, c)
 }
 
-// Whether y is the residue of v: by a division without remainder, which takes a product where a remainder takes two.
+// Whether y is the residue of v. A compiler asks by one product whether a difference is a multiple; a remainder takes two.
 pub fn reduces_to(v: u64, y: u16) -> bool
     ensures { λ r. ⌜ r ≡ eqb (v % modulus) y ⌝ }
 {

@@ -134,6 +134,7 @@ fn by_pairs(xs: &[u16], ys: &[u16], need: usize, sent: usize) -> Fitted
     let mut px = [0u16; 10];
     let mut py = [0u16; 10];
     first_ten(xs, ys, &mut px, &mut py);
+    // A constant would be written to memory anew wherever it is named.
     let firsts = FIRST_PAIRS;
     let seconds = SECOND_PAIRS;
     let mut k = 0;

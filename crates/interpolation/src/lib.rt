@@ -1,4 +1,4 @@
-// Interpolation after Newton, in the place of the values.
+// Interpolation after Newton: in the place of the values, or through four points.
 ghost use mathlib.Core.Path.{_≡_};
 ghost use lib.ListN.{length};
 ghost use Rattle.field.specs.Differences.{slopes, newton};
@@ -65,7 +65,7 @@ pub fn interpolate(xs: &[u16], ys: &mut [u16])
     }
 }
 
-// The cubic through four points: a + (X − x₀)(b + (X − x₁)(c + (X − x₂) d)), multiplied out from the inside.
+// The cubic through four points: f₀ + (X − x₀)(f₁ + (X − x₁)(f₂ + (X − x₂) d)), multiplied out from the inside.
 pub fn cubic(x: [u16; 4], y: [u16; 4]) -> [u16; 4]
     ensures { λ r. ⌜ r ≡ interpolate modulus x y ⌝ }
 {

@@ -76,7 +76,7 @@ pub fn value(f: &[u16], x: u16) -> u16
 
 // Whether y is a + b x + c x² + d x³: Horner's rule for four coefficients, without a loop and unreduced. Products of four numbers of
 // 16 bits, and what is added to them, still fit 64.
-pub fn is_value(a: u16, b: u16, c: u16, d: u16, x: u16, y: u16) -> bool
+pub fn is_cubic_value(a: u16, b: u16, c: u16, d: u16, x: u16, y: u16) -> bool
     ensures { λ r. ⌜ r ≡ eqb (value modulus (a ∷ b ∷ c ∷ d ∷ []) x) y ⌝ }
 {
     let by = x as u64;

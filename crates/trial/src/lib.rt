@@ -65,7 +65,7 @@ fn enough(a: u16, b: u16, c: u16, d: u16, xs: &[u16], ys: &[u16], need: usize) -
     let mut slack = i - need;
     while 0 < i {
         i -= 1;
-        if !polynomial::is_value(a, b, c, d, xs[i], ys[i]) {
+        if !polynomial::is_cubic_value(a, b, c, d, xs[i], ys[i]) {
             if slack == 0 {
                 return false;
             }

@@ -1,7 +1,7 @@
 -- `field::inv` meets its contract: the inverse of the residue is that of the number.
 use mathlib.Core.Path.{_∙_}
 use Rattle.field.specs.Modulus.{modulus}
-use Rattle.field.proofs.Slopes.{inv-mod}
+use Rattle.field.proofs.Inverse.{inv-mod}
 use borrow.Author.Needs.{needs}
 use Rattle.field.proofs.inv.Statement.{statement}
 use Rattle.field.proofs.inv.Tie as tie

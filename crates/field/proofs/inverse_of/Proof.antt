@@ -1,6 +1,6 @@
 -- `field::inverse_of` meets its contract. The loop keeps `Turn`; d falls, since it becomes a remainder by d.
 use borrow.Author.Needs.{needs}
-use native.Mathlib.Nat.{div-le-self, mod-lt, mod-eq-of-lt}
+use native.Mathlib.Nat.{div-le-self, mod-lt}
 use mathlib.Core.Path.{_≡_, sym, subst}
 use Prim.Native.Nat.{ℕ, _%_}
 use native.Mathlib.Omega.{arith}

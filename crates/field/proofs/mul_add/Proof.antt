@@ -1,10 +1,8 @@
 -- `field::mul_add` meets its contract: the product need not be reduced before the sum.
-use mathlib.Core.Path.{_≡_, sym, _∙_, ap}
-use Prim.Native.Nat.{ℕ, _+_, _*_, _%_}
-use native.Mathlib.Nat.{mul-le-mul, add-mod-mod}
+use native.Mathlib.Nat.{mul-le-mul}
 use native.Mathlib.Omega.{arith}
-use Rattle.field.specs.Arithmetic.{add, mul}
 use Rattle.field.specs.Modulus.{modulus}
+use Rattle.field.proofs.Ring.{one-reduction}
 use borrow.Author.Needs.{needs}
 use Rattle.field.proofs.mul_add.Statement.{statement}
 use Rattle.field.proofs.mul_add.Tie as tie
@@ -23,10 +21,6 @@ rem-result c = search needs
 
 cast-result-2 : tie.Need-cast-result-2
 cast-result-2 c = search needs
-
-one-reduction : (p a b c : ℕ) → (a * b + c) % p ≡ add p c (mul p a b)
-unfolding add mul
-one-reduction p a b c = ap (λ (n : ℕ). n % p) (omega arith) ∙ sym (add-mod-mod c (a * b) p)
 
 returns : tie.Need-returns
 returns c = one-reduction modulus (c .args .a) (c .args .b) (c .args .c)

@@ -14,8 +14,8 @@ use Rattle.field.proofs.reduces_to.Tie as tie
 no-residue : (v y : ℕ) → modulus ≤ y → false ≡ eqb (v % modulus) y
 no-residue v y h = sym (ne-eqb (v % modulus) y (λ e. omega arith))
 
-too-large : (v y : ℕ) → y < modulus → v < y → false ≡ eqb (v % modulus) y
-too-large v y h k = sym (ne-eqb (v % modulus) y (λ e. omega arith))
+too-small : (v y : ℕ) → y < modulus → v < y → false ≡ eqb (v % modulus) y
+too-small v y h k = sym (ne-eqb (v % modulus) y (λ e. omega arith))
 
 without-remainder : (v y : ℕ) → y < modulus → y ≤ v → eqb ((v - y) % modulus) 0 ≡ eqb (v % modulus) y
 without-remainder v y h k =
@@ -27,7 +27,7 @@ returns : tie.Need-returns
 returns c = no-residue _ _ (c .if1 .taken)
 
 returns-2 : tie.Need-returns-2
-returns-2 c = too-large _ _ (c .before .if1 .left) (c .if2 .taken)
+returns-2 c = too-small _ _ (c .before .if1 .left) (c .if2 .taken)
 
 sub-result : tie.Need-sub-result
 sub-result c = search needs

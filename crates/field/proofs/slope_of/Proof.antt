@@ -1,5 +1,6 @@
 -- `field::slope_of` meets its contract: the inverse of 1 is 1.
 use mathlib.Core.Path.{sym, ap, ap₂, _∙_}
+use native.Mathlib.Omega.{arith}
 use Rattle.field.specs.Arithmetic.{mul, inv}
 use Rattle.field.specs.Modulus.{modulus}
 use Rattle.field.proofs.Slopes.{undivided}
@@ -16,7 +17,7 @@ difference-requires-2 c κs = search needs
 returns : tie.Need-returns
 returns c =
     let rise = c .before .difference2 .ensures in
-    (rise .0 ∙ undivided _ _ _ (sym (c .before .before .difference .ensures .0) ∙ c .if1 .taken), rise .1)
+    (rise .0 ∙ undivided modulus _ _ _ (omega arith) (sym (c .before .before .difference .ensures .0) ∙ c .if1 .taken), rise .1)
 
 inverse-of-requires : tie.Need-inverse-of-requires
 inverse-of-requires c κs = search needs

@@ -1,7 +1,7 @@
 -- `field::sub` meets its contract: the difference of the residues is that of the numbers.
 use mathlib.Core.Path.{_∙_}
 use Rattle.field.specs.Modulus.{modulus}
-use Rattle.field.proofs.Slopes.{sub-mod}
+use Rattle.field.proofs.Ring.{sub-mod}
 use borrow.Author.Needs.{needs}
 use Rattle.field.proofs.sub.Statement.{statement}
 use Rattle.field.proofs.sub.Tie as tie

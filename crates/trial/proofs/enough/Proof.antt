@@ -24,27 +24,27 @@ loop-holds c = slack-start modulus _ _ _ _ (omega arith)
 sub-i : tie.Need-sub-i Inv-loop μ-loop
 sub-i c = search needs
 
-mul-is-value : tie.Need-mul-is-value Inv-loop μ-loop
-mul-is-value c = search needs
+mul-is-cubic-value : tie.Need-mul-is-cubic-value Inv-loop μ-loop
+mul-is-cubic-value c = search needs
 
-shared-slice-read-is-value : tie.Need-shared-slice-read-is-value Inv-loop μ-loop
-shared-slice-read-is-value c = search needs
+shared-slice-read-is-cubic-value : tie.Need-shared-slice-read-is-cubic-value Inv-loop μ-loop
+shared-slice-read-is-cubic-value c = search needs
 
-mul-is-value-2 : tie.Need-mul-is-value-2 Inv-loop μ-loop
-mul-is-value-2 c = search needs
+mul-is-cubic-value-2 : tie.Need-mul-is-cubic-value-2 Inv-loop μ-loop
+mul-is-cubic-value-2 c = search needs
 
-shared-slice-read-is-value-2 : tie.Need-shared-slice-read-is-value-2 Inv-loop μ-loop
-shared-slice-read-is-value-2 c = search needs
+shared-slice-read-is-cubic-value-2 : tie.Need-shared-slice-read-is-cubic-value-2 Inv-loop μ-loop
+shared-slice-read-is-cubic-value-2 c = search needs
 
-is-value-requires : tie.Need-is-value-requires Inv-loop μ-loop
-is-value-requires c κs = search needs
+is-cubic-value-requires : tie.Need-is-cubic-value-requires Inv-loop μ-loop
+is-cubic-value-requires c κs = search needs
 
 returns-2 : tie.Need-returns-2 Inv-loop μ-loop
 returns-2 c =
     let v = c .before .before in
     let k = v .before .before .before .before .loop in
     slack-few modulus _ _ _ _ (k .i) (k .slack) (omega arith) (omega arith) (k .inv)
-    (sym (v .is-value .ensures) ∙ not-true _ (c .before .if2 .taken)) (c .if3 .taken)
+    (sym (v .is-cubic-value .ensures) ∙ not-true _ (c .before .if2 .taken)) (c .if3 .taken)
 
 sub-slack : tie.Need-sub-slack Inv-loop μ-loop
 sub-slack c = search needs
@@ -57,7 +57,7 @@ loop-again c =
     let v = c .before .before in
     let k = v .before .before .before .before .loop in
     slack-miss modulus _ _ _ _ (k .i) (k .slack) (omega arith) (omega arith) (k .inv)
-    (sym (v .is-value .ensures) ∙ not-true _ (c .before .if2 .taken)) (c .if3 .left)
+    (sym (v .is-cubic-value .ensures) ∙ not-true _ (c .before .if2 .taken)) (c .if3 .left)
 
 loop-less-2 : tie.Need-loop-less-2 Inv-loop μ-loop
 loop-less-2 c = search needs
@@ -66,7 +66,7 @@ loop-again-2 : tie.Need-loop-again-2 Inv-loop μ-loop
 loop-again-2 c =
     let v = c .before in
     let k = v .before .before .before .before .loop in
-    slack-hit modulus _ _ _ _ (k .i) (k .slack) (omega arith) (omega arith) (k .inv) (sym (v .is-value .ensures) ∙ not-false _ (c .if2 .left))
+    slack-hit modulus _ _ _ _ (k .i) (k .slack) (omega arith) (omega arith) (k .inv) (sym (v .is-cubic-value .ensures) ∙ not-false _ (c .if2 .left))
 
 returns-3 : tie.Need-returns-3 Inv-loop μ-loop
 returns-3 c = slack-end modulus _ _ _ _ _ _ (omega arith) (c .before .loop .inv)
@@ -80,11 +80,11 @@ enough-spec =
     returns
     loop-holds
     sub-i
-    mul-is-value
-    shared-slice-read-is-value
-    mul-is-value-2
-    shared-slice-read-is-value-2
-    is-value-requires
+    mul-is-cubic-value
+    shared-slice-read-is-cubic-value
+    mul-is-cubic-value-2
+    shared-slice-read-is-cubic-value-2
+    is-cubic-value-requires
     returns-2
     sub-slack
     loop-less

@@ -1,25 +1,21 @@
--- `polynomial::is_value` meets its contract: each step is one of Horner's, reduced or not, and no step leaves 64 bits.
+-- `polynomial::is_cubic_value` meets its contract: each step is one of Horner's, reduced or not, and no step leaves 64 bits.
 use mathlib.Core.Path.{_≡_, refl, sym, ap, _∙_}
 use Prim.Native.Nat.{ℕ, _+_, _*_, _%_, _≤_}
-use native.Mathlib.Nat.{mul-le-mul, add-mod-mod}
+use native.Mathlib.Nat.{mul-le-mul}
 use native.Mathlib.Omega.{arith}
 use lib.Dec.{eqb}
 use Rattle.field.specs.Arithmetic.{add, mul}
 use Rattle.field.specs.Modulus.{modulus}
-use Rattle.field.proofs.Ring.{add-residue}
-use Rattle.field.proofs.Remainders.{mul-mod-mod}
+use Rattle.field.proofs.Ring.{add-residue, mul-mod, one-reduction}
 use Rattle.polynomial.proofs.Division.{value-cubic}
 use borrow.Author.Needs.{needs}
-use Rattle.polynomial.proofs.is_value.Statement.{statement}
-use Rattle.polynomial.proofs.is_value.Tie as tie
+use Rattle.polynomial.proofs.is_cubic_value.Statement.{statement}
+use Rattle.polynomial.proofs.is_cubic_value.Tie as tie
 
 -- A step of Horner's rule whose value so far is not reduced.
 step : (p x w v c : ℕ) → w % p ≡ v % p → (x * w + c) % p ≡ add p c (mul p x v)
-unfolding add mul
 step p x w v c e =
-    ap (λ (n : ℕ). n % p) (omega arith)
-    ∙ sym (add-mod-mod c (x * w) p)
-    ∙ ap (λ (n : ℕ). (c + n) % p) (sym (mul-mod-mod x w p) ∙ ap (λ (n : ℕ). x * n % p) e ∙ mul-mod-mod x v p)
+    one-reduction p x w c ∙ ap (add p c) (sym (mul-mod p x w) ∙ ap (mul p x) e ∙ mul-mod p x v)
 
 steps : (p a b c d x : ℕ) → (x * (x * (x * d + c) + b) + a) % p ≡ add p a (mul p x (add p b (mul p x (add p c (mul p x d)))))
 steps p a b c d x =
@@ -67,8 +63,8 @@ returns c =
     c .reduces-to .ensures
     ∙ ap (λ v. eqb v (s .y)) (steps modulus (s .a) (s .b) (s .c) (s .d) (s .x) ∙ value-cubic modulus (s .a) (s .b) (s .c) (s .d) (s .x))
 
-pub is-value-spec : {M : Type 1} → statement M
-is-value-spec =
+pub is-cubic-value-spec : {M : Type 1} → statement M
+is-cubic-value-spec =
     tie.close
     (tie.spec
     mul-high
