@@ -3,17 +3,11 @@
 ghost use mathlib.Core.Path.{_≡_};
 ghost use Prim.Native.Nat.{_%_, _<_};
 ghost use lib.Dec.{eqb};
-ghost use Rattle.field.specs.Arithmetic.{add, sub, neg, mul, inv};
+ghost use Rattle.field.specs.Arithmetic.{add, sub, mul, inv};
 ghost use Rattle.field.specs.Differences.{slope, newton};
 ghost use Rattle.field.specs.Modulus.{modulus};
 
 pub const MODULUS: u16 = 65521;
-
-pub fn add(a: u16, b: u16) -> u16
-    ensures { λ r. ⌜ r ≡ add modulus a b ⌝ }
-{
-    ((a as u32 + b as u32) % MODULUS as u32) as u16
-}
 
 // The difference of two residues.
 fn difference(a: u32, b: u32) -> u32
@@ -27,30 +21,12 @@ fn difference(a: u32, b: u32) -> u32
     }
 }
 
-pub fn sub(a: u16, b: u16) -> u16
-    ensures { λ r. ⌜ r ≡ sub modulus a b ⌝ }
-{
-    difference((a % MODULUS) as u32, (b % MODULUS) as u32) as u16
-}
-
-pub fn neg(a: u16) -> u16
-    ensures { λ r. ⌜ r ≡ neg modulus a ⌝ }
-{
-    (MODULUS - a % MODULUS) % MODULUS
-}
-
 // The product of two numbers of 16 bits, which fits 32 before it is reduced.
 fn product(a: u32, b: u32) -> u32
     requires { ⌜ (a < 65536) × (b < 65536) ⌝ }
     ensures { λ r. ⌜ (r ≡ mul modulus a b) × (r < modulus) ⌝ }
 {
     a * b % MODULUS as u32
-}
-
-pub fn mul(a: u16, b: u16) -> u16
-    ensures { λ r. ⌜ r ≡ mul modulus a b ⌝ }
-{
-    product(a as u32, b as u32) as u16
 }
 
 // c + a b by one reduction: a product of two numbers of 16 bits and a third number still fit 32.
@@ -96,13 +72,6 @@ fn inverse_of(a: u32) -> u32
         d = MODULUS as u32 % d;
     }
     t
-}
-
-// The inverse of a, and 0 where a is a multiple of the prime.
-pub fn inv(a: u16) -> u16
-    ensures { λ r. ⌜ r ≡ inv modulus a ⌝ }
-{
-    inverse_of((a % MODULUS) as u32) as u16
 }
 
 // The slope from (x, y) to (z, w). One step on, nothing is divided.
