@@ -18,8 +18,8 @@ module _ (p : ℕ) where
   pub slope-mod : (x y z w : ℕ) → slope p (x % p) (y % p) (z % p) (w % p) ≡ slope p x y z w
   slope-mod x y z w = slope-at x (y % p) z (w % p) ∙ ap (λ (u : ℕ). mul p u (inv p (sub p z x))) (sub-mod p w y)
 
-  pub undivided : (w y u : ℕ) → 2 ≤ p → u ≡ 1 → sub p w y ≡ mul p (sub p w y) (inv p u)
-  undivided w y u h e =
+  pub over-one : (w y u : ℕ) → 2 ≤ p → u ≡ 1 → sub p w y ≡ mul p (sub p w y) (inv p u)
+  over-one w y u h e =
       sym (ap (λ (z : ℕ). mul p (sub p w y) (inv p z)) e
       ∙ ap (mul p (sub p w y)) (inv-one p h)
       ∙ mul-one p (sub p w y)

@@ -1,5 +1,5 @@
-// Arithmetic modulo the prime 65,521. Every public function takes any numbers; where others follow each other, they take residues, 32
-// bits wide, which a processor handles best, so that a number is reduced once.
+// Arithmetic modulo the prime 65,521. Every public function takes any numbers. Private ones take numbers that are reduced already, 32
+// bits wide, which a processor handles best: in a row of steps each number is reduced once.
 ghost use mathlib.Core.Path.{_≡_};
 ghost use Prim.Native.Nat.{_%_, _<_};
 ghost use lib.Dec.{eqb};

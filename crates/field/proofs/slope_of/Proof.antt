@@ -3,7 +3,7 @@ use mathlib.Core.Path.{sym, ap, ap₂, _∙_}
 use native.Mathlib.Omega.{arith}
 use Rattle.field.specs.Arithmetic.{mul, inv}
 use Rattle.field.specs.Modulus.{modulus}
-use Rattle.field.proofs.Slopes.{undivided}
+use Rattle.field.proofs.Slopes.{over-one}
 use borrow.Author.Needs.{needs}
 use Rattle.field.proofs.slope_of.Statement.{statement}
 use Rattle.field.proofs.slope_of.Tie as tie
@@ -17,7 +17,7 @@ difference-requires-2 c κs = search needs
 returns : tie.Need-returns
 returns c =
     let rise = c .before .difference2 .ensures in
-    (rise .0 ∙ undivided modulus _ _ _ (omega arith) (sym (c .before .before .difference .ensures .0) ∙ c .if1 .taken), rise .1)
+    (rise .0 ∙ over-one modulus _ _ _ (omega arith) (sym (c .before .before .difference .ensures .0) ∙ c .if1 .taken), rise .1)
 
 inverse-of-requires : tie.Need-inverse-of-requires
 inverse-of-requires c κs = search needs

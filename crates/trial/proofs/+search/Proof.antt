@@ -1,6 +1,6 @@
 -- `trial::search` meets its contract. Its measure is the number of points from place i on; each answer is one law of proofs/Arrays.
 -- The parameter cx, which is lent on, is called t8 here.
-use mathlib.Core.Path.{_≡_, refl, sym, ap, _∙_}
+use mathlib.Core.Path.{_≡_, sym, ap, _∙_}
 use Prim.Native.Nat.{ℕ, _-_, _<_}
 use native.Mathlib.Nat.{pos-of-ne-zero}
 use native.Mathlib.Omega.{arith}
