@@ -41,9 +41,8 @@ uint16_t doumbaht_happy_set(const uint16_t *reports, size_t reports_count);
 /*
  * Repairs a column from the points (xs[i], ys[i]): writes the t+1 coefficients, constant first, of the polynomial of
  * degree at most t from which at most t of the points differ. Answers 0 when written; 1 for t outside 1 to 3; 3
- * unless there are as many `ys` as `xs`, 3t+1 to 16 of them, and t+1 places in `column`; 9 if no polynomial fits.
- * With `xs` distinct and below 65,521 at most one polynomial fits, and it is found. With other `xs` what is written
- * still fits, but it may be one of several, and 9 says only that none was found.
+ * unless there are as many `ys` as `xs`, 3t+1 to 16 of them, t+1 places in `column`, and the `xs` are distinct and
+ * below 65,521; 9 if no polynomial fits. At most one does.
  */
 uint8_t doumbaht_repair(uint8_t t, const uint16_t *xs, size_t xs_count, const uint16_t *ys, size_t ys_count,
                         uint16_t *column, size_t column_count);

@@ -1,11 +1,11 @@
 //! Random questions of every kind, asked of all contenders before anything is timed.
 
-use crate::contenders::{dealing, happy, opening, repairing, repairing_repeated, writing};
+use crate::contenders::{dealing, happy, opening, repairing, writing};
 use crate::graphs;
 use crate::inputs::{Dealing, Reports};
 use crate::measure::Bench;
 use crate::plain::{happy_new, happy_old};
-use crate::points::{any_points, any_shares, repeated_points};
+use crate::points::{any_points, any_shares, bad_points};
 use crate::records::any_record;
 use crate::rng::Rng;
 
@@ -19,7 +19,7 @@ pub fn check(seed: u64, count: usize) -> Result<usize, String> {
         Box::new(dealing("", "random dealing", (0..count).map(|_| any_dealing(rng)).collect())),
         Box::new(happy("", "random reports", reports)),
         Box::new(repairing("", "random points", (0..count).map(|_| any_points(rng)).collect())),
-        Box::new(repairing_repeated("random points, repeated", (0..count).map(|_| repeated_points(rng)).collect())),
+        Box::new(repairing("", "random points, repeated or no residues", (0..count).map(|_| bad_points(rng)).collect())),
         Box::new(opening("", "random shares", (0..count).map(|_| any_shares(rng)).collect())),
         Box::new(writing("", "random record", (0..count / 4).map(|_| any_record(rng)).collect())),
     ];

@@ -3,6 +3,7 @@
 
 use crate::inputs::{Bytes, Dealing, Deals, Points, Reports, Shares, Text};
 use crate::measure::{Contender, Role, Row};
+use crate::plain::fit::distinct_residues;
 use crate::plain::lamp::Ways;
 use crate::plain::{deal, fit_groups, fit_newton, fit_now, fit_old, happy_new, happy_now, happy_old, text};
 use crate::{bitset, gao, naive, proved};
@@ -53,10 +54,14 @@ pub fn happy(key: &str, title: &str, inputs: Vec<Reports>) -> Row<Reports, u16> 
     )
 }
 
-/// A repair by a fit: points and lengths are right.
+/// A repair by a fit: lengths are right; points that are not distinct residues are refused.
 #[inline(always)]
 fn repaired(input: &Points, out: &mut (u8, [u16; 4]), fit: Fit) {
     let t = usize::from(input.t);
+    if !distinct_residues(&input.xs) {
+        out.0 = 3;
+        return;
+    }
     match fit(t, input.xs.len() - t, &input.xs, &input.ys) {
         Some(f) => {
             out.0 = 0;
@@ -80,22 +85,6 @@ pub fn repairing(key: &str, title: &str, inputs: Vec<Points>) -> Row<Points, (u8
             (Role::Version, fit_old::NAME, |input, out| repaired(input, out, fit_old::fit)),
             (Role::Version, fit_newton::NAME, |input, out| repaired(input, out, fit_newton::fit)),
             (Role::Version, fit_groups::NAME, |input, out| repaired(input, out, fit_groups::fit)),
-        ],
-    )
-}
-
-/// The same where points may be repeated, of those who answer then too: the library and plain Rust.
-pub fn repairing_repeated(title: &str, inputs: Vec<Points>) -> Row<Points, (u8, [u16; 4])> {
-    row(
-        "",
-        title,
-        inputs,
-        (0, [0; 4]),
-        &[
-            (Role::Proved, "proved", proved::repair),
-            (Role::Plain, "plain", |input, out| repaired(input, out, fit_now::fit)),
-            (Role::Version, fit_old::NAME, |input, out| repaired(input, out, fit_old::fit)),
-            (Role::Version, fit_newton::NAME, |input, out| repaired(input, out, fit_newton::fit)),
         ],
     )
 }

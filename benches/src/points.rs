@@ -48,7 +48,7 @@ pub fn happy_points(rng: &mut Rng, count: usize, t: u8, lies: Lies) -> Points {
     Points { t, xs, ys }
 }
 
-/// Any distinct points, some of them not written as residues, and values with more or fewer lies than may be, some not sent.
+/// Any distinct points, and values with more or fewer lies than may be, some not sent.
 pub fn any_points(rng: &mut Rng) -> Points {
     let t = 1 + rng.below(3);
     let count = 3 * t + 1 + rng.below(16 - 3 * t);
@@ -59,22 +59,19 @@ pub fn any_points(rng: &mut Rng) -> Points {
             xs.push(x);
         }
     }
-    for x in &mut xs {
-        if *x < 15 && rng.chance(10) {
-            *x += 65_521;
-        }
-    }
     let ys = disturbed(rng, t, &xs);
     Points { t: t as u8, xs, ys }
 }
 
-/// The same, with some points put in the place of others.
-pub fn repeated_points(rng: &mut Rng) -> Points {
+/// The same, with a point that stands there twice or is no residue.
+pub fn bad_points(rng: &mut Rng) -> Points {
     let mut points = any_points(rng);
-    for _ in 0..1 + rng.below(3) {
-        let (from, to) = (rng.below(points.xs.len()), rng.below(points.xs.len()));
-        points.xs[to] = points.xs[from];
-    }
+    let place = rng.below(points.xs.len());
+    points.xs[place] = if rng.chance(50) {
+        65_521 + rng.below(15) as u16
+    } else {
+        points.xs[(place + 1 + rng.below(points.xs.len() - 1)) % points.xs.len()]
+    };
     points
 }
 

@@ -26,6 +26,15 @@ mod short_inputs;
 mod store;
 #[cfg(test)]
 mod store_tests;
+mod stories;
+#[cfg(test)]
+mod stories_tests;
+mod story_refusals;
+#[cfg(test)]
+mod story_refusals_tests;
+mod story_runs;
+#[cfg(test)]
+mod story_runs_tests;
 #[cfg(test)]
 mod tests;
 mod wire;
@@ -45,6 +54,9 @@ const USAGE: &str = "usage: second run < RECORD
        second check SEED COUNT
        second calls SEED COUNT
        second stream SEED COUNT
+       second stories
+       second story-stream
+       second stored-stream SEED COUNT
        second cross SEED COUNT BENCH
        second cross-calls SEED COUNT CALLS";
 
@@ -76,8 +88,10 @@ fn told(error: io::Error) -> String {
 /// What the command prints, or why it fails.
 fn command(words: &[&str]) -> Result<Vec<u8>, String> {
     match *words {
-        // The only one that prints no text.
+        // The only ones that print no text.
         ["stream", seed, count] => Ok(wire::stream(number(seed)?, size(count)?)),
+        ["story-stream"] => Ok(stories::stream()),
+        ["stored-stream", seed, count] => Ok(stories::stored_stream(number(seed)?, size(count)?)),
         _ => text_command(words).map(String::into_bytes),
     }
 }
@@ -94,6 +108,7 @@ fn text_command(words: &[&str]) -> Result<String, String> {
         ["store", folder] => store::write_files(Path::new(folder)).map_err(told),
         ["check", seed, count] => check(number(seed)?, size(count)?),
         ["calls", seed, count] => Ok(calls::text(number(seed)?, size(count)?)),
+        ["stories"] => Ok(stories::text()),
         ["cross", seed, count, program] => {
             cross::cross(number(seed)?, size(count)?, Path::new(program))
         }

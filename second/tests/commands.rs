@@ -163,6 +163,33 @@ fn stream_writes_the_lists_of_calls() {
         .is_empty());
 }
 
+/// The bytes are those of the stories shown, then those of `stream`.
+#[test]
+fn stored_stream_has_the_stories_first() {
+    let folder = Folder::new("stories");
+    let second = |words: &[&str]| {
+        let output = second_in(&folder.path, words);
+        assert!(output.status.success() && output.stderr.is_empty());
+        output.stdout
+    };
+    let text = String::from_utf8(second(&["stories"])).unwrap();
+    let (names, lines): (Vec<&str>, Vec<&str>) =
+        text.lines().partition(|line| line.starts_with("# "));
+    assert_eq!((names.len(), lines.len()), (12, 753));
+    assert_eq!((names[0], names[11]), ("# honest", "# trap-liar"));
+    let bytes = second(&["story-stream"]);
+    assert_eq!(words_of(&bytes), calls_words(&(lines.join("\n") + "\n")));
+    let answered = out(&answer(&bytes));
+    for (ours, shown) in answered.lines().zip(&lines) {
+        let without_report = ours.rsplit_once(' ').unwrap().0;
+        assert_eq!(without_report, shown.split_once(" = ").unwrap().1);
+    }
+    assert_eq!(answered.lines().count(), lines.len());
+    let stored = second(&["stored-stream", "3", "40"]);
+    assert!(stored == [&bytes[..], &second(&["stream", "3", "40"])].concat());
+    assert!(stored == second(&["stored-stream", "3", "40"]));
+}
+
 /// The calls of a stream as text, read here once more.
 fn words_of(mut bytes: &[u8]) -> Vec<String> {
     let names = ["make", "deal", "say", "hear", "settle", "open", "desk"];
@@ -468,6 +495,8 @@ fn anything_else_is_told_how() {
         &["cross"][..],
         &["store"],
         &["stream", "1"],
+        &["stories", "1"],
+        &["stored-stream", "1"],
         &["nothing"],
         &[],
     ] {

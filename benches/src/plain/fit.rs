@@ -138,3 +138,14 @@ pub fn search(
 pub fn surplus(need: usize, ys: &[u16]) -> usize {
     ys.iter().filter(|&&y| is_sent(y)).count().saturating_sub(need)
 }
+
+/// Whether the points are distinct residues: in one pass where they rise; elsewhere without a way out half way, so that
+/// many comparisons go at a time.
+pub fn distinct_residues(xs: &[u16]) -> bool {
+    let is_residue = |&x: &u16| u32::from(x) < P;
+    if xs.windows(2).all(|pair| pair[0] < pair[1]) {
+        return xs.last().map_or(true, is_residue);
+    }
+    let again = |i: usize| xs[..i].iter().fold(false, |again, &x| again | (x == xs[i]));
+    (0..xs.len()).all(|i| !again(i)) && xs.iter().all(is_residue)
+}

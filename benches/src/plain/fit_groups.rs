@@ -2,7 +2,6 @@
 //! and one fewer may be wrong among the rest. Where the rest gets short, its choices are tried as in the first
 //! algorithm. A cubic with three wrong points among fewer than 16 is looked for by pairs of points.
 
-use super::field::P;
 use super::fit::{cubic_through, enough, interpolate, is_sent, search, surplus, Taken};
 
 pub const NAME: &str = "groups of t + 1, or pairs";
@@ -27,7 +26,7 @@ pub fn fit(t: usize, need: usize, xs: &[u16], ys: &[u16]) -> Option<[u16; 4]> {
     if spare == 0 {
         return None;
     }
-    if need <= spare + t || !distinct(xs) {
+    if need <= spare + t {
         return search(xs, ys, &test, 0, t + 1, spare, Taken::default());
     }
     if t == 3 && spare == 3 && spare + need < 16 {
@@ -73,17 +72,6 @@ fn taken_from(i: usize, count: usize, xs: &[u16], ys: &[u16]) -> Option<Taken> {
         }
     }
     None
-}
-
-/// Whether the points are distinct residues: in one pass where they rise; elsewhere without a way out half way, so that
-/// many comparisons go at a time.
-fn distinct(xs: &[u16]) -> bool {
-    let is_residue = |&x: &u16| u32::from(x) < P;
-    if xs.windows(2).all(|pair| pair[0] < pair[1]) {
-        return xs.last().map_or(true, is_residue);
-    }
-    let again = |i: usize| xs[..i].iter().fold(false, |again, &x| again | (x == xs[i]));
-    (0..xs.len()).all(|i| !again(i)) && xs.iter().all(is_residue)
 }
 
 /// The place behind the next `count` values sent.

@@ -1,184 +1,188 @@
 -- One lamp and the list that brings it its deal, its pairs and its reports: the lamp at each point of the list, and its replies.
---   start, dealt, reported, ended   the lamp as made, and after each of the three calls
+--   dealt, reported   the lamp after its deal and after its pairs; since-settling: after its reports
 use mathlib.Core.Path.{_≡_, refl, sym, ap, ap₂, _∙_}
 use mathlib.Core.Bool.{true, false, _&&_, and-false, and-true}
 use mathlib.Core.List.{List, _∷_, _++_}
-use Prim.Native.Nat.{ℕ, suc, _+_, _*_, _-_}
+use Prim.Native.Nat.{ℕ, suc, _*_, _-_}
 use native.Mathlib.Omega.{arith}
 use lib.Dec.{eqb}
 use lib.ListN.{length, take, replicate, length-drop}
 use lib.Seq.{take-at, length-take-le}
 use borrow.Author.Tests.{eq-eqb}
 use Rattle.happy.specs.Happy.{happySet}
-use Rattle.parties.specs.Parties.{sizes, isParty, entry}
+use Rattle.parties.specs.Parties.{isParty, entry}
 use Rattle.answers.specs.declared.Stage.the-variants.{Waiting}
 use Rattle.answers.specs.declared.Answer.the-variants.{Done, Pair, Report}
 use Rattle.lamp.specs.declared.Lamp.{Lamp}
 use Rattle.lamp.specs.declared.Reply.{Reply}
-use Rattle.consistency.specs.Deal.{rowOf, columnOf, pairFor, reportOf}
-use Rattle.lamp.specs.Lamp.{Sized, made, reply, isAt, rowOfLamp, columnOfLamp, withDeal, saidPair, withPairs, reportFrom, settled, Call, takeDeal, sayPair, hearPairs, settle, openShares, step, after}
+use Rattle.consistency.specs.Deal.{pairFor, reportOf}
+use Rattle.lamp.specs.Lamp.{Sized, reply, isAt, rowOfLamp, columnOfLamp, withDeal, saidPair, withPairs, reportFrom, settled, Call}
+use Rattle.lamp.specs.Lamp.{takeDeal, sayPair, hearPairs, settle, openShares, step, after}
+use Rattle.agreement.specs.Setting.{Setting, width, dealtRow, dealtColumn, pairBy, reportBy, madeFor, lampAt, answerAt}
 use Rattle.agreement.specs.Calls.{Run, toDeal, toPairs, toReports, sinceDeal, sinceSettling, Never, isDeal, isHearing, isSettling}
-use Rattle.agreement.specs.Demand3.{Brings, reportBy, pairOf}
+use Rattle.agreement.specs.Demand3.{Brings}
 use Rattle.agreement.proofs.Steps.{awaited, takes, hears, settles, pair-said, all-quiet, after-append}
 use Rattle.agreement.proofs.Runs.{Kept, Late, kept-sized, after-kept, settled-kept, settled-late, late-awaits, never-all, never-map}
 
-module _ (p n t i : ℕ) (size : sizes n t ≡ true) (party : isParty n i ≡ true) (cs : List Call) (r : Run) (b : Brings p n t i cs r) where
+module _ (s : Setting) (i : ℕ) (sized : Sized (madeFor s i)) (cs : List Call) (r : Run) (b : Brings s i cs r) where
   abbrev d : List ℕ
   d = r .itsDeal
 
+  -- Its report.
+  abbrev its : ℕ
+  its = reportBy s i d (r .itsPairs)
+
   -- ---- the lamp as made, until its deal
   abbrev pub start : Lamp
-  start = made n t i
+  start = madeFor s i
 
-  pub start-sized : Sized start
-  start-sized = record { size = size; party = party }
-
-  start-awaits : (c : Call) → isDeal t c ≡ false → awaited start c ≡ false
+  start-awaits : (c : Call) → isDeal s c ≡ false → awaited start c ≡ false
   start-awaits (takeDeal d) e = ap (λ z. z && true) e
   start-awaits (sayPair j) e = refl
-  start-awaits (hearPairs hs) e = and-false (eqb (length hs) (2 * n))
-  start-awaits (settle rs) e = ap (λ z. z && eqb (entry rs i) 0) (and-false (eqb (length rs) n))
+  start-awaits (hearPairs hs) e = and-false (eqb (length hs) (2 * s .n))
+  start-awaits (settle rs) e = ap (λ z. z && eqb (entry rs i) 0) (and-false (eqb (length rs) (s .n)))
   start-awaits (openShares xs) e = refl
 
   pub start-never : Never (awaited start) (toDeal r)
-  start-never = never-map (isDeal t) (awaited start) start-awaits (toDeal r) (b .dealFirst)
+  start-never = never-map (isDeal s) (awaited start) start-awaits (toDeal r) (b .deal-first)
 
-  pub to-deal : after p start (toDeal r) ≡ start
-  to-deal = all-quiet start start-sized p (toDeal r) start-never
+  pub to-deal : lampAt s i (toDeal r) ≡ start
+  to-deal = all-quiet start sized (s .p) (toDeal r) start-never
 
   -- ---- from its deal until its pairs
   abbrev pub dealt : Lamp
   dealt = withDeal start d
 
-  pub deal-taken : step p start (takeDeal d) ≡ reply dealt Done
-  deal-taken = takes start start-sized p d (ap (λ z. z && true) (eq-eqb (length d) (2 * suc t) (b .dealLength)))
+  pub deal-taken : step (s .p) start (takeDeal d) ≡ reply dealt Done
+  deal-taken = takes start sized (s .p) d (ap (λ z. z && true) (eq-eqb (length d) (2 * width s) (b .deal-length)))
 
   pub dealt-sized : Sized dealt
   unfolding withDeal
-  dealt-sized = record { size = size; party = party }
+  dealt-sized = record { size = sized .size; party = sized .party }
 
-  dealt-started : isAt Waiting dealt ≡ false
+  dealt-started : isAt Waiting (dealt .sharing) ≡ false
   unfolding withDeal
   dealt-started = refl
 
-  pub row-length : length (rowOf t d) ≡ suc t
-  row-length = length-take-le (suc t) d (omega (arith, b .dealLength))
+  pub row-length : length (dealtRow s d) ≡ width s
+  row-length = length-take-le (width s) d (omega (arith, b .deal-length))
 
-  pub column-length : length (columnOf t d) ≡ suc t
-  column-length = length-drop (suc t) d ∙ omega (arith, b .dealLength)
+  pub column-length : length (dealtColumn s d) ≡ width s
+  column-length = length-drop (width s) d ∙ omega (arith, b .deal-length)
 
-  dealt-row : rowOfLamp dealt ≡ rowOf t d
+  dealt-row : rowOfLamp dealt ≡ dealtRow s d
   unfolding withDeal
-  dealt-row = take-at (rowOf t d) (replicate (4 - length (rowOf t d)) 0) (suc t) row-length
+  dealt-row = take-at (dealtRow s d) (replicate (4 - length (dealtRow s d)) 0) (width s) row-length
 
-  pub dealt-column : columnOfLamp dealt ≡ columnOf t d
+  pub dealt-column : columnOfLamp dealt ≡ dealtColumn s d
   unfolding withDeal
-  dealt-column = take-at (columnOf t d) (replicate (4 - length (columnOf t d)) 0) (suc t) column-length
+  dealt-column = take-at (dealtColumn s d) (replicate (4 - length (dealtColumn s d)) 0) (width s) column-length
 
-  pub since-deal : (xs : List Call) → after p start (sinceDeal r xs) ≡ after p dealt xs
+  pub since-deal : (xs : List Call) → lampAt s i (sinceDeal r xs) ≡ after (s .p) dealt xs
   since-deal xs =
-      after-append p start (toDeal r) (takeDeal d ∷ xs)
-      ∙ ap (λ l. after p l (takeDeal d ∷ xs)) to-deal
-      ∙ ap (λ (q : Reply). after p (q .lamp) xs) deal-taken
+      after-append (s .p) start (toDeal r) (takeDeal d ∷ xs)
+      ∙ ap (λ l. after (s .p) l (takeDeal d ∷ xs)) to-deal
+      ∙ ap (λ (q : Reply). after (s .p) (q .lamp) xs) deal-taken
 
   -- The pair at every saying from the deal on.
-  pub kept-pair : (l : Lamp) → Kept dealt l → (j : ℕ) → saidPair p l j ≡ pairOf p n t i r j
+  pub kept-pair : (l : Lamp) → Kept dealt l → (j : ℕ) → saidPair (s .p) l j ≡ pairBy s i d j
   unfolding saidPair withDeal
   kept-pair l k j =
-      let rows : rowOfLamp l ≡ rowOf t d = ap₂ (λ a b. take (suc a) b) (k .same-t) (k .same-row) ∙ dealt-row in
-      let columns : columnOfLamp l ≡ columnOf t d = ap₂ (λ a b. take (suc a) b) (k .same-t) (k .same-column) ∙ dealt-column in
-      ap (λ z. pairFor p z (rowOfLamp l) (columnOfLamp l) j) (k .same-number)
-      ∙ ap₂ (λ a c. pairFor p i a c j) rows columns
+      let rows : rowOfLamp l ≡ dealtRow s d = ap₂ (λ a b. take (suc a) b) (k .same-t) (k .same-row) ∙ dealt-row in
+      let columns : columnOfLamp l ≡ dealtColumn s d = ap₂ (λ a b. take (suc a) b) (k .same-t) (k .same-column) ∙ dealt-column in
+      ap (λ z. pairFor (s .p) z (rowOfLamp l) (columnOfLamp l) j) (k .same-number)
+      ∙ ap₂ (λ a c. pairFor (s .p) i a c j) rows columns
 
-  pub says-pair : (xs : List Call) (j : ℕ) → isParty n j ≡ true
-      → step p (after p start (sinceDeal r xs)) (sayPair j) .answer ≡ Pair (pairOf p n t i r j .0) (pairOf p n t i r j .1)
+  pub says-pair : (xs : List Call) (j : ℕ) → isParty (s .n) j ≡ true
+      → answerAt s i (sinceDeal r xs) (sayPair j) ≡ Pair (pairBy s i d j .0) (pairBy s i d j .1)
   unfolding withDeal
   says-pair xs j other =
-      let l : Lamp = after p dealt xs in
-      let k : Kept dealt l = after-kept p dealt xs dealt-sized dealt-started in
-      ap (λ z. step p z (sayPair j) .answer) (since-deal xs)
-      ∙ ap (λ (q : Reply). q .answer) (pair-said l (kept-sized dealt l k dealt-sized) p j (ap (λ z. isParty z j) (k .same-n) ∙ other) (k .started))
+      let l : Lamp = after (s .p) dealt xs in
+      let k : Kept dealt l = after-kept (s .p) dealt xs dealt-sized dealt-started in
+      ap (λ z. step (s .p) z (sayPair j) .answer) (since-deal xs)
+      ∙ ap (λ (q : Reply). q .answer)
+      (pair-said l (kept-sized dealt l k dealt-sized) (s .p) j (ap (λ z. isParty z j) (k .same-n) ∙ other) (k .started))
       ∙ ap (λ (q : ℕ × ℕ). Pair (q .0) (q .1)) (kept-pair l k j)
 
-  dealt-awaits : (c : Call) → isHearing n c ≡ false → awaited dealt c ≡ false
+  dealt-awaits : (c : Call) → isHearing s c ≡ false → awaited dealt c ≡ false
   unfolding withDeal
-  dealt-awaits (takeDeal e) h = and-false (eqb (length e) (2 * suc t))
+  dealt-awaits (takeDeal e) h = and-false (eqb (length e) (2 * width s))
   dealt-awaits (sayPair j) h = refl
   dealt-awaits (hearPairs hs) h = ap (λ z. z && true) h
-  dealt-awaits (settle rs) h = ap (λ z. z && eqb (entry rs i) 0) (and-false (eqb (length rs) n))
+  dealt-awaits (settle rs) h = ap (λ z. z && eqb (entry rs i) 0) (and-false (eqb (length rs) (s .n)))
   dealt-awaits (openShares xs) h = refl
 
   pub dealt-never : Never (awaited dealt) (r .beforePairs)
-  dealt-never = never-map (isHearing n) (awaited dealt) dealt-awaits (r .beforePairs) (b .pairsFirst)
+  dealt-never = never-map (isHearing s) (awaited dealt) dealt-awaits (r .beforePairs) (b .pairs-first)
 
-  pub to-pairs : after p start (toPairs r) ≡ dealt
-  to-pairs = since-deal (r .beforePairs) ∙ all-quiet dealt dealt-sized p (r .beforePairs) dealt-never
+  pub to-pairs : lampAt s i (toPairs r) ≡ dealt
+  to-pairs = since-deal (r .beforePairs) ∙ all-quiet dealt dealt-sized (s .p) (r .beforePairs) dealt-never
 
   -- ---- from its pairs until its reports
   abbrev pub reported : Lamp
-  reported = withPairs p dealt (r .itsPairs)
+  reported = withPairs (s .p) dealt (r .itsPairs)
 
   hears-awaited : awaited dealt (hearPairs (r .itsPairs)) ≡ true
   unfolding withDeal
-  hears-awaited = ap (λ z. z && true) (eq-eqb (length (r .itsPairs)) (2 * n) (b .pairsLength))
+  hears-awaited = ap (λ z. z && true) (eq-eqb (length (r .itsPairs)) (2 * s .n) (b .pairs-length))
 
-  pub report-is : reportFrom p dealt (r .itsPairs) ≡ reportBy p n t i r
+  pub report-is : reportFrom (s .p) dealt (r .itsPairs) ≡ its
   unfolding reportFrom withDeal
-  report-is = ap₂ (λ a c. reportOf p n i a c (r .itsPairs)) dealt-row dealt-column
+  report-is = ap₂ (λ a c. reportOf (s .p) (s .n) i a c (r .itsPairs)) dealt-row dealt-column
 
-  pub pairs-heard : step p dealt (hearPairs (r .itsPairs)) ≡ reply reported (Report (reportBy p n t i r))
-  pairs-heard = hears dealt dealt-sized p (r .itsPairs) hears-awaited ∙ ap (λ z. reply reported (Report z)) report-is
+  pub pairs-heard : step (s .p) dealt (hearPairs (r .itsPairs)) ≡ reply reported (Report its)
+  pairs-heard = hears dealt dealt-sized (s .p) (r .itsPairs) hears-awaited ∙ ap (λ z. reply reported (Report z)) report-is
 
   pub reported-sized : Sized reported
   unfolding withPairs withDeal
-  reported-sized = record { size = size; party = party }
+  reported-sized = record { size = sized .size; party = sized .party }
 
-  reported-awaits : (c : Call) → isSettling n i (reportBy p n t i r) c ≡ false → awaited reported c ≡ false
+  reported-awaits : (c : Call) → isSettling s i its c ≡ false → awaited reported c ≡ false
   unfolding withPairs withDeal
-  reported-awaits (takeDeal e) h = and-false (eqb (length e) (2 * suc t))
+  reported-awaits (takeDeal e) h = and-false (eqb (length e) (2 * width s))
   reported-awaits (sayPair j) h = refl
-  reported-awaits (hearPairs hs) h = and-false (eqb (length hs) (2 * n))
-  reported-awaits (settle rs) h = ap₂ (λ a c. a && eqb (entry rs i) c) (and-true (eqb (length rs) n)) report-is ∙ h
+  reported-awaits (hearPairs hs) h = and-false (eqb (length hs) (2 * s .n))
+  reported-awaits (settle rs) h = ap₂ (λ a c. a && eqb (entry rs i) c) (and-true (eqb (length rs) (s .n))) report-is ∙ h
   reported-awaits (openShares xs) h = refl
 
-  pub since-pairs : (xs : List Call) → after p start (toPairs r ++ hearPairs (r .itsPairs) ∷ xs) ≡ after p reported xs
+  pub since-pairs : (xs : List Call) → lampAt s i (toPairs r ++ hearPairs (r .itsPairs) ∷ xs) ≡ after (s .p) reported xs
   since-pairs xs =
-      after-append p start (toPairs r) (hearPairs (r .itsPairs) ∷ xs)
-      ∙ ap (λ l. after p l (hearPairs (r .itsPairs) ∷ xs)) to-pairs
-      ∙ ap (λ (q : Reply). after p (q .lamp) xs) pairs-heard
+      after-append (s .p) start (toPairs r) (hearPairs (r .itsPairs) ∷ xs)
+      ∙ ap (λ l. after (s .p) l (hearPairs (r .itsPairs) ∷ xs)) to-pairs
+      ∙ ap (λ (q : Reply). after (s .p) (q .lamp) xs) pairs-heard
 
   pub reported-never : Never (awaited reported) (r .beforeReports)
-  reported-never = never-map (isSettling n i (reportBy p n t i r)) (awaited reported) reported-awaits (r .beforeReports) (b .reportsFirst)
+  reported-never = never-map (isSettling s i its) (awaited reported) reported-awaits (r .beforeReports) (b .reports-first)
 
-  pub to-reports : after p start (toReports r) ≡ reported
-  to-reports = since-pairs (r .beforeReports) ∙ all-quiet reported reported-sized p (r .beforeReports) reported-never
+  pub to-reports : lampAt s i (toReports r) ≡ reported
+  to-reports = since-pairs (r .beforeReports) ∙ all-quiet reported reported-sized (s .p) (r .beforeReports) reported-never
 
   -- ---- from its reports on
   abbrev pub outcome : Reply
-  outcome = settled p reported (happySet (r .itsReports))
+  outcome = settled (s .p) reported (happySet (r .itsReports))
 
   settles-awaited : awaited reported (settle (r .itsReports)) ≡ true
   unfolding withPairs withDeal
   settles-awaited =
-      ap₂ (λ a c. (a && true) && c) (eq-eqb (length (r .itsReports)) n (b .reportsLength))
-      (eq-eqb (entry (r .itsReports) i) (reportFrom p dealt (r .itsPairs)) (b .reportsOwn ∙ sym report-is))
+      ap₂ (λ a c. (a && true) && c) (eq-eqb (length (r .itsReports)) (s .n) (b .reports-length))
+      (eq-eqb (entry (r .itsReports) i) (reportFrom (s .p) dealt (r .itsPairs)) (b .reports-own ∙ sym report-is))
 
-  pub settling : step p reported (settle (r .itsReports)) ≡ outcome
-  settling = settles reported reported-sized p (r .itsReports) settles-awaited
+  pub settling : step (s .p) reported (settle (r .itsReports)) ≡ outcome
+  settling = settles reported reported-sized (s .p) (r .itsReports) settles-awaited
 
   pub ended-sized : Sized (outcome .lamp)
-  ended-sized = kept-sized reported (outcome .lamp) (settled-kept p reported (happySet (r .itsReports))) reported-sized
+  ended-sized = kept-sized reported (outcome .lamp) (settled-kept (s .p) reported (happySet (r .itsReports))) reported-sized
 
   ended-late : Late (outcome .lamp)
-  ended-late = settled-late p reported (happySet (r .itsReports))
+  ended-late = settled-late (s .p) reported (happySet (r .itsReports))
 
   pub ended-never : (cs : List Call) → Never (awaited (outcome .lamp)) cs
   ended-never = never-all (awaited (outcome .lamp)) (late-awaits (outcome .lamp) ended-late)
 
   -- The lamp that settled stays as it is.
-  pub since-settling : (xs : List Call) → after p start (sinceSettling r xs) ≡ outcome .lamp
+  pub since-settling : (xs : List Call) → lampAt s i (sinceSettling r xs) ≡ outcome .lamp
   since-settling xs =
-      after-append p start (toReports r) (settle (r .itsReports) ∷ xs)
-      ∙ ap (λ l. after p l (settle (r .itsReports) ∷ xs)) to-reports
-      ∙ ap (λ (q : Reply). after p (q .lamp) xs) settling
-      ∙ all-quiet (outcome .lamp) ended-sized p xs (ended-never xs)
+      after-append (s .p) start (toReports r) (settle (r .itsReports) ∷ xs)
+      ∙ ap (λ l. after (s .p) l (settle (r .itsReports) ∷ xs)) to-reports
+      ∙ ap (λ (q : Reply). after (s .p) (q .lamp) xs) settling
+      ∙ all-quiet (outcome .lamp) ended-sized (s .p) xs (ended-never xs)

@@ -1,53 +1,47 @@
 -- What a sound deal, a pair and a one in a report say, as facts.
---   Sound, Confirmed   the same as records
-use mathlib.Core.Path.{_≡_, ap, _∙_}
+--   sound-facts, sound-true, report-bit   from the tests to the facts, and back
+--   Confirmed   what a one says
+use mathlib.Core.Path.{_≡_, sym, ap, _∙_}
 use mathlib.Core.Logic.{_≢_}
-use mathlib.Core.Bool.{Bool, true, cond, not, _&&_, and-eq-true-iff}
+use mathlib.Core.Bool.{Bool, true, not, _&&_, and-eq-true-iff}
 use mathlib.Core.List.{List}
 use Prim.Native.Nat.{ℕ, suc, _-_}
 use native.Mathlib.Omega.{arith}
 use lib.Dec.{eqb}
 use borrow.Author.Tests.{eqb-true, eqb-false, eq-eqb, ne-eqb, not-true}
 use Rattle.lists.proofs.Masks.{bit-mask}
-use Rattle.polynomial.specs.Polynomial.{Residues, residues, value}
+use Rattle.polynomial.specs.Polynomial.{residues, value}
 use Rattle.polynomial.proofs.Below.{residues-true, residues-facts}
-use Rattle.parties.specs.Parties.{isParty, pointOf, member, notSent}
+use Rattle.parties.specs.Parties.{isParty, pointOf, member}
 use Rattle.parties.proofs.Parties.{party-facts}
+use Rattle.consistency.proofs.Reports.{pair-sound}
+use Rattle.agreement.specs.Demand1.{Sound}
 use Rattle.consistency.specs.Deal.{firstFrom, secondFrom, sound, pairFor, confirms, reportOf}
 
 module _ (p i : ℕ) (row column : List ℕ) where
-  pub record Sound : Type 0 where
-    pub row-residues : Residues p row
-    pub column-residues : Residues p column
-    pub own : value p row (pointOf i) ≡ value p column (pointOf i)
-
-  pub sound-facts : sound p i row column ≡ true → Sound
+  pub sound-facts : sound p i row column ≡ true → Sound p i row column
   unfolding sound
   sound-facts e =
       let a = and-eq-true-iff (residues p row && residues p column) (eqb (value p row (pointOf i)) (value p column (pointOf i))) .0 e in
       let b = and-eq-true-iff (residues p row) (residues p column) .0 (a .0) in
-      record { row-residues = residues-facts p row (b .0); column-residues = residues-facts p column (b .1); own = eqb-true _ _ (a .1) }
+      record { row-below = residues-facts p row (b .0); column-below = residues-facts p column (b .1); crossing = eqb-true _ _ (a .1) }
 
-  pub sound-true : Sound → sound p i row column ≡ true
+  pub sound-true : Sound p i row column → sound p i row column ≡ true
   unfolding sound
   sound-true h =
       and-eq-true-iff (residues p row && residues p column) (eqb (value p row (pointOf i)) (value p column (pointOf i))) .1 (
-        and-eq-true-iff (residues p row) (residues p column) .1 (residues-true p row (h .row-residues), residues-true p column (h .column-residues)),
-        eq-eqb _ _ (h .own),
+        and-eq-true-iff (residues p row) (residues p column) .1
+            (residues-true p row (h .row-below), residues-true p column (h .column-below)),
+        eq-eqb _ _ (h .crossing),
       )
 
   -- The pair for another party, from a sound deal.
   module _ (j : ℕ) (other : i ≢ j) (h : sound p i row column ≡ true) where
-    both : (not (eqb i j) && sound p i row column) ≡ true
-    both = and-eq-true-iff (not (eqb i j)) (sound p i row column) .1 (ap not (ne-eqb i j other), h)
-
     pub pair-first : pairFor p i row column j .0 ≡ value p row (pointOf j)
-    unfolding pairFor
-    pair-first = ap (λ b. (cond {A = ℕ × ℕ} b (value p row (pointOf j), value p column (pointOf j)) (notSent p, notSent p)) .0) both
+    pair-first = ap (λ q. q .0) (sym (pair-sound p i row column j other h))
 
     pub pair-second : pairFor p i row column j .1 ≡ value p column (pointOf j)
-    unfolding pairFor
-    pair-second = ap (λ b. (cond {A = ℕ × ℕ} b (value p row (pointOf j), value p column (pointOf j)) (notSent p, notSent p)) .1) both
+    pair-second = ap (λ q. q .1) (sym (pair-sound p i row column j other h))
 
   module _ (hs : List ℕ) (j : ℕ) where
     pub record Confirmed : Type 0 where
@@ -64,7 +58,12 @@ module _ (p i : ℕ) (row column : List ℕ) where
         let a = and-eq-true-iff (not (eqb i j) && sound p i row column && one) two .0 e in
         let b = and-eq-true-iff (not (eqb i j) && sound p i row column) one .0 (a .0) in
         let d = and-eq-true-iff (not (eqb i j)) (sound p i row column) .0 (b .0) in
-        record { other = eqb-false i j (not-true (eqb i j) (d .0)); soundly = d .1; first = eqb-true _ _ (b .1); second = eqb-true _ _ (a .1) }
+        record {
+          other = eqb-false i j (not-true (eqb i j) (d .0));
+          soundly = d .1;
+          first = eqb-true _ _ (b .1);
+          second = eqb-true _ _ (a .1);
+        }
 
     pub confirms-true : Confirmed → confirms p i row column hs j ≡ true
     unfolding confirms
@@ -72,8 +71,10 @@ module _ (p i : ℕ) (row column : List ℕ) where
         let one : Bool = eqb (firstFrom hs j) (value p column (pointOf j)) in
         let two : Bool = eqb (secondFrom hs j) (value p row (pointOf j)) in
         and-eq-true-iff (not (eqb i j) && sound p i row column && one) two .1 (
-          and-eq-true-iff (not (eqb i j) && sound p i row column) one .1
-              (and-eq-true-iff (not (eqb i j)) (sound p i row column) .1 (ap not (ne-eqb i j (h .other)), h .soundly), eq-eqb _ _ (h .first)),
+          and-eq-true-iff (not (eqb i j) && sound p i row column) one .1 (
+            and-eq-true-iff (not (eqb i j)) (sound p i row column) .1 (ap not (ne-eqb i j (h .other)), h .soundly),
+            eq-eqb _ _ (h .first),
+          ),
           eq-eqb _ _ (h .second),
         )
 

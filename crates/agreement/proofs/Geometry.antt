@@ -18,9 +18,8 @@ use Rattle.lists.specs.All.{Distinct}
 use Rattle.lists.specs.Masks.{bit}
 use Rattle.lists.specs.Tabulate.{tabulate}
 use Rattle.lists.proofs.Tabulate.{length-tabulate, getD-tabulate, map-tabulate}
-use Rattle.field.specs.Arithmetic.{Prime}
 use Rattle.polynomial.specs.Polynomial.{Poly, Points, value}
-use Rattle.bivariate.specs.Bivariate.{at, row, column, LieOn}
+use Rattle.bivariate.specs.Bivariate.{LieOn}
 use Rattle.polynomial.proofs.Division.{value-zero}
 use Rattle.bivariate.proofs.Crossing.{row-poly, column-poly}
 use Rattle.bivariate.proofs.Bivariate.{lie-on, lie-once}
@@ -33,10 +32,12 @@ use Rattle.lists.proofs.Sublists.{map-sublist}
 use Rattle.fit.proofs.Decoding.{points-sublist}
 use Rattle.fit.proofs.Rule.{sent-length}
 use Rattle.fit.proofs.Selection.{fit-marked, fit-hide, sent-marked}
-use Rattle.parties.specs.Parties.{sizes, isParty, parties, pointOf, points, member, entry, notSent}
-use Rattle.parties.proofs.Parties.{sizes-facts, party-facts, party-true, mem-parties, length-parties, length-points, getD-points, points-distinct, points-below, not-sent-above}
+use Rattle.parties.specs.Parties.{isParty, parties, pointOf, member, entry, notSent}
+use Rattle.parties.proofs.Parties.{sizes-facts, party-facts, party-true, mem-parties, length-parties, length-points, getD-points}
+use Rattle.parties.proofs.Parties.{points-distinct, points-below, not-sent-above}
 use Rattle.recovery.specs.Recovery.{repair}
-use Rattle.lamp.specs.Lamp.{constant}
+use Rattle.answers.specs.Fits.{constant}
+use Rattle.agreement.specs.Setting.{Setting, Legal, width, point, allPoints, valueOf, rowFor, columnFor, zeroRow}
 use Rattle.agreement.proofs.Counting.{marks-ones, honest-members, honest-parties, mem-keep, keep-mem}
 
 -- Of two distinct points one is not a given party's.
@@ -49,140 +50,165 @@ another (a ∷ b ∷ xs) l d i =
       | no e ↦ (a, List·Memᴰ·head refl, e)
     ]
 
+-- A marked place is that of a party that passes.
+marks : (n : ℕ) (test : ℕ → Bool) (k : ℕ) → getD (map test (parties n)) k false ≡ true → (k < n) × (test (suc k) ≡ true)
+marks n test k e =
+    let table : map test (parties n) ≡ tabulate (λ k. test (suc k)) n = map-tabulate test suc n in
+    elim (decLt k n) [
+      | yes h ↦ (h, sym (ap (λ l. getD l k false) table ∙ getD-tabulate (λ k. test (suc k)) n k false h) ∙ e)
+      | no h ↦
+          let far : length (map test (parties n)) ≤ k = omega (arith, length-map (parties n) test, length-parties n) in
+          absurd (false≢true (sym (List·getD-eq-default (map test (parties n)) false {n = k} far) ∙ e))
+    ]
+
 -- ---- the constants of F's columns and of its rows
 module _ (p : ℕ) where
   constant-value : (k : ℕ) (f : List ℕ) → Poly p (suc k) f → constant f ≡ value p f 0
   constant-value k [] h = absurd (omega (arith, h .size))
   constant-value k (c ∷ f) h = sym (value-zero p c f ∙ mod-eq-of-lt (h .residues .0))
 
-  module _ (positive : 0 < p) (t : ℕ) (F : List ℕ) (square : length F ≡ suc t * suc t) where
-    pub column-constant : (x : ℕ) → constant (column p (suc t) (suc t) F x) ≡ at p (suc t) (suc t) F x 0
-    column-constant x =
-        constant-value t (column p (suc t) (suc t) F x) (column-poly p (suc t) (suc t) F x positive square) ∙ column-at p (suc t) (suc t) F x 0 square
+module _ (s : Setting) (legal : Legal s) (F : List ℕ) (square : length F ≡ width s * width s) where
+  -- The constant of a party's column is its share, that of the row at 0 the secret.
+  pub column-constant : (i : ℕ) → constant (columnFor s F i) ≡ valueOf s F (point s i) 0
+  column-constant i =
+      constant-value (s .p) (s .t) (columnFor s F i)
+      (column-poly (s .p) (width s) (width s) F (point s i) (omega (arith, legal .above)) square)
+      ∙ column-at (s .p) (width s) (width s) F (point s i) 0 square
 
-    pub row-constant : (y : ℕ) → constant (row p (suc t) (suc t) F y) ≡ at p (suc t) (suc t) F 0 y
-    row-constant y =
-        constant-value t (row p (suc t) (suc t) F y) (row-poly p (suc t) (suc t) F y positive) ∙ row-at p (suc t) (suc t) F 0 y
+  pub row-constant : constant (zeroRow s F) ≡ valueOf s F 0 0
+  row-constant =
+      constant-value (s .p) (s .t) (zeroRow s F)
+      (row-poly (s .p) (width s) (width s) F 0 (omega (arith, legal .above)))
+      ∙ row-at (s .p) (width s) (width s) F 0 0
 
-module _ (p : ℕ) (P : Prime p) (big : 16 < p) (n t : ℕ) (size : sizes n t ≡ true) where
-  pub points-fine : Points p (points n)
-  points-fine = (points-below p n (sizes-facts n t size .3) big, points-distinct n)
+-- ---- what is supposed, and what follows
+module _ (s : Setting) (honest : ℕ → Bool) (S : ℕ) where
+  pub record Inside (i : ℕ) : Type 0 where
+    pub party : isParty (s .n) i ≡ true
+    pub good : honest i ≡ true
+    pub happy : member S i ≡ true
+
+  module _ (rows columns : ℕ → List ℕ) where
+    -- The parties inside have rows and columns of t + 1 residues, which cross, each one's own included.
+    pub record Crossed : Type 0 where
+      pub row-polys : (i : ℕ) → Inside i → Poly (s .p) (width s) (rows i)
+      pub column-polys : (i : ℕ) → Inside i → Poly (s .p) (width s) (columns i)
+      pub cross : (i j : ℕ) → Inside i → Inside j → value (s .p) (rows i) (point s j) ≡ value (s .p) (columns j) (point s i)
+
+    -- F has (t + 1)² coefficients, residues, and every party inside has F's row and column.
+    pub record Lies (F : List ℕ) : Type 0 where
+      pub poly : Poly (s .p) (width s * width s) F
+      pub on-rows : (i : ℕ) → Inside i → rowFor s F i ≡ rows i
+      pub on-columns : (i : ℕ) → Inside i → columnFor s F i ≡ columns i
+
+module _ (s : Setting) (legal : Legal s) where
+  pub points-fine : Points (s .p) (allPoints s)
+  points-fine = (points-below (s .p) (s .n) (sizes-facts (s .n) (s .t) (legal .size) .3) (legal .above), points-distinct (s .n))
 
   -- ---- decoding: whoever agrees with enough honest parties is found
-  marks : (test : ℕ → Bool) (k : ℕ) → getD (map test (parties n)) k false ≡ true → (k < n) × (test (suc k) ≡ true)
-  marks test k e =
-      let table : map test (parties n) ≡ tabulate (λ k. test (suc k)) n = map-tabulate test suc n in
-      elim (decLt k n) [
-        | yes h ↦ (h, sym (ap (λ l. getD l k false) table ∙ getD-tabulate (λ k. test (suc k)) n k false h) ∙ e)
-        | no h ↦ absurd (false≢true (sym (List·getD-eq-default (map test (parties n)) false {n = k} (omega (arith, length-map (parties n) test, length-parties n))) ∙ e))
-      ]
-
-  decoded : (test : ℕ → Bool) (need : ℕ) (ys f : List ℕ) → Poly p (suc t) f → length ys ≡ n → need ≤ count test (parties n)
-      → sent p ys + t + 1 ≤ 2 * need
-      → ((i : ℕ) → isParty n i ≡ true → test i ≡ true → value p f (pointOf i) ≡ entry ys i)
-      → fit p t need (points n) ys ≡ some f
+  decoded : (test : ℕ → Bool) (need : ℕ) (ys f : List ℕ) → Poly (s .p) (width s) f → length ys ≡ s .n → need ≤ count test (parties (s .n))
+      → sent (s .p) ys + s .t + 1 ≤ 2 * need
+      → ((i : ℕ) → isParty (s .n) i ≡ true → test i ≡ true → value (s .p) f (point s i) ≡ entry ys i)
+      → fit (s .p) (s .t) need (allPoints s) ys ≡ some f
   decoded test need ys f hf l enough once agrees =
-      fit-marked p P t need f (map test (parties n)) (points n) ys points-fine once
-      (length-map (parties n) test ∙ sym (length-map (parties n) pointOf)) (length-points n ∙ sym l)
-      (omega (arith, count-map (λ b. b) test (parties n))) hf
-      (λ k e. let m = marks test k e in at-place k (m .0) (agrees (suc k) (party-true n (suc k) (omega arith) (omega arith)) (m .1)))
+      fit-marked (s .p) (legal .prime) (s .t) need f (map test (parties (s .n))) (allPoints s) ys points-fine once
+      (length-map (parties (s .n)) test ∙ sym (length-map (parties (s .n)) (point s))) (length-points (s .n) ∙ sym l)
+      (omega (arith, count-map (λ b. b) test (parties (s .n)))) hf
+      (λ k e.
+      let m = marks (s .n) test k e in
+      at-place k (m .0) (agrees (suc k) (party-true (s .n) (suc k) (omega arith) (omega arith)) (m .1)))
     where
-      at-place : (k : ℕ) → k < n → value p f (pointOf (suc k)) ≡ entry ys (suc k) → value p f (getD (points n) k 0) ≡ getD ys k 0
+      at-place : (k : ℕ) → k < s .n → value (s .p) f (point s (suc k)) ≡ entry ys (suc k)
+          → value (s .p) f (getD (allPoints s) k 0) ≡ getD ys k 0
       at-place k h e =
           let place : suc k - 1 ≡ k = omega arith in
-          ap (value p f) (getD-points n k h) ∙ e ∙ ap (λ z. getD ys z 0) place
+          ap (value (s .p) f) (getD-points (s .n) k h) ∙ e ∙ ap (λ z. getD ys z 0) place
 
-  module _ (honest : ℕ → Bool) (few : count (λ i. not (honest i)) (parties n) ≤ t) where
+  module _ (honest : ℕ → Bool) (few : count (λ i. not (honest i)) (parties (s .n)) ≤ s .t) where
     -- ---- opening: n values, and those of the honest lie on f
-    pub opens : (f ys : List ℕ) → Poly p (suc t) f → length ys ≡ n
-        → ((i : ℕ) → isParty n i ≡ true → honest i ≡ true → value p f (pointOf i) ≡ entry ys i)
-        → fit p t (n - t) (points n) ys ≡ some f
+    pub opens : (f ys : List ℕ) → Poly (s .p) (width s) f → length ys ≡ s .n
+        → ((i : ℕ) → isParty (s .n) i ≡ true → honest i ≡ true → value (s .p) f (point s i) ≡ entry ys i)
+        → fit (s .p) (s .t) (s .n - s .t) (allPoints s) ys ≡ some f
     opens f ys hf l agrees =
-        let s = sizes-facts n t size in
-        decoded honest (n - t) ys f hf l (honest-parties honest n t few) (omega (arith, sent-length p ys)) agrees
+        let z = sizes-facts (s .n) (s .t) (legal .size) in
+        decoded honest (s .n - s .t) ys f hf l (honest-parties honest (s .n) (s .t) few) (omega (arith, sent-length (s .p) ys)) agrees
 
-    module _ (S : ℕ) (within : S < 2 ^ n) (many : n - t ≤ ones S) where
+    module _ (S : ℕ) (within : S < 2 ^ s .n) (many : s .n - s .t ≤ ones S) where
       -- ---- repair: the values of S, and those of the honest lie on f
-      pub repairs : (f heard : List ℕ) → Poly p (suc t) f → n ≤ length heard
-          → ((i : ℕ) → isParty n i ≡ true → honest i ≡ true → member S i ≡ true → value p f (pointOf i) ≡ entry heard i)
-          → repair p n t S heard ≡ some f
+      pub repairs : (f heard : List ℕ) → Poly (s .p) (width s) f → s .n ≤ length heard
+          → ((i : ℕ) → isParty (s .n) i ≡ true → honest i ≡ true → member S i ≡ true → value (s .p) f (point s i) ≡ entry heard i)
+          → repair (s .p) (s .n) (s .t) S heard ≡ some f
       unfolding repair
       repairs f heard hf l agrees =
-          let s = sizes-facts n t size in
-          let ms : List Bool = tabulate (bit S) n in
-          let ys : List ℕ = take n heard in
-          let size-ys : length ys ≡ n = length-take-le n heard l in
-          let size-ms : length ms ≡ length ys = length-tabulate (bit S) n ∙ sym size-ys in
-          let unsent = not-sent-above p in
-          let fewer : sent p (hide (notSent p) ms ys) ≤ ones S = omega (arith, sent-marked p (notSent p) unsent ms ys size-ms, marks-ones S n within) in
-          sym (fit-hide p (notSent p) unsent (omega (arith, P .two)) ms (points n) ys t (ones S - t))
-          ∙ decoded (λ i. honest i && member S i) (ones S - t) (hide (notSent p) ms ys) f hf (length-hide (notSent p) ms ys size-ms ∙ size-ys)
-          (honest-members honest S n t within few) (omega arith)
+          let z = sizes-facts (s .n) (s .t) (legal .size) in
+          let ms : List Bool = tabulate (bit S) (s .n) in
+          let ys : List ℕ = take (s .n) heard in
+          let size-ys : length ys ≡ s .n = length-take-le (s .n) heard l in
+          let size-ms : length ms ≡ length ys = length-tabulate (bit S) (s .n) ∙ sym size-ys in
+          let unsent = not-sent-above (s .p) in
+          let fewer : sent (s .p) (hide (notSent (s .p)) ms ys) ≤ ones S =
+          omega (arith, sent-marked (s .p) (notSent (s .p)) unsent ms ys size-ms, marks-ones S (s .n) within) in
+          sym (fit-hide (s .p) (notSent (s .p)) unsent (omega (arith, legal .above)) ms (allPoints s) ys (s .t) (ones S - s .t))
+          ∙ decoded (λ i. honest i && member S i) (ones S - s .t) (hide (notSent (s .p)) ms ys) f hf
+          (length-hide (notSent (s .p)) ms ys size-ms ∙ size-ys)
+          (honest-members honest S (s .n) (s .t) within few) (omega arith)
           (λ i party e. let both = and-eq-true-iff (honest i) (member S i) .0 e in
           agrees i party (both .0) (both .1) ∙ sym (kept i party (both .1)))
         where
-          kept : (i : ℕ) → isParty n i ≡ true → member S i ≡ true → entry (hide (notSent p) (tabulate (bit S) n) (take n heard)) i ≡ entry heard i
+          kept : (i : ℕ) → isParty (s .n) i ≡ true → member S i ≡ true
+              → entry (hide (notSent (s .p)) (tabulate (bit S) (s .n)) (take (s .n) heard)) i ≡ entry heard i
           kept i party e =
-              let h = party-facts n i party in
-              hide-at (notSent p) (tabulate (bit S) n) (take n heard) (i - 1) 0 (getD-tabulate (bit S) n (i - 1) false (omega arith) ∙ e)
-              ∙ getD-take n heard (i - 1) 0 (omega arith)
+              let h = party-facts (s .n) i party in
+              hide-at (notSent (s .p)) (tabulate (bit S) (s .n)) (take (s .n) heard) (i - 1) 0
+              (getD-tabulate (bit S) (s .n) (i - 1) false (omega arith) ∙ e)
+              ∙ getD-take (s .n) heard (i - 1) 0 (omega arith)
 
       -- ---- the one F
-      pub record Inside (i : ℕ) : Type 0 where
-        pub party : isParty n i ≡ true
-        pub good : honest i ≡ true
-        pub happy : member S i ≡ true
+      abbrev In : ℕ → Type 0
+      In = Inside s honest S
 
       -- The parties inside, in order.
       inside : List ℕ
-      inside = keep (λ i. honest i && member S i) (parties n)
+      inside = keep (λ i. honest i && member S i) (parties (s .n))
 
-      inside-mem : (i : ℕ) → Inside i → List·Memᴰ i inside
+      inside-mem : (i : ℕ) → In i → List·Memᴰ i inside
       unfolding inside
       inside-mem i h =
-          mem-keep (λ i. honest i && member S i) (parties n) i (mem-parties n i .1 (party-facts n i (h .party)))
+          mem-keep (λ i. honest i && member S i) (parties (s .n)) i (mem-parties (s .n) i .1 (party-facts (s .n) i (h .party)))
           (and-eq-true-iff (honest i) (member S i) .1 (h .good, h .happy))
 
-      mem-inside : (i : ℕ) → List·Memᴰ i inside → Inside i
+      mem-inside : (i : ℕ) → List·Memᴰ i inside → In i
       unfolding inside
       mem-inside i m =
-          let k = keep-mem (λ i. honest i && member S i) (parties n) i m in
-          let range = mem-parties n i .0 (k .0) in
+          let k = keep-mem (λ i. honest i && member S i) (parties (s .n)) i m in
+          let range = mem-parties (s .n) i .0 (k .0) in
           let both = and-eq-true-iff (honest i) (member S i) .0 (k .1) in
-          record { party = party-true n i (range .0) (range .1); good = both .0; happy = both .1 }
+          record { party = party-true (s .n) i (range .0) (range .1); good = both .0; happy = both .1 }
 
       -- There are at least 2t + 1 of them.
-      inside-many : 2 * t + 1 ≤ length inside
+      inside-many : 2 * s .t + 1 ≤ length inside
       unfolding inside
       inside-many =
-          let s = sizes-facts n t size in
-          omega (arith, honest-members honest S n t within few, length-keep (λ i. honest i && member S i) (parties n))
+          let z = sizes-facts (s .n) (s .t) (legal .size) in
+          omega (arith, honest-members honest S (s .n) (s .t) within few, length-keep (λ i. honest i && member S i) (parties (s .n)))
 
-      inside-points : Points p (map pointOf inside)
+      inside-points : Points (s .p) (map (point s) inside)
       unfolding inside
-      inside-points = points-sublist p (map-sublist pointOf (keep-sublist (λ i. honest i && member S i) (parties n))) points-fine
+      inside-points =
+          points-sublist (s .p) (map-sublist (point s) (keep-sublist (λ i. honest i && member S i) (parties (s .n)))) points-fine
 
       -- Another party inside, beside any.
-      pub neighbour : (i : ℕ) → (j : ℕ) × Inside j × (i ≡ j → ⊥)
+      pub neighbour : (i : ℕ) → (j : ℕ) × In j × (i ≡ j → ⊥)
       neighbour i =
-          let s = sizes-facts n t size in
+          let z = sizes-facts (s .n) (s .t) (legal .size) in
           let other = another inside (omega (arith, inside-many)) (inside-points .1) i in
           (other .0, mem-inside (other .0) (other .1), other .2)
 
       module _ (rows columns : ℕ → List ℕ) where
-        -- The parties inside have rows and columns of t + 1 residues, which cross, each one's own included.
-        pub record Crossed : Type 0 where
-          pub row-polys : (i : ℕ) → Inside i → Poly p (suc t) (rows i)
-          pub column-polys : (i : ℕ) → Inside i → Poly p (suc t) (columns i)
-          pub cross : (i j : ℕ) → Inside i → Inside j → value p (rows i) (pointOf j) ≡ value p (columns j) (pointOf i)
+        abbrev On : List ℕ → Type 0
+        On = Lies s honest S rows columns
 
-        -- F has (t + 1)² coefficients, residues, and every party inside has F's row and column.
-        pub record Lies (F : List ℕ) : Type 0 where
-          pub poly : Poly p (suc t * suc t) F
-          pub on-rows : (i : ℕ) → Inside i → row p (suc t) (suc t) F (pointOf i) ≡ rows i
-          pub on-columns : (i : ℕ) → Inside i → column p (suc t) (suc t) F (pointOf i) ≡ columns i
-
-        all-on : (F : List ℕ) → Lies F → LieOn p (suc t) (suc t) pointOf inside rows columns F
+        all-on : (F : List ℕ) → On F → LieOn (s .p) (width s) (width s) (point s) inside rows columns F
         all-on F h = record {
           residues = h .poly .residues;
           size = h .poly .size;
@@ -190,13 +216,16 @@ module _ (p : ℕ) (P : Prime p) (big : 16 < p) (n t : ℕ) (size : sizes n t �
           columns = λ i m. h .on-columns i (mem-inside i m);
         }
 
-        pub lies-once : (F G : List ℕ) → Lies F → Lies G → F ≡ G
+        pub lies-once : (F G : List ℕ) → On F → On G → F ≡ G
         lies-once F G hF hG =
-            lie-once p P pointOf inside inside-points (suc t) (omega (arith, inside-many)) (suc t) rows columns F G (all-on F hF) (all-on G hG)
+            lie-once (s .p) (legal .prime) (point s) inside inside-points (width s) (omega (arith, inside-many)) (width s) rows columns F G
+            (all-on F hF) (all-on G hG)
 
-        pub lies : Crossed → (F : List ℕ) × Lies F
+        pub lies : Crossed s honest S rows columns → (F : List ℕ) × On F
         lies c =
-            let r = lie-on p P pointOf inside inside-points (suc t) (omega (arith, inside-many)) (suc t) rows columns (omega (arith, inside-many))
+            let r =
+            lie-on (s .p) (legal .prime) (point s) inside inside-points (width s) (omega (arith, inside-many)) (width s) rows columns
+            (omega (arith, inside-many))
             (λ i m. c .row-polys i (mem-inside i m)) (λ i m. c .column-polys i (mem-inside i m))
             (λ i j mi mj. c .cross i j (mem-inside i mi) (mem-inside j mj)) in (
               r .0,

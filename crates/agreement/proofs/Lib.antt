@@ -8,7 +8,13 @@ pub mod Collapse
 pub mod Strays
 pub mod Outcomes
 pub mod Agreement
+pub mod Tables
+pub mod Settling
 pub mod Rightness
 pub mod Sentences
+pub mod Guards
+pub mod Sayings
+pub mod DeskAndRecord
+pub mod Refusals
 pub mod Marked
 pub mod Stories

@@ -1,4 +1,4 @@
--- M1 to M12 and the traps hold of the definitions, all together, by computation.
+-- M1 to M12, the traps and the sayings hold of the definitions, all together, by computation.
 use mathlib.Core.Path.{_≡_, refl}
 use mathlib.Core.Bool.{true}
 use mathlib.Core.List.{_++_, zipWith}
@@ -10,16 +10,18 @@ use Rattle.field.specs.Modulus.{modulus}
 use Rattle.interpolation.specs.Interpolation.{interpolate}
 use Rattle.mutual.specs.Agreement.{agree, agreements}
 use Rattle.happy.specs.Happy.{joins, better, best, largest, largestIn, happySet}
-use Rattle.trial.specs.Trial.{hits, received, through}
+use Rattle.trial.specs.Trial.{hits, pointsSent, through}
 use Rattle.fit.specs.Fit.{sent, fit}
 use Rattle.parties.specs.Parties.{sizes, isParty, pointOf, notSent}
-use Rattle.dealer.specs.Desk.{deal, deals, verdict, desk}
-use Rattle.consistency.specs.Deal.{sound, confirms, reportOf}
+use Rattle.dealer.specs.Desk.{deal, deals, desk}
+use Rattle.consistency.specs.Deal.{sound, pairFor, confirms, reportOf}
 use Rattle.recovery.specs.Recovery.{repair}
-use Rattle.answers.specs.Answer.{lowest}
-use Rattle.lamp.specs.Lamp.{check, make, withDeal, withPairs, reportFrom, atEnd, settled, opening, step}
-use Rattle.agreement.specs.Marked.{holds, allHold, table, traps}
+use Rattle.lamp.specs.Lamp.{make, withDeal, withPairs, saidPair, reportFrom, atEnd, settled, opening, step}
+use Rattle.agreement.specs.Marked.{holds, allHold, table, traps, sayings}
 
-pub markedHold : allHold modulus (table ++ traps) ≡ true
-unfolding holds step make check lowest settled repair opening atEnd withDeal withPairs reportFrom reportOf confirms mask sound sizes isParty pointOf notSent desk verdict deals deal fit received hits sent through interpolate zipWith happySet largestIn largest best better joins agreements agree tabulate add sub mul inv invWithin ones
-markedHold = refl
+pub marked-hold : allHold modulus (table ++ traps ++ sayings) ≡ true
+unfolding
+    holds step make settled repair opening atEnd withDeal withPairs saidPair pairFor reportFrom reportOf confirms mask sound
+    sizes isParty pointOf notSent desk deals deal fit pointsSent hits sent through interpolate zipWith
+    happySet largestIn largest best better joins agreements agree tabulate add sub mul inv invWithin ones
+marked-hold = refl

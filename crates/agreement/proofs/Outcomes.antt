@@ -18,23 +18,26 @@ use Rattle.answers.specs.declared.Answer.the-variants.{Accepted, Opened, Refuse
 use Rattle.lamp.specs.declared.Lamp.{Lamp}
 use Rattle.consistency.specs.Deal.{firstFrom}
 use Rattle.recovery.specs.Recovery.{repair}
-use Rattle.lamp.specs.Lamp.{reply, columnOfLamp, firsts, atEnd, constant, repaired, settled, opened}
+use Rattle.answers.specs.Fits.{constant}
+use Rattle.lamp.specs.Lamp.{reply, columnOfLamp, firsts, atEnd, repaired, settled, opened}
 
 module _ (p : ℕ) (l : Lamp) (S : ℕ) where
-  pub settled-rejects : ones S < l .n - l .t → settled p l S ≡ reply (atEnd l Closed 0 0) (Refused DealerRejected)
+  pub settled-rejects : ones S < l .party .n - l .party .t → settled p l S ≡ reply (atEnd l Closed 0 0) (Refused DealerRejected)
   unfolding settled
-  settled-rejects h = rw (lt-leb (l .n - l .t) (ones S) h)
+  settled-rejects h = rw (lt-leb (l .party .n - l .party .t) (ones S) h)
 
-  module _ (many : l .n - l .t ≤ ones S) where
-    pub settled-happy : member S (l .number) ≡ true → settled p l S ≡ reply (atEnd l Holding S (constant (columnOfLamp l))) Accepted
+  module _ (many : l .party .n - l .party .t ≤ ones S) where
+    pub settled-happy : member S (l .party .number) ≡ true → settled p l S ≡ reply (atEnd l Holding S (constant (columnOfLamp l))) Accepted
     unfolding settled
-    settled-happy e = rw (le-leb (l .n - l .t) (ones S) many, e)
+    settled-happy e = rw (le-leb (l .party .n - l .party .t) (ones S) many, e)
 
-    pub settled-mended : member S (l .number) ≡ false → settled p l S ≡ repaired l S (repair p (l .n) (l .t) S (l .heard))
+    pub settled-mended : member S (l .party .number) ≡ false
+        → settled p l S ≡ repaired l S (repair p (l .party .n) (l .party .t) S (l .sharing .heard))
     unfolding settled
-    settled-mended e = rw (le-leb (l .n - l .t) (ones S) many, e)
+    settled-mended e = rw (le-leb (l .party .n - l .party .t) (ones S) many, e)
 
-    pub settled-repaired : (f : List ℕ) → member S (l .number) ≡ false → repair p (l .n) (l .t) S (l .heard) ≡ some f
+    pub settled-repaired : (f : List ℕ) → member S (l .party .number) ≡ false
+        → repair p (l .party .n) (l .party .t) S (l .sharing .heard) ≡ some f
         → settled p l S ≡ reply (atEnd l Holding S (constant f)) Accepted
     settled-repaired f e found = settled-mended e ∙ ap (repaired l S) found
 
@@ -43,7 +46,8 @@ pub heard-entry : (n : ℕ) (hs : List ℕ) (j : ℕ) → isParty n j ≡ true �
 heard-entry n hs j party =
     let f = party-facts n j party in
     let place : suc (j - 1) ≡ j = omega arith in
-    List·getD-append (firsts n hs) (replicate (16 - length (firsts n hs)) 0) 0 (j - 1) (omega (arith, length-tabulate (λ k. firstFrom hs (suc k)) n))
+    List·getD-append (firsts n hs) (replicate (16 - length (firsts n hs)) 0) 0 (j - 1)
+    (omega (arith, length-tabulate (λ k. firstFrom hs (suc k)) n))
     ∙ getD-tabulate (λ k. firstFrom hs (suc k)) n (j - 1) 0 (omega arith)
     ∙ ap (firstFrom hs) place
 

@@ -1,9 +1,10 @@
 -- Sentences of document 01 about the lamp, each a short theorem: at every state and every list of calls, unless said otherwise.
---   untilItSettles        "Until it settles its share is 0 and its happy set empty."
---   afterThreeCalls       "A lamp given these messages in turn is holding or closed after three accepted calls, a settling that gives 8 or 9 counted"
---   refusalChangesNothing "lists and lamp are unchanged, but 8 and 9 close the lamp with share 0, and with an empty happy set for 8, the found set for 9"
---   nothingHidden         a list of calls determines the deal, the pairs and the reports that it brings
---   reportKept            the report that is given out is the one that is kept
+--   until-it-settles    "Until it settles its share is 0 and its happy set empty."
+--   after-three-calls   "A lamp given these messages in turn is holding or closed after three accepted calls, a settling that gives 8 or 9
+--                       counted among them."
+--   nothing-hidden      a list of calls determines the deal, the pairs and the reports that it brings
+--   report-kept         the report that is given out is the one that is kept
+-- "The number is the only result; lists and lamp are unchanged, but 8 and 9 close the lamp" is demand 1.
 use mathlib.Core.Path.{_≡_, refl, sym, ap, ap₂, subst, _∙_}
 use mathlib.Core.Logic.{_⊎_, inl, inr}
 use mathlib.Core.Bool.{Bool, true, false, cond, not, _&&_}
@@ -28,34 +29,22 @@ use Rattle.answers.specs.declared.Admission.{Admission}
 use Rattle.answers.specs.declared.Admission.the-variants.{Pass, Fail}
 use Rattle.lamp.specs.declared.Lamp.{Lamp}
 use Rattle.lamp.specs.declared.Reply.{Reply}
-use Rattle.answers.specs.Answer.{numberOf, stageNumber, lowest}
-use Rattle.consistency.specs.Deal.{rowOf, columnOf, reportOf}
+use Rattle.answers.specs.Refusals.{lowest}
+use Rattle.answers.specs.Answers.{stageNumber}
 use Rattle.recovery.specs.Recovery.{repair}
-use Rattle.lamp.specs.Lamp.{made, reply, refuse, check, guard, isAt, withDeal, saidPair, withPairs, reportFrom, atEnd, constant, columnOfLamp, repaired, settled, opening, opened, Call, takeDeal, sayPair, hearPairs, settle, openShares, step, after}
+use Rattle.answers.specs.Fits.{constant}
+use Rattle.lamp.specs.Lamp.{Sized, reply, refuse, guard, isAt, withDeal, saidPair, withPairs, reportFrom, atEnd}
+use Rattle.lamp.specs.Lamp.{columnOfLamp, repaired, settled, opening, opened, Call, takeDeal, sayPair, hearPairs, settle, openShares, step}
+use Rattle.lamp.specs.Lamp.{tests, outcome, after}
+use Rattle.lamp.proofs.Checks.{passed}
+use Rattle.agreement.specs.Setting.{Setting, width, reportBy, madeFor, lampAt}
 use Rattle.agreement.specs.Calls.{Run, whole, Never, isDeal, isHearing, isSettling}
-use Rattle.agreement.specs.Demand2.{Stands}
-use Rattle.agreement.specs.Demand3.{Brings, reportBy}
+use Rattle.agreement.specs.Demand3.{Brings}
 use Rattle.agreement.proofs.Runs.{by-cond}
 use Rattle.agreement.proofs.Strays.{cuts, never-at}
 use Rattle.agreement.proofs.Collapse as one
 
 -- ---- what a call can make of a lamp
-fail-pass : {A : Type 0} (why : Refusal) → Fail why ≡ Pass → A
-fail-pass why e = absurd (let z : _≡_ {A = ℕ} 0 1 = cc in omega arith)
-
--- Where nothing is wrong the stage is right.
-lowest-stage : (a b c d : Bool) → lowest a b c d ≡ Pass → d ≡ true
-unfolding lowest
-lowest-stage a b c true e = refl
-lowest-stage true true true false e = fail-pass WrongStage e
-lowest-stage true true false false e = fail-pass WrongLength e
-lowest-stage true false c false e = fail-pass WrongNumber e
-lowest-stage false b c false e = fail-pass WrongSize e
-
-stage-right : (l : Lamp) (number list stage : Bool) → check l number list stage ≡ Pass → stage ≡ true
-unfolding check
-stage-right l number list stage e = lowest-stage (sizes (l .n) (l .t)) (isParty (l .n) (l .number) && number) list stage e
-
 guard-makes : (Q : Lamp → Type 0) (l : Lamp) (a : Admission) (r : Reply) → Q l → (a ≡ Pass → Q (r .lamp)) → Q (guard l a r .lamp)
 guard-makes Q l Pass r h k = k refl
 guard-makes Q l (Fail why) r h k = h
@@ -65,29 +54,24 @@ opened-makes Q l none h = h
 opened-makes Q l (some f) h = h
 
 module _ (p : ℕ) (Q : Lamp → Type 0) (l : Lamp) where
-  step-makes : Q l → (isAt Waiting l ≡ true → (d : List ℕ) → Q (withDeal l d)) → (isAt Dealt l ≡ true → (hs : List ℕ) → Q (withPairs p l hs))
+  pub step-makes : Q l → (isAt Waiting (l .sharing) ≡ true → (d : List ℕ) → Q (withDeal l d))
+      → (isAt Dealt (l .sharing) ≡ true → (hs : List ℕ) → Q (withPairs p l hs))
       → ((S : ℕ) → Q (settled p l S .lamp)) → (c : Call) → Q (step p l c .lamp)
   unfolding step
-  step-makes same dealt heard ended (takeDeal d) =
-      let fits : Bool = eqb (length d) (2 * suc (l .t)) in
-      guard-makes Q l (check l true fits (isAt Waiting l)) (reply (withDeal l d) Done) same (λ e. dealt (stage-right l true fits (isAt Waiting l) e) d)
-  step-makes same dealt heard ended (sayPair j) =
-      guard-makes Q l (check l (isParty (l .n) j) true (not (isAt Waiting l))) (reply l (Pair (saidPair p l j .0) (saidPair p l j .1))) same (λ e. same)
-  step-makes same dealt heard ended (hearPairs hs) =
-      let fits : Bool = eqb (length hs) (2 * l .n) in
-      guard-makes Q l (check l true fits (isAt Dealt l)) (reply (withPairs p l hs) (Report (reportFrom p l hs))) same
-      (λ e. heard (stage-right l true fits (isAt Dealt l) e) hs)
-  step-makes same dealt heard ended (settle rs) =
-      let own : Bool = eqb (entry rs (l .number)) (l .report) in
-      guard-makes Q l (check l true (eqb (length rs) (l .n)) (isAt Reported l)) (cond own (settled p l (happySet rs)) (refuse l AlteredReport)) same
-      (λ e. by-cond (λ (r : Reply). Q (r .lamp)) own (settled p l (happySet rs)) (refuse l AlteredReport) (ended (happySet rs)) same)
-  step-makes same dealt heard ended (openShares xs) =
-      guard-makes Q l (check l true (eqb (length xs) (l .n)) (isAt Holding l)) (opened l (opening p l xs)) same
-      (λ e. opened-makes Q l (opening p l xs) same)
+  step-makes same dealt heard ended c = guard-makes Q l (lowest (tests l c)) (outcome p l c) same (makes c)
+    where
+      makes : (c : Call) → lowest (tests l c) ≡ Pass → Q (outcome p l c .lamp)
+      makes (takeDeal d) e = dealt (passed l (takeDeal d) e .2) d
+      makes (sayPair j) e = same
+      makes (hearPairs hs) e = heard (passed l (hearPairs hs) e .2) hs
+      makes (settle rs) e =
+          by-cond (λ (r : Reply). Q (r .lamp)) (eqb (entry rs (l .party .number)) (l .sharing .report))
+          (settled p l (happySet rs)) (refuse l AlteredReport) (ended (happySet rs)) same
+      makes (openShares xs) e = opened-makes Q l (opening p l xs) same
 
 -- ---- until it settles
 abbrev Unsettled : Lamp → Type 0
-Unsettled l = stageNumber (l .stage) ≤ 2 → (l .share ≡ 0) × (l .happy ≡ 0)
+Unsettled l = stageNumber (l .sharing .stage) ≤ 2 → (l .sharing .share ≡ 0) × (l .sharing .happy ≡ 0)
 
 end-settled : (l : Lamp) (s : Stage) (S v : ℕ) → 3 ≤ stageNumber s → Unsettled (atEnd l s S v)
 unfolding atEnd
@@ -100,37 +84,40 @@ repaired-settled l S (some f) = end-settled l Holding S (constant f) (omega arit
 settled-settled : (p : ℕ) (l : Lamp) (S : ℕ) → Unsettled (settled p l S .lamp)
 unfolding settled
 settled-settled p l S =
-    by-cond (λ (r : Reply). Unsettled (r .lamp)) (leb (l .n - l .t) (ones S)) _ _
-    (by-cond (λ (r : Reply). Unsettled (r .lamp)) (member S (l .number)) _ _
-    (end-settled l Holding S (constant (columnOfLamp l)) (omega arith)) (repaired-settled l S (repair p (l .n) (l .t) S (l .heard))))
+    by-cond (λ (r : Reply). Unsettled (r .lamp)) (leb (l .party .n - l .party .t) (ones S)) _ _
+    (by-cond (λ (r : Reply). Unsettled (r .lamp)) (member S (l .party .number)) _ _
+    (end-settled l Holding S (constant (columnOfLamp l)) (omega arith))
+    (repaired-settled l S (repair p (l .party .n) (l .party .t) S (l .sharing .heard))))
     (end-settled l Closed 0 0 (omega arith))
 
 step-unsettled : (p : ℕ) (l : Lamp) (c : Call) → Unsettled l → Unsettled (step p l c .lamp)
 unfolding withDeal withPairs
 step-unsettled p l c h =
     step-makes p Unsettled l h
-    (λ w d k. h (omega (arith, eqb-true (stageNumber (l .stage)) 0 w)))
-    (λ w hs k. h (omega (arith, eqb-true (stageNumber (l .stage)) 1 w)))
+    (λ w d k. h (omega (arith, eqb-true (stageNumber (l .sharing .stage)) 0 w)))
+    (λ w hs k. h (omega (arith, eqb-true (stageNumber (l .sharing .stage)) 1 w)))
     (settled-settled p l) c
 
 after-unsettled : (p : ℕ) (l : Lamp) (cs : List Call) → Unsettled l → Unsettled (after p l cs)
 after-unsettled p l [] h = h
 after-unsettled p l (c ∷ cs) h = after-unsettled p (step p l c .lamp) cs (step-unsettled p l c h)
 
-pub untilItSettles : (p n t i : ℕ) (cs : List Call) → stageNumber (after p (made n t i) cs .stage) ≤ 2
-    → (after p (made n t i) cs .share ≡ 0) × (after p (made n t i) cs .happy ≡ 0)
-untilItSettles p n t i cs = after-unsettled p (made n t i) cs (λ k. (refl, refl))
+pub until-it-settles : (s : Setting) (i : ℕ) (cs : List Call) → stageNumber (lampAt s i cs .sharing .stage) ≤ 2
+    → (lampAt s i cs .sharing .share ≡ 0) × (lampAt s i cs .sharing .happy ≡ 0)
+until-it-settles s i cs = after-unsettled (s .p) (madeFor s i) cs (λ k. (refl, refl))
 
 -- ---- holding or closed after three accepted calls
-end-last : (p : ℕ) (l : Lamp) (S : ℕ) → (settled p l S .lamp .stage ≡ Holding) ⊎ (settled p l S .lamp .stage ≡ Closed)
+end-last : (p : ℕ) (l : Lamp) (S : ℕ) → (settled p l S .lamp .sharing .stage ≡ Holding) ⊎ (settled p l S .lamp .sharing .stage ≡ Closed)
 unfolding settled atEnd
 end-last p l S =
-    by-cond (λ (r : Reply). (r .lamp .stage ≡ Holding) ⊎ (r .lamp .stage ≡ Closed)) (leb (l .n - l .t) (ones S)) _ _
-    (by-cond (λ (r : Reply). (r .lamp .stage ≡ Holding) ⊎ (r .lamp .stage ≡ Closed)) (member S (l .number)) _ _ (inl refl)
-    (mended (repair p (l .n) (l .t) S (l .heard))))
+    by-cond (λ (r : Reply). (r .lamp .sharing .stage ≡ Holding) ⊎ (r .lamp .sharing .stage ≡ Closed))
+    (leb (l .party .n - l .party .t) (ones S)) _ _
+    (by-cond (λ (r : Reply). (r .lamp .sharing .stage ≡ Holding) ⊎ (r .lamp .sharing .stage ≡ Closed)) (member S (l .party .number)) _ _
+    (inl refl)
+    (mended (repair p (l .party .n) (l .party .t) S (l .sharing .heard))))
     (inr refl)
   where
-    mended : (o : Option (List ℕ)) → (repaired l S o .lamp .stage ≡ Holding) ⊎ (repaired l S o .lamp .stage ≡ Closed)
+    mended : (o : Option (List ℕ)) → (repaired l S o .lamp .sharing .stage ≡ Holding) ⊎ (repaired l S o .lamp .sharing .stage ≡ Closed)
     mended none = inr refl
     mended (some f) = inl refl
 
@@ -138,41 +125,44 @@ end-last p l S =
 abbrev inTurn : List ℕ → List ℕ → List ℕ → Run
 inTurn d hs rs = record { beforeDeal = []; itsDeal = d; beforePairs = []; itsPairs = hs; beforeReports = []; itsReports = rs; rest = [] }
 
-pub afterThreeCalls : (p n t i : ℕ) (d hs rs : List ℕ) → sizes n t ≡ true → isParty n i ≡ true
-    → length d ≡ 2 * suc t → length hs ≡ 2 * n → length rs ≡ n → entry rs i ≡ reportBy p n t i (inTurn d hs rs)
-    → (after p (made n t i) (takeDeal d ∷ hearPairs hs ∷ settle rs ∷ []) .stage ≡ Holding)
-    ⊎ (after p (made n t i) (takeDeal d ∷ hearPairs hs ∷ settle rs ∷ []) .stage ≡ Closed)
-afterThreeCalls p n t i d hs rs size party ld lh lr own =
+pub after-three-calls : (s : Setting) (i : ℕ) (d hs rs : List ℕ) → sizes (s .n) (s .t) ≡ true → isParty (s .n) i ≡ true
+    → length d ≡ 2 * width s → length hs ≡ 2 * s .n → length rs ≡ s .n → entry rs i ≡ reportBy s i d hs
+    → (lampAt s i (takeDeal d ∷ hearPairs hs ∷ settle rs ∷ []) .sharing .stage ≡ Holding)
+    ⊎ (lampAt s i (takeDeal d ∷ hearPairs hs ∷ settle rs ∷ []) .sharing .stage ≡ Closed)
+after-three-calls s i d hs rs size party ld lh lr own =
     let r : Run = inTurn d hs rs in
-    let b : Brings p n t i (whole r) r = record {
+    let sized : Sized (madeFor s i) = record { size = size; party = party } in
+    let b : Brings s i (whole r) r = record {
       list = refl;
-      dealLength = ld;
-      dealFirst = tt;
-      pairsLength = lh;
-      pairsFirst = tt;
-      reportsLength = lr;
-      reportsOwn = own;
-      reportsFirst = tt;
+      deal-length = ld;
+      deal-first = tt;
+      pairs-length = lh;
+      pairs-first = tt;
+      reports-length = lr;
+      reports-own = own;
+      reports-first = tt;
     } in
-    let is = one.since-settling p n t i size party (whole r) r b [] in
-    subst (λ (l : Lamp). (l .stage ≡ Holding) ⊎ (l .stage ≡ Closed)) (sym is) (end-last p (one.reported p n t i size party (whole r) r b) (happySet rs))
+    subst (λ (l : Lamp). (l .sharing .stage ≡ Holding) ⊎ (l .sharing .stage ≡ Closed))
+    (sym (one.since-settling s i sized (whole r) r b []))
+    (end-last (s .p) (one.reported s i sized (whole r) r b) (happySet rs))
 
 -- ---- the report that is given out is kept
-pub reportKept : (p : ℕ) (l : Lamp) (hs : List ℕ) (r : ℕ) → step p l (hearPairs hs) .answer ≡ Report r → step p l (hearPairs hs) .lamp .report ≡ r
+pub report-kept : (p : ℕ) (l : Lamp) (hs : List ℕ) (r : ℕ) → step p l (hearPairs hs) .answer ≡ Report r
+    → step p l (hearPairs hs) .lamp .sharing .report ≡ r
 unfolding step withPairs
-reportKept p l hs r e = by (check l true (eqb (length hs) (2 * l .n)) (isAt Dealt l)) e
+report-kept p l hs r e = by (lowest (tests l (hearPairs hs))) e
   where
     heard : Reply
     heard = reply (withPairs p l hs) (Report (reportFrom p l hs))
 
-    by : (a : Admission) → guard l a heard .answer ≡ Report r → guard l a heard .lamp .report ≡ r
+    by : (a : Admission) → guard l a heard .answer ≡ Report r → guard l a heard .lamp .sharing .report ≡ r
     by Pass e = cc
     by (Fail why) e = absurd (let z : _≡_ {A = ℕ} 0 1 = cc in omega arith)
 
 -- ---- a list determines what it brings
-firstOnce : (test : Call → Bool) (us : List Call) (c : Call) (ws vs : List Call) (b : Call) (zs : List Call)
+first-once : (test : Call → Bool) (us : List Call) (c : Call) (ws vs : List Call) (b : Call) (zs : List Call)
     → Never test us → Never test vs → test c ≡ true → test b ≡ true → us ++ c ∷ ws ≡ vs ++ b ∷ zs → (us ≡ vs) × (c ≡ b) × (ws ≡ zs)
-firstOnce test us c ws vs b zs nu nv tc tb e =
+first-once test us c ws vs b zs nu nv tc tb e =
     elim (cuts us c ws vs b zs e) [
       | inl h ↦ absurd (not-both tc (never-at test us c (h .0) (subst (Never test) (h .1) nv) .1))
       | inr (inl h) ↦ (h, head-eq-of-cons-eq (rest h), tail-eq-of-cons-eq (rest h))
@@ -187,24 +177,35 @@ firstOnce test us c ws vs b zs nu nv tc tb e =
         ∙ drop-append-seam vs (b ∷ zs)
 
 -- The list of a run, from the front.
-flat : (r : Run) → whole r ≡ r .beforeDeal ++ takeDeal (r .itsDeal) ∷ (r .beforePairs ++ hearPairs (r .itsPairs) ∷ (r .beforeReports ++ settle (r .itsReports) ∷ r .rest))
+abbrev fromPairs : Run → List Call
+fromPairs r = r .beforePairs ++ hearPairs (r .itsPairs) ∷ (r .beforeReports ++ settle (r .itsReports) ∷ r .rest)
+
+flat : (r : Run) → whole r ≡ r .beforeDeal ++ takeDeal (r .itsDeal) ∷ fromPairs r
 flat r = simp append-assoc
 
-pub nothingHidden : (p n t i : ℕ) (cs : List Call) (r q : Run) → Brings p n t i cs r → Brings p n t i cs q → r ≡ q
-nothingHidden p n t i cs r q br bq =
-    let a = firstOnce (isDeal t) (r .beforeDeal) (takeDeal (r .itsDeal)) _ (q .beforeDeal) (takeDeal (q .itsDeal)) _ (br .dealFirst) (bq .dealFirst)
-    (eq-eqb (length (r .itsDeal)) (2 * suc t) (br .dealLength)) (eq-eqb (length (q .itsDeal)) (2 * suc t) (bq .dealLength))
+pub nothing-hidden : (s : Setting) (i : ℕ) (cs : List Call) (r q : Run) → Brings s i cs r → Brings s i cs q → r ≡ q
+nothing-hidden s i cs r q br bq =
+    let a =
+    first-once (isDeal s) (r .beforeDeal) (takeDeal (r .itsDeal)) _ (q .beforeDeal) (takeDeal (q .itsDeal)) _
+    (br .deal-first) (bq .deal-first)
+    (eq-eqb (length (r .itsDeal)) (2 * width s) (br .deal-length)) (eq-eqb (length (q .itsDeal)) (2 * width s) (bq .deal-length))
     (sym (flat r) ∙ sym (br .list) ∙ bq .list ∙ flat q) in
-    let b = firstOnce (isHearing n) (r .beforePairs) (hearPairs (r .itsPairs)) _ (q .beforePairs) (hearPairs (q .itsPairs)) _ (br .pairsFirst) (bq .pairsFirst)
-    (eq-eqb (length (r .itsPairs)) (2 * n) (br .pairsLength)) (eq-eqb (length (q .itsPairs)) (2 * n) (bq .pairsLength)) (a .2) in
+    let b =
+    first-once (isHearing s) (r .beforePairs) (hearPairs (r .itsPairs)) _ (q .beforePairs) (hearPairs (q .itsPairs)) _
+    (br .pairs-first) (bq .pairs-first)
+    (eq-eqb (length (r .itsPairs)) (2 * s .n) (br .pairs-length)) (eq-eqb (length (q .itsPairs)) (2 * s .n) (bq .pairs-length)) (a .2) in
     let deals : r .itsDeal ≡ q .itsDeal = let e : takeDeal (r .itsDeal) ≡ takeDeal (q .itsDeal) = a .1 in cc in
     let pairs : r .itsPairs ≡ q .itsPairs = let e : hearPairs (r .itsPairs) ≡ hearPairs (q .itsPairs) = b .1 in cc in
-    let same : reportBy p n t i q ≡ reportBy p n t i r =
-    ap₂ (λ d hs. reportOf p n i (rowOf t d) (columnOf t d) hs) (sym deals) (sym pairs) in
-    let c = firstOnce (isSettling n i (reportBy p n t i r)) (r .beforeReports) (settle (r .itsReports)) (r .rest) (q .beforeReports) (settle (q .itsReports)) (q .rest)
-    (br .reportsFirst) (subst (λ k. Never (isSettling n i k) (q .beforeReports)) same (bq .reportsFirst))
-    (ap₂ (λ (x y : Bool). x && y) (eq-eqb (length (r .itsReports)) n (br .reportsLength)) (eq-eqb (entry (r .itsReports) i) (reportBy p n t i r) (br .reportsOwn)))
-    (ap₂ (λ (x y : Bool). x && y) (eq-eqb (length (q .itsReports)) n (bq .reportsLength)) (eq-eqb (entry (q .itsReports) i) (reportBy p n t i r) (bq .reportsOwn ∙ same)))
+    let its : Run → ℕ = λ z. reportBy s i (z .itsDeal) (z .itsPairs) in
+    let same : its q ≡ its r = ap₂ (reportBy s i) (sym deals) (sym pairs) in
+    let c =
+    first-once (isSettling s i (its r)) (r .beforeReports) (settle (r .itsReports)) (r .rest)
+    (q .beforeReports) (settle (q .itsReports)) (q .rest)
+    (br .reports-first) (subst (λ k. Never (isSettling s i k) (q .beforeReports)) same (bq .reports-first))
+    (ap₂ (λ (x y : Bool). x && y) (eq-eqb (length (r .itsReports)) (s .n) (br .reports-length))
+    (eq-eqb (entry (r .itsReports) i) (its r) (br .reports-own)))
+    (ap₂ (λ (x y : Bool). x && y) (eq-eqb (length (q .itsReports)) (s .n) (bq .reports-length))
+    (eq-eqb (entry (q .itsReports) i) (its r) (bq .reports-own ∙ same)))
     (b .2) in
     let seen : r .itsReports ≡ q .itsReports = let e : settle (r .itsReports) ≡ settle (q .itsReports) = c .1 in cc in
     λ j. record {
@@ -216,51 +217,3 @@ nothingHidden p n t i cs r q br bq =
       itsReports = seen j;
       rest = c .2 j;
     }
-
--- ---- a refusal changes nothing, but for 8 and 9
-abbrev Closes : Lamp → Call → Lamp → ℕ → Type 0
-Closes l c m k =
-    (m ≡ l) ⊎ ((k ≡ 8) × Stands m Closed 0 0) ⊎ ((k ≡ 9) × ((rs : List ℕ) × (c ≡ settle rs) × Stands m Closed (happySet rs) 0))
-
-no-number : {A : Type 0} (k : ℕ) → none ≡ some k → A
-no-number k e = absurd (let z : _≡_ {A = ℕ} 0 1 = cc in omega arith)
-
-settled-closes : (p : ℕ) (l : Lamp) (rs : List ℕ) (k : ℕ) → numberOf (settled p l (happySet rs) .answer) ≡ some k
-    → Closes l (settle rs) (settled p l (happySet rs) .lamp) k
-unfolding settled atEnd
-settled-closes p l rs k =
-    by-cond (λ (r : Reply). numberOf (r .answer) ≡ some k → Closes l (settle rs) (r .lamp) k) (leb (l .n - l .t) (ones (happySet rs))) _ _
-    (by-cond (λ (r : Reply). numberOf (r .answer) ≡ some k → Closes l (settle rs) (r .lamp) k) (member (happySet rs) (l .number)) _ _
-    (no-number k) (mended (repair p (l .n) (l .t) (happySet rs) (l .heard))))
-    (λ e. inr (inl (cc, record { stands = refl; set-kept = refl; share-kept = refl })))
-  where
-    mended : (o : Option (List ℕ)) → numberOf (repaired l (happySet rs) o .answer) ≡ some k → Closes l (settle rs) (repaired l (happySet rs) o .lamp) k
-    mended none e = inr (inr (cc, (rs, refl, record { stands = refl; set-kept = refl; share-kept = refl })))
-    mended (some f) e = no-number k e
-
-module _ (p : ℕ) (l : Lamp) (c : Call) (k : ℕ) where
-  guard-closes : (a : Admission) (r : Reply) → (numberOf (r .answer) ≡ some k → Closes l c (r .lamp) k)
-      → numberOf (guard l a r .answer) ≡ some k → Closes l c (guard l a r .lamp) k
-  guard-closes Pass r h e = h e
-  guard-closes (Fail why) r h e = inl refl
-
-  opened-closes : (o : Option (List ℕ)) → Closes l c (opened l o .lamp) k
-  opened-closes none = inl refl
-  opened-closes (some f) = inl refl
-
-pub refusalChangesNothing : (p : ℕ) (l : Lamp) (c : Call) (k : ℕ) → numberOf (step p l c .answer) ≡ some k → Closes l c (step p l c .lamp) k
-unfolding step
-refusalChangesNothing p l (takeDeal d) k =
-    guard-closes p l (takeDeal d) k (check l true (eqb (length d) (2 * suc (l .t))) (isAt Waiting l)) (reply (withDeal l d) Done) (no-number k)
-refusalChangesNothing p l (sayPair j) k =
-    guard-closes p l (sayPair j) k (check l (isParty (l .n) j) true (not (isAt Waiting l))) (reply l (Pair (saidPair p l j .0) (saidPair p l j .1))) (λ e. inl refl)
-refusalChangesNothing p l (hearPairs hs) k =
-    guard-closes p l (hearPairs hs) k (check l true (eqb (length hs) (2 * l .n)) (isAt Dealt l)) (reply (withPairs p l hs) (Report (reportFrom p l hs))) (no-number k)
-refusalChangesNothing p l (settle rs) k =
-    let own : Bool = eqb (entry rs (l .number)) (l .report) in
-    guard-closes p l (settle rs) k (check l true (eqb (length rs) (l .n)) (isAt Reported l)) (cond own (settled p l (happySet rs)) (refuse l AlteredReport))
-    (by-cond (λ (r : Reply). numberOf (r .answer) ≡ some k → Closes l (settle rs) (r .lamp) k) own (settled p l (happySet rs)) (refuse l AlteredReport)
-    (settled-closes p l rs k) (λ e. inl refl))
-refusalChangesNothing p l (openShares xs) k =
-    guard-closes p l (openShares xs) k (check l true (eqb (length xs) (l .n)) (isAt Holding l)) (opened l (opening p l xs))
-    (λ e. opened-closes p l (openShares xs) k (opening p l xs))

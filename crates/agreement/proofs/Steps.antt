@@ -5,7 +5,7 @@ use mathlib.Core.Logic.{_⊎_, inl, inr, ⊎-elim}
 use mathlib.Core.Bool.{Bool, true, false, cond, not, _&&_, and-eq-true-iff, true≢false}
 use mathlib.Core.Option.{Option, none, some}
 use mathlib.Core.List.{List, [], _∷_, _++_}
-use Prim.Native.Nat.{ℕ, suc, _*_, _-_}
+use Prim.Native.Nat.{ℕ, suc, _*_}
 use lib.Dec.{eqb}
 use lib.ListN.{length}
 use borrow.Author.Tests.{eq-eqb}
@@ -20,21 +20,27 @@ use Rattle.answers.specs.declared.Admission.{Admission}
 use Rattle.answers.specs.declared.Admission.the-variants.{Pass, Fail}
 use Rattle.lamp.specs.declared.Lamp.{Lamp}
 use Rattle.lamp.specs.declared.Reply.{Reply}
-use Rattle.answers.specs.Answer.{refusalNumber, lowest}
-use Rattle.lamp.specs.Lamp.{Sized, reply, refuse, check, guard, isAt, withDeal, saidPair, withPairs, reportFrom, settled, opening, opened, Call, takeDeal, sayPair, hearPairs, settle, openShares, step, after}
+use Rattle.answers.specs.Refusals.{refusalNumber, lowest}
+use Rattle.lamp.specs.Lamp.{Sized, reply, refuse, guard, isAt, lentTests, withDeal, saidPair, withPairs, reportFrom, settled, opening}
+use Rattle.lamp.specs.Lamp.{opened}
+use Rattle.lamp.specs.Lamp.{Call, takeDeal, sayPair, hearPairs, settle, openShares, tests, step, after}
 use Rattle.agreement.specs.Calls.{Never, moves}
 
 abbrev pub awaited : Lamp → Call → Bool
-awaited l (takeDeal d) = eqb (length d) (2 * suc (l .t)) && isAt Waiting l
+awaited l (takeDeal d) = eqb (length d) (2 * suc (l .party .t)) && isAt Waiting (l .sharing)
 awaited l (sayPair j) = false
-awaited l (hearPairs hs) = eqb (length hs) (2 * l .n) && isAt Dealt l
-awaited l (settle rs) = (eqb (length rs) (l .n) && isAt Reported l) && eqb (entry rs (l .number)) (l .report)
+awaited l (hearPairs hs) = eqb (length hs) (2 * l .party .n) && isAt Dealt (l .sharing)
+awaited l (settle rs) =
+    (eqb (length rs) (l .party .n) && isAt Reported (l .sharing)) && eqb (entry rs (l .party .number)) (l .sharing .report)
 awaited l (openShares xs) = false
 
 -- ---- guards
 
-guard-open : (l : Lamp) (list stage : Bool) (r : Reply) → (list && stage) ≡ true → guard l (lowest true true list stage) r ≡ r
-unfolding lowest
+-- The tests of a call with a lent list, of a lamp within the sizes.
+abbrev lent : Bool → Bool → Admission
+lent list stage = lowest ((list, WrongLength) ∷ (stage, WrongStage) ∷ [])
+
+guard-open : (l : Lamp) (list stage : Bool) (r : Reply) → (list && stage) ≡ true → guard l (lent list stage) r ≡ r
 guard-open l true true r e = refl
 guard-open l true false r e = absurd (true≢false (sym e))
 guard-open l false stage r e = absurd (true≢false (sym e))
@@ -45,8 +51,7 @@ pub record Shut (l : Lamp) (r : Reply) : Type 0 where
   pub is : r ≡ refuse l why
   pub number : (refusalNumber why ≡ 3) ⊎ (refusalNumber why ≡ 4) ⊎ (refusalNumber why ≡ 7)
 
-guard-shut : (l : Lamp) (list stage : Bool) (r : Reply) → (list && stage) ≡ false → Shut l (guard l (lowest true true list stage) r)
-unfolding lowest
+guard-shut : (l : Lamp) (list stage : Bool) (r : Reply) → (list && stage) ≡ false → Shut l (guard l (lent list stage) r)
 guard-shut l true true r e = absurd (true≢false e)
 guard-shut l true false r e = record { why = WrongStage; is = refl; number = inr (inl refl) }
 guard-shut l false stage r e = record { why = WrongLength; is = refl; number = inl refl }
@@ -60,82 +65,83 @@ opened-same l none = refl
 opened-same l (some f) = refl
 
 module _ (l : Lamp) (sized : Sized l) where
-  check-sized : (number list stage : Bool) → check l number list stage ≡ lowest true number list stage
-  unfolding check
-  check-sized number list stage = rw (sized .size, sized .party)
+  lent-sized : (list stage : Bool) → lowest (lentTests (l .party) list stage) ≡ lent list stage
+  lent-sized list stage = rw (sized .size, sized .party)
 
-  admitted : (list stage : Bool) (r : Reply) → (list && stage) ≡ true → guard l (check l true list stage) r ≡ r
-  admitted list stage r e = ap (λ a. guard l a r) (check-sized true list stage) ∙ guard-open l list stage r e
+  admitted : (list stage : Bool) (r : Reply) → (list && stage) ≡ true → guard l (lowest (lentTests (l .party) list stage)) r ≡ r
+  admitted list stage r e = ap (λ a. guard l a r) (lent-sized list stage) ∙ guard-open l list stage r e
 
-  shut-out : (list stage : Bool) (r : Reply) → (list && stage) ≡ false → Shut l (guard l (check l true list stage) r)
-  shut-out list stage r e = subst (λ a. Shut l (guard l a r)) (sym (check-sized true list stage)) (guard-shut l list stage r e)
+  shut-out : (list stage : Bool) (r : Reply) → (list && stage) ≡ false → Shut l (guard l (lowest (lentTests (l .party) list stage)) r)
+  shut-out list stage r e = subst (λ a. Shut l (guard l a r)) (sym (lent-sized list stage)) (guard-shut l list stage r e)
 
   module _ (p : ℕ) where
     -- ---- what is awaited is accepted
     pub takes : (d : List ℕ) → awaited l (takeDeal d) ≡ true → step p l (takeDeal d) ≡ reply (withDeal l d) Done
     unfolding step
-    takes d e = admitted (eqb (length d) (2 * suc (l .t))) (isAt Waiting l) _ e
+    takes d e = admitted (eqb (length d) (2 * suc (l .party .t))) (isAt Waiting (l .sharing)) _ e
 
-    pub hears : (hs : List ℕ) → awaited l (hearPairs hs) ≡ true → step p l (hearPairs hs) ≡ reply (withPairs p l hs) (Report (reportFrom p l hs))
+    pub hears : (hs : List ℕ) → awaited l (hearPairs hs) ≡ true
+        → step p l (hearPairs hs) ≡ reply (withPairs p l hs) (Report (reportFrom p l hs))
     unfolding step
-    hears hs e = admitted (eqb (length hs) (2 * l .n)) (isAt Dealt l) _ e
+    hears hs e = admitted (eqb (length hs) (2 * l .party .n)) (isAt Dealt (l .sharing)) _ e
 
     -- Reports of the right length, at the stage that takes them: the lamp looks at its own.
-    pub looks : (rs : List ℕ) → (eqb (length rs) (l .n) && isAt Reported l) ≡ true
-        → step p l (settle rs) ≡ cond (eqb (entry rs (l .number)) (l .report)) (settled p l (happySet rs)) (refuse l AlteredReport)
+    pub looks : (rs : List ℕ) → (eqb (length rs) (l .party .n) && isAt Reported (l .sharing)) ≡ true
+        → step p l (settle rs)
+        ≡ cond (eqb (entry rs (l .party .number)) (l .sharing .report)) (settled p l (happySet rs)) (refuse l AlteredReport)
     unfolding step
-    looks rs e = admitted (eqb (length rs) (l .n)) (isAt Reported l) _ e
+    looks rs e = admitted (eqb (length rs) (l .party .n)) (isAt Reported (l .sharing)) _ e
 
     pub settles : (rs : List ℕ) → awaited l (settle rs) ≡ true → step p l (settle rs) ≡ settled p l (happySet rs)
     settles rs e =
-        let own : Bool = eqb (entry rs (l .number)) (l .report) in
-        let both = and-eq-true-iff (eqb (length rs) (l .n) && isAt Reported l) own .0 e in
+        let own : Bool = eqb (entry rs (l .party .number)) (l .sharing .report) in
+        let both = and-eq-true-iff (eqb (length rs) (l .party .n) && isAt Reported (l .sharing)) own .0 e in
         looks rs (both .0) ∙ ap (λ b. cond b (settled p l (happySet rs)) (refuse l AlteredReport)) (both .1)
 
     -- A saying from the deal on, for any party.
-    pub pair-said : (j : ℕ) → isParty (l .n) j ≡ true → isAt Waiting l ≡ false
+    pub pair-said : (j : ℕ) → isParty (l .party .n) j ≡ true → isAt Waiting (l .sharing) ≡ false
         → step p l (sayPair j) ≡ reply l (Pair (saidPair p l j .0) (saidPair p l j .1))
-    unfolding step lowest
-    pair-said j party e =
-        ap (λ a. guard l a (reply l (Pair (saidPair p l j .0) (saidPair p l j .1))))
-        (check-sized (isParty (l .n) j) true (not (isAt Waiting l)) ∙ ap₂ (λ a b. lowest true a true (not b)) party e)
+    unfolding step
+    pair-said j party e = rw (sized .size, sized .party, party, e)
 
     -- An opening while holding.
-    pub shares-opened : (xs : List ℕ) → length xs ≡ l .n → isAt Holding l ≡ true → step p l (openShares xs) ≡ opened l (opening p l xs)
+    pub shares-opened : (xs : List ℕ) → length xs ≡ l .party .n → isAt Holding (l .sharing) ≡ true
+        → step p l (openShares xs) ≡ opened l (opening p l xs)
     unfolding step
     shares-opened xs e h =
-        admitted (eqb (length xs) (l .n)) (isAt Holding l) _ (and-eq-true-iff (eqb (length xs) (l .n)) (isAt Holding l) .1 (eq-eqb (length xs) (l .n) e, h))
+        admitted (eqb (length xs) (l .party .n)) (isAt Holding (l .sharing)) _
+        (and-eq-true-iff (eqb (length xs) (l .party .n)) (isAt Holding (l .sharing)) .1 (eq-eqb (length xs) (l .party .n) e, h))
 
     -- ---- what is not awaited changes nothing, and is refused if it is to move the lamp
     settle-shut : (rs : List ℕ) → awaited l (settle rs) ≡ false → Shut l (step p l (settle rs))
     unfolding step
     settle-shut rs e =
-        let gate : Bool = eqb (length rs) (l .n) && isAt Reported l in
-        let own : Bool = eqb (entry rs (l .number)) (l .report) in
+        let gate : Bool = eqb (length rs) (l .party .n) && isAt Reported (l .sharing) in
+        let own : Bool = eqb (entry rs (l .party .number)) (l .sharing .report) in
         ⊎-elim
         (λ (g : gate ≡ true).
         let altered : own ≡ false = sym (ap (λ b. b && own) g) ∙ e in
-        let is = admitted (eqb (length rs) (l .n)) (isAt Reported l) _ g
+        let is = admitted (eqb (length rs) (l .party .n)) (isAt Reported (l .sharing)) _ g
         ∙ ap (λ b. cond b (settled p l (happySet rs)) (refuse l AlteredReport)) altered in
         record { why = AlteredReport; is = is; number = inr (inr refl) })
-        (λ (g : gate ≡ false). shut-out (eqb (length rs) (l .n)) (isAt Reported l) _ g)
+        (λ (g : gate ≡ false). shut-out (eqb (length rs) (l .party .n)) (isAt Reported (l .sharing)) _ g)
         (true-or-false gate)
 
     pub stray : (c : Call) → moves c ≡ true → awaited l c ≡ false → Shut l (step p l c)
     unfolding step
-    stray (takeDeal d) m e = shut-out (eqb (length d) (2 * suc (l .t))) (isAt Waiting l) _ e
+    stray (takeDeal d) m e = shut-out (eqb (length d) (2 * suc (l .party .t))) (isAt Waiting (l .sharing)) _ e
     stray (sayPair j) m e = absurd (true≢false (sym m))
-    stray (hearPairs hs) m e = shut-out (eqb (length hs) (2 * l .n)) (isAt Dealt l) _ e
+    stray (hearPairs hs) m e = shut-out (eqb (length hs) (2 * l .party .n)) (isAt Dealt (l .sharing)) _ e
     stray (settle rs) m e = settle-shut rs e
     stray (openShares xs) m e = absurd (true≢false (sym m))
 
     pub quiet : (c : Call) → awaited l c ≡ false → step p l c .lamp ≡ l
     unfolding step
     quiet (takeDeal d) e = ap (λ r. r .lamp) (stray (takeDeal d) refl e .is)
-    quiet (sayPair j) e = guard-same l (check l (isParty (l .n) j) true (not (isAt Waiting l))) _ refl
+    quiet (sayPair j) e = guard-same l (lowest (tests l (sayPair j))) _ refl
     quiet (hearPairs hs) e = ap (λ r. r .lamp) (stray (hearPairs hs) refl e .is)
     quiet (settle rs) e = ap (λ r. r .lamp) (stray (settle rs) refl e .is)
-    quiet (openShares xs) e = guard-same l (check l true (eqb (length xs) (l .n)) (isAt Holding l)) _ (opened-same l (opening p l xs))
+    quiet (openShares xs) e = guard-same l (lowest (tests l (openShares xs))) _ (opened-same l (opening p l xs))
 
     -- So a list of such calls changes nothing.
     pub all-quiet : (cs : List Call) → Never (awaited l) cs → after p l cs ≡ l

@@ -5,13 +5,14 @@ use mathlib.Core.Bool.{Bool, true, false}
 use mathlib.Core.Option.{some}
 use mathlib.Core.List.{List, [], _∷_, _++_, head-eq-of-cons-eq, tail-eq-of-cons-eq}
 use Prim.Native.Nat.{ℕ}
-use Rattle.parties.specs.Parties.{sizes, isParty}
 use Rattle.lamp.specs.declared.Lamp.{Lamp}
 use Rattle.lamp.specs.declared.Reply.{Reply}
-use Rattle.answers.specs.Answer.{numberOf, refusalNumber}
-use Rattle.lamp.specs.Lamp.{Sized, made, refuse, Call, takeDeal, hearPairs, settle, step, after}
+use Rattle.answers.specs.Refusals.{refusalNumber}
+use Rattle.answers.specs.Answers.{numberOf}
+use Rattle.lamp.specs.Lamp.{Sized, refuse, Call, takeDeal, hearPairs, settle, step, after}
+use Rattle.agreement.specs.Setting.{Setting, madeFor, lampAt, replyAt, answerAt}
 use Rattle.agreement.specs.Calls.{Run, toDeal, toPairs, toReports, At, Never, moves}
-use Rattle.agreement.specs.Demand3.{Execution, Brings, Stray, Refuses}
+use Rattle.agreement.specs.Demand3.{Brings, Stray, Refuses}
 use Rattle.agreement.proofs.Steps.{awaited, Shut, stray, all-quiet}
 use Rattle.agreement.proofs.Collapse as one
 
@@ -29,69 +30,71 @@ cuts (x ∷ xs) c ys (a ∷ us) b bs e =
       | inr (inr h) ↦ inr (inr (h .0, ap₂ _∷_ q (h .1), h .2))
     ]
 
-pub never-at : (test : Call → Bool) (xs : List Call) (c : Call) (ys : List Call) → Never test (xs ++ c ∷ ys) → Never test xs × (test c ≡ false)
+pub never-at : (test : Call → Bool) (xs : List Call) (c : Call) (ys : List Call) → Never test (xs ++ c ∷ ys)
+    → Never test xs × (test c ≡ false)
 never-at test [] c ys h = (tt, h .0)
 never-at test (x ∷ xs) c ys h = let k = never-at test xs c ys (h .1) in ((h .0, k .0), k .1)
 
-module _ (p n t i : ℕ) (e : Execution) where
+module _ (s : Setting) (i : ℕ) where
   -- The lamp is l there, and l refuses the call.
-  shut-stray : (xs : List Call) (c : Call) (l : Lamp) → after p (made n t i) xs ≡ l → Shut l (step p l c) → Stray p n t e i xs c
-  shut-stray xs c l here s =
-      let is : step p (after p (made n t i) xs) c ≡ refuse l (s .why) = ap (λ z. step p z c) here ∙ s .is in
+  shut-stray : (xs : List Call) (c : Call) (l : Lamp) → lampAt s i xs ≡ l → Shut l (step (s .p) l c) → Stray s i xs c
+  shut-stray xs c l here shut =
+      let is : replyAt s i xs c ≡ refuse l (shut .why) = ap (λ z. step (s .p) z c) here ∙ shut .is in
       record {
         unchanged = ap (λ (r : Reply). r .lamp) is ∙ sym here;
-        refused = ⊎-elim (λ k. inl (number is k)) (⊎-elim (λ k. inr (inl (number is k))) (λ k. inr (inr (number is k)))) (s .number);
+        refused = ⊎-elim (λ k. inl (number is k)) (⊎-elim (λ k. inr (inl (number is k))) (λ k. inr (inr (number is k)))) (shut .number);
       }
     where
-      number : {k : ℕ} → step p (after p (made n t i) xs) c ≡ refuse l (s .why) → refusalNumber (s .why) ≡ k → Refuses (step p (after p (made n t i) xs) c .answer) k
+      number : {k : ℕ} → replyAt s i xs c ≡ refuse l (shut .why) → refusalNumber (shut .why) ≡ k → Refuses (answerAt s i xs c) k
       number is k = ap (λ (r : Reply). numberOf (r .answer)) is ∙ ap some k
 
-  module _ (size : sizes n t ≡ true) (party : isParty n i ≡ true) (cs : List Call) (r : Run) (b : Brings p n t i cs r) where
+  module _ (sized : Sized (madeFor s i)) (cs : List Call) (r : Run) (b : Brings s i cs r) where
     -- A call within a stretch of calls that the lamp l does not await.
-    within : (xs ws : List Call) (c : Call) (zs stretch : List Call) (l : Lamp) → Sized l → Never (awaited l) stretch → ws ++ c ∷ zs ≡ stretch
-        → after p (made n t i) xs ≡ after p l ws → moves c ≡ true → Stray p n t e i xs c
-    within xs ws c zs stretch l sized never cut here m =
+    within : (xs ws : List Call) (c : Call) (zs stretch : List Call) (l : Lamp) → Sized l → Never (awaited l) stretch
+        → ws ++ c ∷ zs ≡ stretch
+        → lampAt s i xs ≡ after (s .p) l ws → moves c ≡ true → Stray s i xs c
+    within xs ws c zs stretch l good never cut here m =
         let k = never-at (awaited l) ws c zs (subst (Never (awaited l)) (sym cut) never) in
-        shut-stray xs c l (here ∙ all-quiet l sized p ws (k .0)) (stray l sized p c m (k .1))
+        shut-stray xs c l (here ∙ all-quiet l good (s .p) ws (k .0)) (stray l good (s .p) c m (k .1))
 
     -- Before the deal, between deal and pairs, between pairs and reports, and behind the reports.
-    before-deal : (xs : List Call) (c : Call) (zs : List Call) → toDeal r ≡ xs ++ c ∷ zs → moves c ≡ true → Stray p n t e i xs c
+    before-deal : (xs : List Call) (c : Call) (zs : List Call) → toDeal r ≡ xs ++ c ∷ zs → moves c ≡ true → Stray s i xs c
     before-deal xs c zs cut m =
-        within xs xs c zs (toDeal r) (one.start p n t i size party cs r b) (one.start-sized p n t i size party cs r b)
-        (one.start-never p n t i size party cs r b) (sym cut) refl m
+        within xs xs c zs (toDeal r) (one.start s i sized cs r b) sized
+        (one.start-never s i sized cs r b) (sym cut) refl m
 
     before-pairs : (xs : List Call) (c : Call) (zs : List Call) → toPairs r ≡ xs ++ c ∷ zs → moves c ≡ true
-        → (xs ≡ toDeal r → ⊥) → Stray p n t e i xs c
+        → (xs ≡ toDeal r → ⊥) → Stray s i xs c
     before-pairs xs c zs cut m not-deal =
         elim (cuts xs c zs (toDeal r) (takeDeal (r .itsDeal)) (r .beforePairs) (sym cut)) [
           | inl h ↦ before-deal xs c (h .0) (h .1) m
           | inr (inl h) ↦ absurd (not-deal h)
           | inr (inr h) ↦
-              within xs (h .0) c zs (r .beforePairs) (one.dealt p n t i size party cs r b) (one.dealt-sized p n t i size party cs r b)
-              (one.dealt-never p n t i size party cs r b) (h .2)
-              (ap (after p (made n t i)) (h .1) ∙ one.since-deal p n t i size party cs r b (h .0)) m
+              within xs (h .0) c zs (r .beforePairs) (one.dealt s i sized cs r b) (one.dealt-sized s i sized cs r b)
+              (one.dealt-never s i sized cs r b) (h .2)
+              (ap (lampAt s i) (h .1) ∙ one.since-deal s i sized cs r b (h .0)) m
         ]
 
     before-reports : (xs : List Call) (c : Call) (zs : List Call) → toReports r ≡ xs ++ c ∷ zs → moves c ≡ true
-        → (xs ≡ toDeal r → ⊥) → (xs ≡ toPairs r → ⊥) → Stray p n t e i xs c
+        → (xs ≡ toDeal r → ⊥) → (xs ≡ toPairs r → ⊥) → Stray s i xs c
     before-reports xs c zs cut m not-deal not-pairs =
         elim (cuts xs c zs (toPairs r) (hearPairs (r .itsPairs)) (r .beforeReports) (sym cut)) [
           | inl h ↦ before-pairs xs c (h .0) (h .1) m not-deal
           | inr (inl h) ↦ absurd (not-pairs h)
           | inr (inr h) ↦
-              within xs (h .0) c zs (r .beforeReports) (one.reported p n t i size party cs r b) (one.reported-sized p n t i size party cs r b)
-              (one.reported-never p n t i size party cs r b) (h .2)
-              (ap (after p (made n t i)) (h .1) ∙ one.since-pairs p n t i size party cs r b (h .0)) m
+              within xs (h .0) c zs (r .beforeReports) (one.reported s i sized cs r b) (one.reported-sized s i sized cs r b)
+              (one.reported-never s i sized cs r b) (h .2)
+              (ap (lampAt s i) (h .1) ∙ one.since-pairs s i sized cs r b (h .0)) m
         ]
 
     pub others : (xs : List Call) (c : Call) → At cs xs c → moves c ≡ true
-        → (xs ≡ toDeal r → ⊥) → (xs ≡ toPairs r → ⊥) → (xs ≡ toReports r → ⊥) → Stray p n t e i xs c
+        → (xs ≡ toDeal r → ⊥) → (xs ≡ toPairs r → ⊥) → (xs ≡ toReports r → ⊥) → Stray s i xs c
     others xs c (ys, at) m not-deal not-pairs not-reports =
         elim (cuts xs c ys (toReports r) (settle (r .itsReports)) (r .rest) (sym at ∙ b .list)) [
           | inl h ↦ before-reports xs c (h .0) (h .1) m not-deal not-pairs
           | inr (inl h) ↦ absurd (not-reports h)
           | inr (inr h) ↦
-              within xs [] c [] (c ∷ []) (one.outcome p n t i size party cs r b .lamp) (one.ended-sized p n t i size party cs r b)
-              (one.ended-never p n t i size party cs r b (c ∷ [])) refl
-              (ap (after p (made n t i)) (h .1) ∙ one.since-settling p n t i size party cs r b (h .0)) m
+              within xs [] c [] (c ∷ []) (one.outcome s i sized cs r b .lamp) (one.ended-sized s i sized cs r b)
+              (one.ended-never s i sized cs r b (c ∷ [])) refl
+              (ap (lampAt s i) (h .1) ∙ one.since-settling s i sized cs r b (h .0)) m
         ]

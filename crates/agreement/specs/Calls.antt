@@ -5,15 +5,17 @@
 --   At cs xs c                 in the list cs the call c comes right after the calls xs
 --   Begins cs xs               the list cs begins with the calls xs
 --   Never test cs              no call of cs passes the test
+--   isDeal s, isHearing s, isSettling s i r   the tests for the three; moves: for any call to deal, hear or settle
 use mathlib.Core.Path.{_≡_}
 use mathlib.Core.Bool.{Bool, true, false, _&&_}
 use mathlib.Core.List.{List, _∷_, _++_}
-use Prim.Native.Nat.{ℕ, suc, _*_}
+use Prim.Native.Nat.{ℕ, _*_}
 use lib.Dec.{eqb}
 use lib.ListN.{length}
 use Rattle.lists.specs.All.{All}
 use Rattle.parties.specs.Parties.{entry}
 use Rattle.lamp.specs.Lamp.{Call, takeDeal, sayPair, hearPairs, settle, openShares}
+use Rattle.agreement.specs.Setting.{Setting, width}
 
 -- A list of calls, taken apart.
 pub record Run : Type 0 where
@@ -59,28 +61,28 @@ abbrev pub Never : (Call → Bool) → List Call → Type 0
 Never test = All (λ c. test c ≡ false)
 
 -- A deal of the right length is given.
-abbrev pub isDeal : ℕ → Call → Bool
-isDeal t (takeDeal d) = eqb (length d) (2 * suc t)
-isDeal t (sayPair j) = false
-isDeal t (hearPairs hs) = false
-isDeal t (settle rs) = false
-isDeal t (openShares xs) = false
+abbrev pub isDeal : Setting → Call → Bool
+isDeal s (takeDeal d) = eqb (length d) (2 * width s)
+isDeal s (sayPair j) = false
+isDeal s (hearPairs hs) = false
+isDeal s (settle rs) = false
+isDeal s (openShares xs) = false
 
 -- Pairs of the right length are heard.
-abbrev pub isHearing : ℕ → Call → Bool
-isHearing n (takeDeal d) = false
-isHearing n (sayPair j) = false
-isHearing n (hearPairs hs) = eqb (length hs) (2 * n)
-isHearing n (settle rs) = false
-isHearing n (openShares xs) = false
+abbrev pub isHearing : Setting → Call → Bool
+isHearing s (takeDeal d) = false
+isHearing s (sayPair j) = false
+isHearing s (hearPairs hs) = eqb (length hs) (2 * s .n)
+isHearing s (settle rs) = false
+isHearing s (openShares xs) = false
 
 -- A settling with n reports and the report r in party i's place.
-abbrev pub isSettling : ℕ → ℕ → ℕ → Call → Bool
-isSettling n i r (takeDeal d) = false
-isSettling n i r (sayPair j) = false
-isSettling n i r (hearPairs hs) = false
-isSettling n i r (settle rs) = eqb (length rs) n && eqb (entry rs i) r
-isSettling n i r (openShares xs) = false
+abbrev pub isSettling : Setting → ℕ → ℕ → Call → Bool
+isSettling s i r (takeDeal d) = false
+isSettling s i r (sayPair j) = false
+isSettling s i r (hearPairs hs) = false
+isSettling s i r (settle rs) = eqb (length rs) (s .n) && eqb (entry rs i) r
+isSettling s i r (openShares xs) = false
 
 -- A call to deal, hear or settle.
 abbrev pub moves : Call → Bool

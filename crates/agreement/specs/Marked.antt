@@ -1,7 +1,8 @@
--- Document 01's "Marked for proof", M1 to M12, and its traps, as one table of cases; F = 7 + 3X + 2Y + 4XY, n = 5 and t = 1 unless a case says otherwise.
+-- Document 01's "Marked for proof", M1 to M12, and its traps, as one table of cases; F = 7 + 3X + 2Y + 4XY, n = 5 and t = 1 unless a case
+-- says otherwise.
 --   Case          what is asked, and what must come of it
 --   holds p c     the definitions give that, modulo p
---   table         the marked cases; traps: document 01's traps
+--   table         the marked cases; traps: document 01's traps; sayings: what a lamp says, and what a closed one still does
 -- Shown true all together in proofs/Marked.
 use mathlib.Core.Bool.{Bool, true, false, _&&_, Bool·beq}
 use mathlib.Core.Option.{Option, none, some}
@@ -10,14 +11,16 @@ use Prim.Native.Nat.{ℕ, suc, _*_}
 use lib.Dec.{eqb}
 use lib.ListN.{replicate}
 use Rattle.lists.specs.Tabulate.{pad}
-use Rattle.parties.specs.Parties.{entry}
+use Rattle.polynomial.specs.Polynomial.{value}
+use Rattle.parties.specs.Parties.{pointOf, entry}
 use Rattle.dealer.specs.Desk as desks
 use Rattle.answers.specs.declared.Stage.the-variants.{Reported, Holding}
+use Rattle.answers.specs.declared.Answer.{Answer}
 use Rattle.lamp.specs.declared.Lamp.{Lamp}
 use Rattle.lamp.specs.declared.Reply.{Reply}
-use Rattle.answers.specs.Answer.{numberOf, valuesOf, stageNumber}
+use Rattle.answers.specs.Answers.{numberOf, valuesOf, stageNumber}
 use Rattle.consistency.specs.Deal.{sound}
-use Rattle.lamp.specs.Lamp.{made, make, takeDeal, hearPairs, settle, openShares, step, after}
+use Rattle.lamp.specs.Lamp.{Call, takeDeal, sayPair, hearPairs, settle, openShares, made, make, step, after}
 
 -- Equality of lists, and of what may be missing.
 abbrev pub same : List ℕ → List ℕ → Bool
@@ -35,11 +38,13 @@ sameNumber (some j) (some k) = eqb j k
 -- What is asked, and what must come of it.
 --   dealing F i row column              the desk's deal of F for lamp i
 --   opening n t xs number values        an opening of the published shares xs by lamp 1, which holds what it published
---   settling i column heard rs k S v s  lamp i, dealt this column, heard these first numbers and settles on rs: answer, set, share and stage
+--   settling i column heard rs k S v s  lamp i, dealt this column, heard these first numbers and settles on rs: number, set, share, stage
 --   playing i d hs rs k S v s           lamp i from its making on: takes the deal d, hears hs, settles on rs
 --   sizing n t k                        making a lamp, and a desk's dealing, for n and t
 --   refusing F k                        the desk's answer to the list F
 --   crossing i row column ok            whether lamp i's deal is sound
+--   meeting i row j column              lamp i's row at j's point is lamp j's column at i's point
+--   answering i cs c number values      lamp i from its making on, after the calls cs: its answer to the call c
 pub data Case : Type 0 where
   dealing : List ℕ → ℕ → List ℕ → List ℕ → Case
   opening : ℕ → ℕ → List ℕ → Option ℕ → List ℕ → Case
@@ -48,56 +53,63 @@ pub data Case : Type 0 where
   sizing : ℕ → ℕ → Option ℕ → Case
   refusing : List ℕ → Option ℕ → Case
   crossing : ℕ → List ℕ → List ℕ → Bool → Case
+  meeting : ℕ → List ℕ → ℕ → List ℕ → Case
+  answering : ℕ → List Call → Call → Option ℕ → List ℕ → Case
 
 -- A lamp that holds the share v, and one that was dealt a column, heard these first numbers and reported r.
 abbrev pub holder : ℕ → ℕ → ℕ → ℕ → Lamp
 holder n t i v = record {
-  n = n;
-  t = t;
-  number = i;
-  stage = Holding;
-  row = replicate 4 0;
-  column = replicate 4 0;
-  heard = replicate 16 0;
-  report = 0;
-  happy = 0;
-  share = v;
+  party = record { n = n; t = t; number = i };
+  sharing = record {
+    stage = Holding;
+    row = replicate 4 0;
+    column = replicate 4 0;
+    heard = replicate 16 0;
+    report = 0;
+    happy = 0;
+    share = v;
+  };
 }
 
 abbrev pub reporter : ℕ → List ℕ → List ℕ → ℕ → Lamp
 reporter i column heard r = record {
-  n = 5;
-  t = 1;
-  number = i;
-  stage = Reported;
-  row = replicate 4 0;
-  column = pad 4 column;
-  heard = pad 16 heard;
-  report = r;
-  happy = 0;
-  share = 0;
+  party = record { n = 5; t = 1; number = i };
+  sharing = record {
+    stage = Reported;
+    row = replicate 4 0;
+    column = pad 4 column;
+    heard = pad 16 heard;
+    report = r;
+    happy = 0;
+    share = 0;
+  };
 }
 
 -- A reply has this answer, and leaves this set, share and stage.
 abbrev pub leaves : Reply → Option ℕ → ℕ → ℕ → ℕ → Bool
 leaves r number set share stage =
-    sameNumber (numberOf (r .answer)) number && eqb (r .lamp .happy) set && eqb (r .lamp .share) share && eqb (stageNumber (r .lamp .stage)) stage
+    sameNumber (numberOf (r .answer)) number && eqb (r .lamp .sharing .happy) set && eqb (r .lamp .sharing .share) share
+    && eqb (stageNumber (r .lamp .sharing .stage)) stage
+
+-- An answer has this number and these values.
+abbrev pub answers : Answer → Option ℕ → List ℕ → Bool
+answers a number values = sameNumber (numberOf a) number && same (valuesOf a) values
 
 -- The definitions give what the case says.
 unfoldable pub holds : ℕ → Case → Bool
 holds p (dealing F i row column) = same (desks.stretch 2 (desks.desk p 5 1 F (replicate 20 0) .0) i) (row ++ column)
-holds p (opening n t xs number values) =
-    let a = step p (holder n t 1 (entry xs 1)) (openShares xs) .answer in
-    sameNumber (numberOf a) number && same (valuesOf a) values
+holds p (opening n t xs number values) = answers (step p (holder n t 1 (entry xs 1)) (openShares xs) .answer) number values
 holds p (settling i column heard rs number set share stage) =
     leaves (step p (reporter i column heard (entry rs i)) (settle rs)) number set share stage
 holds p (playing i d hs rs number set share stage) =
     leaves (step p (after p (made 5 1 i) (takeDeal d ∷ hearPairs hs ∷ [])) (settle rs)) number set share stage
 holds p (sizing n t number) =
     sameNumber (numberOf (make n t 1 .answer)) number
-    && sameNumber (desks.numberOf (desks.desk p n t (replicate (suc t * suc t) 0) (replicate (n * (2 * suc t)) 0) .1)) number
-holds p (refusing F number) = sameNumber (desks.numberOf (desks.desk p 5 1 F (replicate 20 0) .1)) number
+    && sameNumber (desks.dealingNumber (desks.desk p n t (replicate (suc t * suc t) 0) (replicate (n * (2 * suc t)) 0) .1)) number
+holds p (refusing F number) = sameNumber (desks.dealingNumber (desks.desk p 5 1 F (replicate 20 0) .1)) number
 holds p (crossing i row column ok) = Bool·beq (sound p i row column) ok
+holds p (meeting i row j column) = eqb (value p row (pointOf j)) (value p column (pointOf i))
+holds p (answering i cs c number values) = answers (step p (after p (made 5 1 i) cs) c .answer) number values
 
 -- All cases of a list hold.
 abbrev pub allHold : ℕ → List Case → Bool
@@ -118,24 +130,56 @@ table =
     ∷ settling 5 (22 ∷ 22 ∷ []) (44 ∷ 66 ∷ 88 ∷ 110 ∷ 0 ∷ []) (28 ∷ 28 ∷ 19 ∷ 19 ∷ 15 ∷ []) (some 8) 0 0 4
     ∷ settling 5 (22 ∷ 22 ∷ []) (44 ∷ 66 ∷ 88 ∷ 110 ∷ 0 ∷ []) (24 ∷ 28 ∷ 26 ∷ 23 ∷ 15 ∷ []) none 30 22 3
     ∷ sizing 5 1 none ∷ sizing 9 2 none ∷ sizing 13 3 none ∷ sizing 16 3 none
-    ∷ sizing 4 1 (some 1) ∷ sizing 8 2 (some 1) ∷ sizing 12 3 (some 1) ∷ sizing 17 3 (some 1) ∷ sizing 17 4 (some 1) ∷ sizing 5 0 (some 1)
+    ∷ sizing 4 1 (some 1) ∷ sizing 8 2 (some 1) ∷ sizing 12 3 (some 1)
+    ∷ sizing 17 3 (some 1) ∷ sizing 17 4 (some 1) ∷ sizing 5 0 (some 1)
     ∷ refusing (65520 ∷ 2 ∷ 3 ∷ 4 ∷ []) none
     ∷ refusing (65521 ∷ 2 ∷ 3 ∷ 4 ∷ []) (some 5)
     ∷ []
 
--- The traps: own crossing (lamps 2 and 3 find their deals unsound, lamp 1 does not); a one-sided agreement counts for nothing; a greedy set
--- is not the largest, nor is the first with n − t lamps; a repair from second numbers, or from all lamps, would find another share (lamp 5,
--- whose deal is unsound, hears 22 + 22 j first and other numbers second, and the lamp outside the set says 999); nine lamps with t = 1 and
--- two wrong are 10.
+-- Lamp 5's deal with row 17 + 24 X for 17 + 23 X.
+abbrev pub unsoundDeal : List ℕ
+unsoundDeal = 17 ∷ 24 ∷ 22 ∷ 22 ∷ []
+
+-- The traps: own crossing (the six cross values of lamps 1, 2 and 3 agree, and yet lamps 2 and 3 find their deals unsound, lamp 1 does
+-- not); a one-sided agreement counts for nothing; a greedy set is not the largest, nor is the first with n − t lamps; a repair from second
+-- numbers, or from all lamps, would find another share (lamp 5, whose deal is unsound, hears 22 + 22 j first and other numbers second, and
+-- the lamp outside the set says 999); nine lamps with t = 1 and two wrong are 10.
 abbrev pub traps : List Case
 traps =
-    crossing 1 (0 ∷ 0 ∷ []) (0 ∷ 0 ∷ []) true
+    meeting 1 (0 ∷ 0 ∷ []) 2 (65520 ∷ 1 ∷ [])
+    ∷ meeting 1 (0 ∷ 0 ∷ []) 3 (0 ∷ 0 ∷ [])
+    ∷ meeting 2 (0 ∷ 0 ∷ []) 1 (0 ∷ 0 ∷ [])
+    ∷ meeting 2 (0 ∷ 0 ∷ []) 3 (0 ∷ 0 ∷ [])
+    ∷ meeting 3 (65519 ∷ 2 ∷ []) 1 (0 ∷ 0 ∷ [])
+    ∷ meeting 3 (65519 ∷ 2 ∷ []) 2 (65520 ∷ 1 ∷ [])
+    ∷ crossing 1 (0 ∷ 0 ∷ []) (0 ∷ 0 ∷ []) true
     ∷ crossing 2 (0 ∷ 0 ∷ []) (65520 ∷ 1 ∷ []) false
     ∷ crossing 3 (65519 ∷ 2 ∷ []) (0 ∷ 0 ∷ []) false
     ∷ settling 5 (1 ∷ 1 ∷ []) (44 ∷ 66 ∷ 88 ∷ 110 ∷ 0 ∷ []) (30 ∷ 29 ∷ 27 ∷ 23 ∷ 7 ∷ []) none 15 22 3
     ∷ settling 5 (22 ∷ 22 ∷ []) (44 ∷ 66 ∷ 88 ∷ 110 ∷ 0 ∷ []) (16 ∷ 28 ∷ 26 ∷ 22 ∷ 15 ∷ []) none 30 22 3
     ∷ settling 5 (22 ∷ 22 ∷ []) (44 ∷ 66 ∷ 88 ∷ 110 ∷ 0 ∷ []) (30 ∷ 29 ∷ 27 ∷ 23 ∷ 15 ∷ []) none 31 22 3
-    ∷ playing 5 (17 ∷ 24 ∷ 22 ∷ 22 ∷ []) (44 ∷ 5 ∷ 66 ∷ 6 ∷ 88 ∷ 7 ∷ 110 ∷ 8 ∷ 0 ∷ 0 ∷ []) (14 ∷ 13 ∷ 11 ∷ 7 ∷ 0 ∷ []) none 15 22 3
-    ∷ playing 5 (17 ∷ 24 ∷ 22 ∷ 22 ∷ []) (44 ∷ 5 ∷ 66 ∷ 6 ∷ 88 ∷ 7 ∷ 999 ∷ 8 ∷ 999 ∷ 0 ∷ []) (14 ∷ 13 ∷ 11 ∷ 7 ∷ 0 ∷ []) none 15 22 3
+    ∷ playing 5 unsoundDeal (44 ∷ 5 ∷ 66 ∷ 6 ∷ 88 ∷ 7 ∷ 110 ∷ 8 ∷ 0 ∷ 0 ∷ []) (14 ∷ 13 ∷ 11 ∷ 7 ∷ 0 ∷ []) none 15 22 3
+    ∷ playing 5 unsoundDeal (44 ∷ 5 ∷ 66 ∷ 6 ∷ 88 ∷ 7 ∷ 999 ∷ 8 ∷ 999 ∷ 0 ∷ []) (14 ∷ 13 ∷ 11 ∷ 7 ∷ 0 ∷ []) none 15 22 3
     ∷ opening 9 1 (10 ∷ 13 ∷ 999 ∷ 998 ∷ 22 ∷ 25 ∷ 28 ∷ 31 ∷ 34 ∷ []) (some 10) []
+    ∷ []
+
+-- Lamp 1's deal of F, and the calls after which it is closed: nobody's numbers are right, nobody agrees.
+abbrev pub soundDeal : List ℕ
+soundDeal = 9 ∷ 7 ∷ 10 ∷ 6 ∷ []
+
+abbrev pub toClosed : List Call
+toClosed = takeDeal soundDeal ∷ hearPairs (replicate 10 0) ∷ settle (replicate 5 0) ∷ []
+
+-- From its deal on a lamp says its row and its column at the other's point, closed too; for itself, or with an unsound deal, nothing;
+-- waiting, it is 4. A report has no one for a wrong second number, nor for the lamp itself. A closed lamp opens nothing.
+abbrev pub sayings : List Case
+sayings =
+    answering 1 (takeDeal soundDeal ∷ []) (sayPair 2) none (23 ∷ 22 ∷ [])
+    ∷ answering 1 (takeDeal soundDeal ∷ []) (sayPair 1) none (65535 ∷ 65535 ∷ [])
+    ∷ answering 5 (takeDeal unsoundDeal ∷ []) (sayPair 2) none (65535 ∷ 65535 ∷ [])
+    ∷ answering 1 [] (sayPair 2) (some 4) []
+    ∷ answering 1 (takeDeal soundDeal ∷ []) (hearPairs (16 ∷ 16 ∷ 22 ∷ 23 ∷ 28 ∷ 31 ∷ 34 ∷ 37 ∷ 40 ∷ 44 ∷ [])) none (26 ∷ [])
+    ∷ playing 1 soundDeal (replicate 10 0) (replicate 5 0) (some 8) 0 0 4
+    ∷ answering 1 toClosed (sayPair 2) none (23 ∷ 22 ∷ [])
+    ∷ answering 1 toClosed (openShares (10 ∷ 13 ∷ 999 ∷ 19 ∷ 22 ∷ [])) (some 4) []
     ∷ []

@@ -1,17 +1,17 @@
 -- Executions made to order, for any choice of faulty lamps and of what they send: demand 3 is not about nothing.
 --   Plot              who is honest, each lamp's deal, what a faulty lamp says to each listener and reports, and the calls around the three
---   execution p n t   the execution: each honest lamp is given its deal, hears and settles, with other calls before, between and after
+--   execution s q     the execution: each honest lamp is given its deal, hears and settles, with other calls before, between and after
 --   honestDealer, liar, twoDealers   three plots for n = 5 and t = 1
--- A plot within the sizes, with at most t faulty lamps, deals of the right length and no earlier right call, meets the premises: proofs/Stories.
+-- A plot within the sizes, with at most t faulty lamps, deals of the right length and no earlier right call, meets the premises:
+-- proofs/Stories.
 use mathlib.Core.Bool.{Bool, true, cond, not}
 use mathlib.Core.List.{List, [], _∷_}
 use Prim.Native.Nat.{ℕ, suc, _*_, _/_, _%_}
 use lib.Dec.{eqb, leb}
 use Rattle.lists.specs.Tabulate.{tabulate}
-use Rattle.bivariate.specs.Bivariate.{at}
 use Rattle.dealer.specs.Desk as desks
-use Rattle.consistency.specs.Deal.{rowOf, columnOf, pairFor, reportOf}
 use Rattle.lamp.specs.Lamp.{Call, takeDeal, sayPair, hearPairs, settle, openShares}
+use Rattle.agreement.specs.Setting.{Setting, setting, valueOf, pairBy, reportBy}
 use Rattle.agreement.specs.Calls.{Run, whole}
 use Rattle.agreement.specs.Demand3.{Execution}
 
@@ -27,35 +27,35 @@ pub record Plot : Type 0 where
   pub late : List Call
   pub behind : List Call
 
-module _ (p n t : ℕ) (s : Plot) where
+module _ (s : Setting) (q : Plot) where
   -- The pair that i hears from j.
   unfoldable pub pairHeard : ℕ → ℕ → ℕ × ℕ
-  pairHeard i j = cond (s .good j) (pairFor p j (rowOf t (s .dealTo j)) (columnOf t (s .dealTo j)) i) (s .liesTo i j)
+  pairHeard i j = cond (q .good j) (pairBy s j (q .dealTo j) i) (q .liesTo i j)
 
   -- All n pairs that i hears, in one list.
   unfoldable pub pairsHeard : ℕ → List ℕ
-  pairsHeard i = tabulate (λ m. cond (eqb (m % 2) 0) (pairHeard i (suc (m / 2)) .0) (pairHeard i (suc (m / 2)) .1)) (2 * n)
+  pairsHeard i = tabulate (λ m. cond (eqb (m % 2) 0) (pairHeard i (suc (m / 2)) .0) (pairHeard i (suc (m / 2)) .1)) (2 * s .n)
 
   -- The reports that all see.
   unfoldable pub reportsSeen : List ℕ
   reportsSeen =
-      tabulate (λ k. cond (s .good (suc k))
-      (reportOf p n (suc k) (rowOf t (s .dealTo (suc k))) (columnOf t (s .dealTo (suc k))) (pairsHeard (suc k)))
-      (s .claims (suc k))) n
+      tabulate (λ k. cond (q .good (suc k))
+      (reportBy s (suc k) (q .dealTo (suc k)) (pairsHeard (suc k)))
+      (q .claims (suc k))) (s .n)
 
   abbrev pub runOf : ℕ → Run
   runOf i = record {
-    beforeDeal = s .early;
-    itsDeal = s .dealTo i;
-    beforePairs = s .between;
+    beforeDeal = q .early;
+    itsDeal = q .dealTo i;
+    beforePairs = q .between;
     itsPairs = pairsHeard i;
-    beforeReports = s .late;
+    beforeReports = q .late;
     itsReports = reportsSeen;
-    rest = s .behind;
+    rest = q .behind;
   }
 
   abbrev pub execution : Execution
-  execution = record { honest = s .good; calls = λ i. whole (runOf i); run = runOf; seen = reportsSeen }
+  execution = record { honest = q .good; calls = λ i. whole (runOf i); run = runOf; seen = reportsSeen }
 
 -- F = 7 + 3X + 2Y + 4XY.
 abbrev pub anF : List ℕ
@@ -66,6 +66,10 @@ abbrev pub butThree : ℕ → Bool
 butThree i = not (eqb i 3)
 
 module _ (p : ℕ) where
+  -- Five lamps, of which one may be faulty.
+  abbrev pub five : Setting
+  five = setting p 5 1
+
   -- The dealer is honest; lamp 3 sends and reports nonsense and publishes 999.
   abbrev pub honestDealer : Plot
   honestDealer = record {
@@ -79,13 +83,13 @@ module _ (p : ℕ) where
     behind = openShares (10 ∷ 13 ∷ 999 ∷ 19 ∷ 22 ∷ []) ∷ [];
   }
 
-  -- The dealer gives lamp 5 an unsound deal, row 17 + 24 X; lamp 3 tells lamps 1, 2 and 4 what is right and lamp 5 a lie. Everyone gets stray
-  -- calls besides: a short deal and a settling too early, a second deal, a second hearing, short lists.
+  -- The dealer gives lamp 5 an unsound deal, row 17 + 24 X; lamp 3 tells lamps 1, 2 and 4 what is right and lamp 5 a lie. Everyone gets
+  -- stray calls besides: a short deal and a settling too early, a second deal, a second hearing, short lists.
   abbrev pub liar : Plot
   liar = record {
     good = butThree;
     dealTo = λ i. cond (eqb i 5) (17 ∷ 24 ∷ 22 ∷ 22 ∷ []) (desks.deal p 2 anF i);
-    liesTo = λ i j. cond (eqb i 5) (999, 1) (at p 2 2 anF i 3, at p 2 2 anF 3 i);
+    liesTo = λ i j. cond (eqb i 5) (999, 1) (valueOf five anF i 3, valueOf five anF 3 i);
     claims = λ j. 11;
     early = sayPair 2 ∷ takeDeal (1 ∷ 2 ∷ 3 ∷ []) ∷ settle (0 ∷ 0 ∷ 0 ∷ 0 ∷ 0 ∷ []) ∷ [];
     between = takeDeal (9 ∷ 9 ∷ 9 ∷ 9 ∷ []) ∷ sayPair 2 ∷ openShares (1 ∷ 2 ∷ 3 ∷ 4 ∷ 5 ∷ []) ∷ [];

@@ -1,1 +1,3 @@
-pub mod Answer
+pub mod Refusals
+pub mod Answers
+pub mod Fits

@@ -1,6 +1,29 @@
-// What a lamp's call can answer and why it may be refused, and the stages of a lamp, each with document 01's number.
+// What the calls answer: why one is refused, what a lamp's call gives, what decoding found, and the stages of a lamp.
 ghost use mathlib.Core.Path.{_≡_};
-ghost use Rattle.answers.specs.Answer.{refusalNumber, stageNumber, lowest};
+ghost use Rattle.lists.specs.Options.{orZero};
+ghost use Rattle.answers.specs.Refusals.{refusalNumber, also};
+ghost use Rattle.answers.specs.Answers.{numberOf, stageNumber};
+ghost use Rattle.answers.specs.Fits.{refusedFit};
+
+// Why a call is refused; document 01's number of each is `refusalNumber` in the definitions.
+pub enum Refusal {
+    WrongSize,
+    WrongNumber,
+    WrongLength,
+    WrongStage,
+    NotResidue,
+    WrongDirectory,
+    AlteredReport,
+    DealerRejected,
+    NoColumn,
+    NoOpening,
+}
+
+// Whether a call is admitted.
+pub enum Admission {
+    Pass,
+    Fail(Refusal),
+}
 
 pub enum Stage {
     Waiting,
@@ -10,18 +33,7 @@ pub enum Stage {
     Closed,
 }
 
-// Why a call is refused; document 01's number of each is `refusalNumber` in the definitions.
-pub enum Refusal {
-    WrongSize,
-    WrongNumber,
-    WrongLength,
-    WrongStage,
-    AlteredReport,
-    DealerRejected,
-    NoColumn,
-    NoOpening,
-}
-
+// What a lamp's call answers.
 pub enum Answer {
     Done,
     Pair(u16, u16),
@@ -31,10 +43,23 @@ pub enum Answer {
     Refused(Refusal),
 }
 
-// Whether a call is admitted.
-pub enum Admission {
-    Pass,
-    Fail(Refusal),
+// What a call that writes into a lent buffer answers: how many bytes it wrote, or why none.
+pub enum Writing {
+    Written(usize),
+    Refused(Refusal),
+}
+
+// Whether a polynomial that fits was found, none fits, or there was nothing to decode.
+pub enum Decoding {
+    Found,
+    Nothing,
+    Refused(Refusal),
+}
+
+// What a fit answers, with the coefficients found, the constant first, and 0 behind them.
+pub struct Fitted {
+    pub outcome: Decoding,
+    pub coefficients: [u16; 4],
 }
 
 // Document 01's number of a refusal.
@@ -46,10 +71,41 @@ pub fn refusal_number(why: Refusal) -> u8
         Refusal::WrongNumber => 2,
         Refusal::WrongLength => 3,
         Refusal::WrongStage => 4,
+        Refusal::NotResidue => 5,
+        Refusal::WrongDirectory => 6,
         Refusal::AlteredReport => 7,
         Refusal::DealerRejected => 8,
         Refusal::NoColumn => 9,
         Refusal::NoOpening => 10,
+    }
+}
+
+// One test more behind those before it: the first that fails says why.
+pub fn also(earlier: Admission, pass: bool, why: Refusal) -> Admission
+    ensures { λ r. ⌜ r ≡ also earlier pass why ⌝ }
+{
+    match earlier {
+        Admission::Fail(first) => Admission::Fail(first),
+        Admission::Pass => {
+            if pass {
+                return Admission::Pass;
+            }
+            Admission::Fail(why)
+        }
+    }
+}
+
+// Document 01's number of an answer, 0 where the call is accepted.
+pub fn answer_number(answer: Answer) -> u8
+    ensures { λ r. ⌜ r ≡ orZero (numberOf answer) ⌝ }
+{
+    match answer {
+        Answer::Done => 0,
+        Answer::Pair(first, second) => 0,
+        Answer::Report(bits) => 0,
+        Answer::Accepted => 0,
+        Answer::Opened(secret) => 0,
+        Answer::Refused(why) => refusal_number(why),
     }
 }
 
@@ -66,21 +122,12 @@ pub fn stage_number(stage: Stage) -> u8
     }
 }
 
-// The refusal of the lowest number that applies, if one does.
-pub fn lowest(size: bool, number: bool, list: bool, stage: bool) -> Admission
-    ensures { λ r. ⌜ r ≡ lowest size number list stage ⌝ }
+// What a fit answers where there is nothing to decode.
+pub fn refused_fit(why: Refusal) -> Fitted
+    ensures { λ r. ⌜ r ≡ refusedFit why ⌝ }
 {
-    if !size {
-        return Admission::Fail(Refusal::WrongSize);
+    Fitted {
+        outcome: Decoding::Refused(why),
+        coefficients: [0; 4],
     }
-    if !number {
-        return Admission::Fail(Refusal::WrongNumber);
-    }
-    if !list {
-        return Admission::Fail(Refusal::WrongLength);
-    }
-    if !stage {
-        return Admission::Fail(Refusal::WrongStage);
-    }
-    Admission::Pass
 }

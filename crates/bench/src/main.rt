@@ -7,6 +7,6 @@ fn main() {
     let mut buffer = io::buffer();
     let n = io::read_full(STDIN_FILENO, &mut buffer);
     let mut out = [0u8; 512];
-    let k = transcript::render(&buffer[..n], &mut out);
-    io::write_all(STDOUT_FILENO, &out[..k]);
+    let answer = transcript::render(&buffer[..n], &mut out);
+    io::write_all(STDOUT_FILENO, transcript::text_in(&out, answer));
 }

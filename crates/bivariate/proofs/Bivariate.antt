@@ -85,7 +85,8 @@ module _ (p : ℕ) (P : Prime p) (pt : ℕ → ℕ) where
     join-rows (suc k) f hf i m =
         let rest : List ℕ = join p pt T k (λ i. tail (f i)) in
         let s : length (level f) ≡ length T = level-size k f hf in
-        ap₂ (λ a b. value p a (pt i) ∷ row p k (length T) b (pt i)) (take-at (level f) rest (length T) s) (drop-at (level f) rest (length T) s)
+        ap₂ (λ a b. value p a (pt i) ∷ row p k (length T) b (pt i)) (take-at (level f) rest (length T) s)
+        (drop-at (level f) rest (length T) s)
         ∙ ap₂ _∷_ (level-value k f hf i m) (join-rows k (λ i. tail (f i)) (tails k f hf) i m)
         ∙ constant-tail k (f i) (hf i m .size)
 
@@ -151,8 +152,10 @@ module _ (p : ℕ) (P : Prime p) (pt : ℕ → ℕ) where
 
           columns : (j : ℕ) → List·Memᴰ j S → column p k n F (pt j) ≡ g j
           columns j m =
-              at-points n T points-T (omega (arith, size-T)) (column p k n F (pt j)) (g j) (column-poly p k n F (pt j) (omega arith) (hF .size)) (hg j m)
-              (λ i mi. sym (crossing p k n F (pt j) (pt i) (hF .size)) ∙ ap (λ z. value p z (pt j)) (rows-T i mi) ∙ cross i j (within i mi) m)
+              at-points n T points-T (omega (arith, size-T)) (column p k n F (pt j)) (g j)
+              (column-poly p k n F (pt j) (omega arith) (hF .size)) (hg j m)
+              (λ i mi. sym (crossing p k n F (pt j) (pt i) (hF .size)) ∙ ap (λ z. value p z (pt j)) (rows-T i mi)
+              ∙ cross i j (within i mi) m)
 
           rows : (i : ℕ) → List·Memᴰ i S → row p k n F (pt i) ≡ f i
           rows i m =

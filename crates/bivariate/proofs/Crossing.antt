@@ -14,7 +14,8 @@ use Rattle.polynomial.proofs.Division.{value-lt}
 
 module _ (p : ℕ) where
   -- ---- f + x g
-  regroup : (c d x y u v : ℕ) → add p (add p c (mul p x d)) (mul p y (add p u (mul p x v))) ≡ add p (add p c (mul p y u)) (mul p x (add p d (mul p y v)))
+  regroup : (c d x y u v : ℕ)
+      → add p (add p c (mul p x d)) (mul p y (add p u (mul p x v))) ≡ add p (add p c (mul p y u)) (mul p x (add p d (mul p y v)))
   regroup c d x y u v = simp ring
 
   length-plusTimes : (f : List ℕ) (x : ℕ) (g : List ℕ) → length f ≡ length g → length (plusTimes p f x g) ≡ length f

@@ -78,7 +78,8 @@ module _ (p : ℕ) where
         place = omega (arith, k .place);
         goal =
             write-next out u v rest (omega (arith, k .size))
-            ∙ ap₂ (λ a b. take u out ++ a ∷ row p (n - (u + 1)) n b y) (e ∙ ap (λ z. value p (take z (drop at f)) y) part) (sym (drop-drop n at f))
+            ∙ ap₂ (λ a b. take u out ++ a ∷ row p (n - (u + 1)) n b y) (e ∙ ap (λ z. value p (take z (drop at f)) y) part)
+            (sym (drop-drop n at f))
             ∙ ap (λ z. take u out ++ row p z n (drop at f) y) (sym left)
             ∙ k .goal;
       }
@@ -150,6 +151,7 @@ module _ (p : ℕ) where
         place = omega (arith, k .place, ap (λ z. z * n) one);
         goal =
             written
-            ∙ ap (plusTimes p (take n block) x) (k .goal ∙ ap (λ z. column p (n - k .u) n z x) (ap (λ z. drop z f) (sym more) ∙ sym (drop-drop n (end - n) f)))
+            ∙ ap (plusTimes p (take n block) x)
+            (k .goal ∙ ap (λ z. column p (n - k .u) n z x) (ap (λ z. drop z f) (sym more) ∙ sym (drop-drop n (end - n) f)))
             ∙ ap (λ z. column p z n block x) left;
       }

@@ -7,7 +7,8 @@ use native.Mathlib.Omega.{arith}
 use lib.ListN.{length, take, drop, getD}
 use lib.Seq.{getD-drop}
 use Rattle.field.specs.Arithmetic.{add, mul, pow}
-use Rattle.field.proofs.Ring.{add-zero, mul-zero, mul-one, mul-add, mul-comm, mul-mod, mul-assoc, mul-left-comm, add-mod, add-comm, pow-zero, pow-suc}
+use Rattle.field.proofs.Ring.{add-zero, mul-zero, mul-one, mul-add, mul-comm, mul-mod, mul-assoc, mul-left-comm, add-mod, add-comm}
+use Rattle.field.proofs.Ring.{pow-zero, pow-suc}
 use Rattle.polynomial.specs.Polynomial.{Residues, value}
 use Rattle.bivariate.specs.Bivariate.{sum, at, row, column}
 use Rattle.polynomial.proofs.Division.{value-zero}
@@ -21,7 +22,8 @@ module _ (p : ℕ) where
 
   sum-times : (n s : ℕ) (f : ℕ → ℕ) → sum p (λ i. mul p s (f i)) n ≡ mul p s (sum p f n)
   sum-times zero s f = sym (mul-zero p s)
-  sum-times (suc n) s f = ap (add p (mul p s (f zero))) (sum-times n s (λ i. f (suc i))) ∙ sym (mul-add p s (f zero) (sum p (λ i. f (suc i)) n))
+  sum-times (suc n) s f = ap (add p (mul p s (f zero))) (sum-times n s (λ i. f (suc i)))
+      ∙ sym (mul-add p s (f zero) (sum p (λ i. f (suc i)) n))
 
   sum-zeros : (n : ℕ) (f : ℕ → ℕ) → ((i : ℕ) → f i ≡ 0) → sum p f n ≡ 0
   sum-zeros zero f e = refl
@@ -71,7 +73,8 @@ module _ (p : ℕ) where
       constant : (v : ℕ) → mul p (getD F v 0) (pow p y v) ≡ term F zero v
       constant v =
           let place : v ≡ zero * n + v = omega arith in
-          sym (ap (mul p (getD F v 0)) (mul-comm p (pow p x zero) (pow p y v) ∙ power-zero (pow p y v) x) ∙ mul-mod p (getD F v 0) (pow p y v))
+          sym (ap (mul p (getD F v 0)) (mul-comm p (pow p x zero) (pow p y v) ∙ power-zero (pow p y v) x)
+          ∙ mul-mod p (getD F v 0) (pow p y v))
           ∙ ap (λ z. mul p (getD F z 0) (mul p (pow p x zero) (pow p y v))) place
 
       next : (u v : ℕ) → mul p x (term (drop n F) u v) ≡ term F (suc u) v

@@ -42,11 +42,9 @@ pub(crate) fn answer(answer: Answer) {
 
 // What the desk answered.
 pub(crate) fn dealing(answer: Dealing) {
-    let refusal = dealer::refusal_number(answer);
-    if refusal == 0 {
-        word(b"ok");
-    } else {
-        refused(refusal as u16);
+    match answer {
+        Dealing::Written => word(b"ok"),
+        Dealing::Refused(why) => refused(answers::refusal_number(why) as u16),
     }
 }
 
@@ -59,11 +57,12 @@ pub(crate) fn numbers(list: &[u16]) {
 
 // The end of a line: the lamp's stage, share, happy set and report.
 pub(crate) fn state(lamp: Lamp) {
+    let sharing = lamp.sharing;
+    let stage = sharing.stage;
     word(b" ;");
-    let stage = lamp.stage;
     number(answers::stage_number(stage) as u16);
-    number(lamp.share);
-    number(lamp.happy);
-    number(lamp.report);
+    number(sharing.share);
+    number(sharing.happy);
+    number(sharing.report);
     word(b"\n");
 }

@@ -6,8 +6,8 @@ fn show(fd: i32) {
     let mut buffer = io::buffer();
     let n = io::read_full(fd, &mut buffer);
     let mut out = [0u8; 512];
-    let k = transcript::render(&buffer[..n], &mut out);
-    io::write_all(STDOUT_FILENO, &out[..k]);
+    let answer = transcript::render(&buffer[..n], &mut out);
+    io::write_all(STDOUT_FILENO, transcript::text_in(&out, answer));
 }
 
 // The file that argument i names, or why it cannot be opened.

@@ -2,7 +2,7 @@
 use mathlib.Core.Path.{_≡_, refl, sym, ap, _∙_}
 use mathlib.Core.Bool.{Bool, true, false, not, _&&_}
 use mathlib.Core.List.{List}
-use Prim.Native.Nat.{ℕ, zero, suc, _+_, _*_, _%_, _^_, _<_, _≤_}
+use Prim.Native.Nat.{ℕ, zero, suc, _+_, _*_, _-_, _%_, _^_, _<_, _≤_}
 use native.Mathlib.Nat.{one-mul, le-trans}
 use native.Mathlib.Numerals.{add-one}
 use native.Mathlib.Omega.{arith}
@@ -10,11 +10,12 @@ use borrow.Author.Tests.{eq-eqb, ne-eqb, le-leb, lt-leb}
 use lib.Dec.{eqb, lit<}
 use lib.ListN.{length}
 use lib.Pow.{shl-exact, pow-mono}
-use Rattle.lists.specs.Masks.{mask}
-use Rattle.lists.proofs.Masks.{mask-in, mask-out, mask-lt, add-lt}
+use Rattle.lists.specs.Masks.{bit, mask}
+use Rattle.lists.proofs.Cases.{not-both}
+use Rattle.lists.proofs.Masks.{mask-in, mask-out, mask-lt, bit-mask, add-lt}
 use Rattle.polynomial.specs.Polynomial.{residues, value}
-use Rattle.parties.specs.Parties.{pointOf, notSent}
-use Rattle.consistency.specs.Deal.{firstFrom, secondFrom, sound, pairFor, confirms, reportOf, reportIn}
+use Rattle.parties.specs.Parties.{isParty, pointOf, notSent}
+use Rattle.consistency.specs.Deal.{firstFrom, secondFrom, sound, pairFor, confirms, reportOf, noReport, reportIn}
 
 -- `1 << k` in sixteen bits.
 one-shl : (k : ℕ) → k < 16 → 1 * 2 ^ k % 65536 ≡ 2 ^ k
@@ -25,6 +26,14 @@ mask-none : (f : ℕ → Bool) (n : ℕ) → ((k : ℕ) → f k ≡ false) → 0
 unfolding mask
 mask-none f zero h = refl
 mask-none f (suc n) h = mask-none f n h ∙ sym (mask-out f n (h n))
+
+-- Every one of sixteen bits is set.
+full : noReport ≡ mask (λ j. true) 16
+unfolding mask
+full = refl
+
+full-bit : (k : ℕ) → k < 16 → bit noReport k ≡ true
+full-bit k h = ap (λ m. bit m k) full ∙ bit-mask (λ j. true) 16 k h
 
 module _ (p i : ℕ) (row column : List ℕ) where
   -- ---- whether the deal is sound
@@ -50,7 +59,8 @@ module _ (p i : ℕ) (row column : List ℕ) where
   unfolding pairFor
   pair-unsound j d s = rw (ne-eqb i j d, s)
 
-  pub pair-sound : (j : ℕ) → (i ≡ j → ⊥) → sound p i row column ≡ true → (value p row (pointOf j), value p column (pointOf j)) ≡ pairFor p i row column j
+  pub pair-sound : (j : ℕ) → (i ≡ j → ⊥) → sound p i row column ≡ true
+      → (value p row (pointOf j), value p column (pointOf j)) ≡ pairFor p i row column j
   unfolding pairFor
   pair-sound j d s = rw (ne-eqb i j d, s)
 
@@ -87,17 +97,32 @@ module _ (p i : ℕ) (row column : List ℕ) where
     report-unsound n s = mask-none says n (λ k. unsound-none s (suc k))
 
     -- ---- the report for every input
-    pub report-many : (n : ℕ) → 16 < n → 0 ≡ reportIn p n i row column hs
+    pub report-many : (n : ℕ) → 16 < n → noReport ≡ reportIn p n i row column hs
     unfolding reportIn
     report-many n h = rw (lt-leb n 16 h)
 
-    pub report-length : (n : ℕ) → n ≤ 16 → (length hs ≡ 2 * n → ⊥) → 0 ≡ reportIn p n i row column hs
+    pub report-nobody : (n : ℕ) → n ≤ 16 → isParty n i ≡ false → noReport ≡ reportIn p n i row column hs
     unfolding reportIn
-    report-length n h d = rw (le-leb n 16 h, ne-eqb (length hs) (2 * n) d)
+    report-nobody n h d = rw (le-leb n 16 h, d)
 
-    pub report-within : (n : ℕ) → n ≤ 16 → length hs ≡ 2 * n → reportOf p n i row column hs ≡ reportIn p n i row column hs
+    pub report-length : (n : ℕ) → n ≤ 16 → isParty n i ≡ true → (length hs ≡ 2 * n → ⊥) → noReport ≡ reportIn p n i row column hs
     unfolding reportIn
-    report-within n h e = rw (le-leb n 16 h, eq-eqb (length hs) (2 * n) e)
+    report-length n h one d = rw (le-leb n 16 h, one, ne-eqb (length hs) (2 * n) d)
+
+    pub report-within : (n : ℕ) → n ≤ 16 → isParty n i ≡ true → length hs ≡ 2 * n
+        → reportOf p n i row column hs ≡ reportIn p n i row column hs
+    unfolding reportIn
+    report-within n h one e = rw (le-leb n 16 h, one, eq-eqb (length hs) (2 * n) e)
+
+    -- A report has no one for its own party, so it is never `noReport`.
+    pub report-own : (n : ℕ) → 1 ≤ i → i ≤ n → bit (reportOf p n i row column hs) (i - 1) ≡ false
+    unfolding reportOf
+    report-own n a b =
+        let same : i ≡ suc (i - 1) = omega arith in
+        bit-mask says n (i - 1) (omega arith) ∙ sym (confirms-self (suc (i - 1)) same)
+
+    pub report-legal : (n : ℕ) → 1 ≤ i → i ≤ n → n ≤ 16 → reportOf p n i row column hs ≡ noReport → ⊥
+    report-legal n a b h e = not-both (full-bit (i - 1) (omega arith)) (ap (λ m. bit m (i - 1)) (sym e) ∙ report-own n a b)
 
     -- ---- a turn of the loop: bit k is set where party k + 1 is confirmed
     abbrev pub reportTo : ℕ → ℕ

@@ -6,7 +6,7 @@
 --   said q                          a pair as the code answers it
 --   confirms p i row column hs j    party i has a one for j
 --   reportOf p n i row column hs    party i's report
---   reportIn p n i row column hs    the same for every input: 0 for other than n pairs, or more than sixteen
+--   reportIn p n i row column hs    the same for every input: noReport, which no party reports, where it cannot be made
 -- Laws: proofs/Reports.
 use mathlib.Core.Bool.{Bool, cond, not, _&&_}
 use mathlib.Core.List.{List}
@@ -15,7 +15,7 @@ use lib.Dec.{eqb, leb}
 use lib.ListN.{length, take, drop, getD}
 use Rattle.lists.specs.Masks.{mask}
 use Rattle.polynomial.specs.Polynomial.{residues, value}
-use Rattle.parties.specs.Parties.{pointOf, notSent}
+use Rattle.parties.specs.Parties.{isParty, pointOf, notSent}
 use Rattle.consistency.specs.declared.Pair.{Pair}
 
 -- The row comes first in a deal, the column behind it.
@@ -55,8 +55,12 @@ confirms p i row column hs j =
 unfoldable pub reportOf : ℕ → ℕ → ℕ → List ℕ → List ℕ → List ℕ → ℕ
 reportOf p n i row column hs = mask (λ k. confirms p i row column hs (suc k)) n
 
--- A report has sixteen bits; a list that does not hold n pairs is answered with 0.
+-- All sixteen ones, so one for the party itself: no report of a party.
+abbrev pub noReport : ℕ
+noReport = 65535
+
+-- A report has sixteen bits, and its party is one of n; a list that does not hold n pairs is not reported on.
 unfoldable pub reportIn : ℕ → ℕ → ℕ → List ℕ → List ℕ → List ℕ → ℕ
 reportIn p n i row column hs =
     let given = reportOf p n i row column hs in
-    cond (leb n 16 && eqb (length hs) (2 * n)) given 0
+    cond (leb n 16 && isParty n i && eqb (length hs) (2 * n)) given noReport

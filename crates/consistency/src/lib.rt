@@ -6,6 +6,9 @@ ghost use lib.ListN.{length};
 ghost use Rattle.field.specs.Modulus.{modulus};
 ghost use Rattle.consistency.specs.Deal.{sound, pairFor, said, confirms, reportOf, reportIn};
 
+// No party's report: it would have a one for itself.
+pub const NO_REPORT: u16 = 65535;
+
 // What a party says to another: the row and the column at the other's point.
 pub struct Pair {
     pub first: u16,
@@ -79,16 +82,19 @@ fn confirmed(n: u8, i: u8, row: &[u16], column: &[u16], pairs: &[u16]) -> u16
     bits
 }
 
-// Party i's report on n pairs: with an unsound deal it has a one for nobody.
-// Other than n pairs, or more than the report has bits, are answered with 0.
+// Party i's report on n pairs: with an unsound deal it has a one for nobody. Where i is none of n parties, these are more than the report
+// has bits, or other than n pairs are told, there is no report.
 pub fn report(n: u8, i: u8, row: &[u16], column: &[u16], pairs: &[u16]) -> u16
     ensures { λ r. ⌜ r ≡ reportIn modulus n i (now (row .entry)) (now (column .entry)) (now (pairs .entry)) ⌝ }
 {
     if 16 < n {
-        return 0;
+        return NO_REPORT;
+    }
+    if !parties::is_party(n, i) {
+        return NO_REPORT;
     }
     if pairs.len() != 2 * n as usize {
-        return 0;
+        return NO_REPORT;
     }
     if !sound(i, row, column) {
         return 0;

@@ -1,26 +1,29 @@
 -- Laws of the dealing desk: the sizes of the deals, each party's own part, when the desk writes and what the list holds afterwards.
 use mathlib.Core.Path.{_≡_, refl, sym, ap, ap₂, _∙_}
-use mathlib.Core.Logic.{_⊎_, inl, inr, ⊎-elim}
-use mathlib.Core.Bool.{Bool, true, false, cond, _&&_}
-use mathlib.Core.Option.{none, some}
+use mathlib.Core.Logic.{⊎-elim}
+use mathlib.Core.Bool.{true}
+use mathlib.Core.Option.{none}
 use mathlib.Core.List.{List}
 use Prim.Native.Nat.{ℕ, zero, suc, _+_, _*_, _-_, _<_, _≤_}
 use native.Mathlib.Nat.{mul-le-mul-right, eq-or-lt-of-le, le-of-suc-le-suc}
-use native.Mathlib.Decide.{ℕ-discrete}
 use native.Mathlib.Omega.{arith}
-use lib.Dec.{eqb}
 use lib.ListN.{length, take, drop, length-append}
 use lib.Seq.{take-at, drop-at, take-all}
-use borrow.Author.Tests.{eqb-true, eq-eqb, ne-eqb}
+use borrow.Author.Tests.{eqb-true, eq-eqb}
 use Rattle.lists.proofs.InPlace.{part-in-front}
-use Rattle.polynomial.specs.Polynomial.{Residues, residues}
-use Rattle.polynomial.proofs.Below.{residues-facts, residues-true, residues-not}
+use Rattle.polynomial.specs.Polynomial.{Residues}
+use Rattle.polynomial.proofs.Below.{residues-facts, residues-true}
 use Rattle.bivariate.specs.Bivariate.{row, column}
 use Rattle.bivariate.proofs.Crossing.{length-row, length-column}
 use Rattle.parties.specs.Parties.{sizes, pointOf}
-use Rattle.dealer.specs.Desk.{deal, deals, stretch, verdict, numberOf, listAfter, desk}
+use Rattle.answers.specs.declared.Refusal.{Refusal}
+use Rattle.answers.specs.declared.Admission.{Admission}
+use Rattle.answers.specs.declared.Admission.the-variants.{Pass, Fail}
+use Rattle.answers.specs.Refusals.{lowest}
+use Rattle.answers.proofs.Tests.{lowest-pass}
+use Rattle.dealer.specs.Desk.{deal, deals, stretch, deskTests, dealingNumber, dealtBy, desk}
 use Rattle.dealer.specs.declared.Dealing.{Dealing}
-use Rattle.dealer.specs.declared.Dealing.the-variants.{Written, WrongSize, WrongLength, NotResidue}
+use Rattle.dealer.specs.declared.Dealing.the-variants.{Written, Refused}
 
 -- ---- The deals
 
@@ -59,7 +62,8 @@ module _ (p w : ℕ) (F : List ℕ) where
         ∙ take-all (2 * w) new (omega (arith, length-deal (suc n)))
         ∙ ap (λ z. deal p w F (suc z)) (sym e))
         (λ (l : k < n).
-        part-in-front (k * (2 * w)) (2 * w) (deals p w F n) new (omega (arith, length-deals n, mul-le-mul-right {m = suc k} {n = n} (2 * w) l))
+        part-in-front (k * (2 * w)) (2 * w) (deals p w F n) new
+        (omega (arith, length-deals n, mul-le-mul-right {m = suc k} {n = n} (2 * w) l))
         ∙ place n k l)
         (eq-or-lt-of-le (le-of-suc-le-suc h))
 
@@ -69,117 +73,67 @@ module _ (p w : ℕ) (F : List ℕ) where
         let same : suc (i - 1) ≡ i = omega arith in
         place n (i - 1) (omega arith) ∙ ap (deal p w F) same
 
--- ---- The answers, and the list after each
-
-not-none : {k : ℕ} → some k ≡ none → ⊥
-not-none e = let z : _≡_ {A = ℕ} 0 1 = cc in omega arith
+-- ---- The answer, and the list after it
 
 module _ (new out : List ℕ) where
-  after-written : (d : Dealing) → numberOf d ≡ none → listAfter d new out ≡ new
-  after-written Written e = refl
-  after-written WrongSize e = absurd (not-none e)
-  after-written WrongLength e = absurd (not-none e)
-  after-written NotResidue e = absurd (not-none e)
+  dealt-none : (a : Admission) → dealingNumber (dealtBy a new out .1) ≡ none → a ≡ Pass
+  dealt-none Pass e = refl
+  dealt-none (Fail why) e = absurd (let z : _≡_ {A = ℕ} 0 1 = cc in omega arith)
 
-  after-refused : (d : Dealing) (k : ℕ) → numberOf d ≡ some k → listAfter d new out ≡ out
-  after-refused Written k e = absurd (not-none (sym e))
-  after-refused WrongSize k e = refl
-  after-refused WrongLength k e = refl
-  after-refused NotResidue k e = refl
+  dealt-written : {a : Admission} → a ≡ Pass → (new, Written) ≡ dealtBy a new out
+  dealt-written e = rw e
 
--- A refusal's number.
-refusals : (d : Dealing) (k : ℕ) → numberOf d ≡ some k → (k ≡ 1) ⊎ (k ≡ 3) ⊎ (k ≡ 5)
-refusals Written k e = absurd (not-none (sym e))
-refusals WrongSize k e = inl (cc)
-refusals WrongLength k e = inr (inl (cc))
-refusals NotResidue k e = inr (inr (cc))
+  dealt-refused : {a : Admission} {why : Refusal} → a ≡ Fail why → (out, Refused why) ≡ dealtBy a new out
+  dealt-refused e = rw e
 
--- ---- The answer by the tests, in their order
+-- All tests pass: what that says.
+pub record Deals (p n t : ℕ) (F : List ℕ) (room : ℕ) : Type 0 where
+  pub size : sizes n t ≡ true
+  pub square : length F ≡ suc t * suc t
+  pub long : room ≡ n * (2 * suc t)
+  pub below : Residues p F
 
-module _ (p n t : ℕ) (F : List ℕ) (room : ℕ) where
-  pub verdict-size : sizes n t ≡ false → verdict p n t F room ≡ WrongSize
-  unfolding verdict
-  verdict-size s = rw s
-
-  module _ (s : sizes n t ≡ true) where
-    pub verdict-length : ((length F ≡ suc t * suc t) × (room ≡ n * (2 * suc t)) → ⊥) → verdict p n t F room ≡ WrongLength
-    unfolding verdict
-    verdict-length wrong =
-        elim (ℕ-discrete (length F) (suc t * suc t)) [
-          | yes e ↦ rw (s, eq-eqb (length F) (suc t * suc t) e, ne-eqb room (n * (2 * suc t)) (λ r. wrong (e, r)))
-          | no d ↦ rw (s, ne-eqb (length F) (suc t * suc t) d)
-        ]
-
-    module _ (e : length F ≡ suc t * suc t) (r : room ≡ n * (2 * suc t)) where
-      pub verdict-residue : residues p F ≡ false → verdict p n t F room ≡ NotResidue
-      unfolding verdict
-      verdict-residue h = rw (s, eq-eqb (length F) (suc t * suc t) e, eq-eqb room (n * (2 * suc t)) r, h)
-
-      pub verdict-written : residues p F ≡ true → verdict p n t F room ≡ Written
-      unfolding verdict
-      verdict-written h = rw (s, eq-eqb (length F) (suc t * suc t) e, eq-eqb room (n * (2 * suc t)) r, h)
-
-all-passed : (a b c d : Bool) → numberOf (cond a (cond (b && c) (cond d Written NotResidue) WrongLength) WrongSize) ≡ none
-    → (a ≡ true) × (b ≡ true) × (c ≡ true) × (d ≡ true)
-all-passed true true true true e = (refl, refl, refl, refl)
-all-passed true true true false e = absurd (not-none e)
-all-passed true true false d e = absurd (not-none e)
-all-passed true false c d e = absurd (not-none e)
-all-passed false b c d e = absurd (not-none e)
-
--- It is `Written` only if all of them passed.
-pub verdict-passed : (p n t : ℕ) (F : List ℕ) (room : ℕ) → numberOf (verdict p n t F room) ≡ none
-    → (sizes n t ≡ true) × (length F ≡ suc t * suc t) × (room ≡ n * (2 * suc t)) × Residues p F
-unfolding verdict
-verdict-passed p n t F room e =
-    let a = all-passed (sizes n t) (eqb (length F) (suc t * suc t)) (eqb room (n * (2 * suc t))) (residues p F) e in
-    (a .0, eqb-true _ _ (a .1), eqb-true _ _ (a .2), residues-facts p F (a .3))
+pub desk-passed : (p n t : ℕ) (F : List ℕ) (room : ℕ) → lowest (deskTests p n t F room) ≡ Pass → Deals p n t F room
+desk-passed p n t F room e =
+    let all = lowest-pass (deskTests p n t F room) e in
+    record {
+      size = all .0;
+      square = eqb-true _ _ (all .1 .0);
+      long = eqb-true _ _ (all .1 .1 .0);
+      below = residues-facts p F (all .1 .1 .1 .0);
+    }
 
 -- ---- The desk
 
 module _ (p n t : ℕ) (F out : List ℕ) where
   -- It writes exactly if all tests pass.
-  pub desk-written : numberOf (desk p n t F out .1) ≡ none
-      → (sizes n t ≡ true) × (length F ≡ suc t * suc t) × (length out ≡ n * (2 * suc t)) × Residues p F
+  pub desk-written : dealingNumber (desk p n t F out .1) ≡ none → Deals p n t F (length out)
   unfolding desk
-  desk-written e = verdict-passed p n t F (length out) e
+  desk-written e = desk-passed p n t F (length out) (dealt-none (deals p (suc t) F n) out _ e)
 
-  pub desk-writes : sizes n t ≡ true → length F ≡ suc t * suc t → length out ≡ n * (2 * suc t) → Residues p F → desk p n t F out .1 ≡ Written
+  pub desk-writes : Deals p n t F (length out) → desk p n t F out ≡ (deals p (suc t) F n, Written)
   unfolding desk
-  desk-writes s e r h = verdict-written p n t F (length out) s e r (residues-true p F h)
+  desk-writes d =
+      rw (
+        d .size,
+        eq-eqb (length F) (suc t * suc t) (d .square),
+        eq-eqb (length out) (n * (2 * suc t)) (d .long),
+        residues-true p F (d .below),
+      )
 
   -- Then the list is the deals, each party's in its own part.
-  pub desk-list : numberOf (desk p n t F out .1) ≡ none → desk p n t F out .0 ≡ deals p (suc t) F n
+  pub desk-list : dealingNumber (desk p n t F out .1) ≡ none → desk p n t F out .0 ≡ deals p (suc t) F n
+  desk-list e = ap (λ (q : List ℕ × Dealing). q .0) (desk-writes (desk-written e))
+
+  pub desk-stretch : dealingNumber (desk p n t F out .1) ≡ none → (i : ℕ) → 1 ≤ i → i ≤ n
+      → stretch (suc t) (desk p n t F out .0) i ≡ deal p (suc t) F i
+  desk-stretch e i a b = ap (λ l. stretch (suc t) l i) (desk-list e) ∙ deals-at p (suc t) F (desk-written e .square) n i a b
+
+  -- The desk by what its tests find.
+  pub desk-by-pass : lowest (deskTests p n t F (length out)) ≡ Pass → (deals p (suc t) F n, Written) ≡ desk p n t F out
   unfolding desk
-  desk-list e = after-written (deals p (suc t) F n) out (verdict p n t F (length out)) e
+  desk-by-pass e = dealt-written (deals p (suc t) F n) out e
 
-  pub desk-stretch : numberOf (desk p n t F out .1) ≡ none → (i : ℕ) → 1 ≤ i → i ≤ n → stretch (suc t) (desk p n t F out .0) i ≡ deal p (suc t) F i
-  desk-stretch e i a b = ap (λ l. stretch (suc t) l i) (desk-list e) ∙ deals-at p (suc t) F (desk-written e .1) n i a b
-
-  -- Otherwise the lowest number that applies is given,
-  pub desk-size : sizes n t ≡ false → numberOf (desk p n t F out .1) ≡ some 1
+  pub desk-by-fail : (why : Refusal) → lowest (deskTests p n t F (length out)) ≡ Fail why → (out, Refused why) ≡ desk p n t F out
   unfolding desk
-  desk-size s = ap numberOf (verdict-size p n t F (length out) s)
-
-  pub desk-length : sizes n t ≡ true → ((length F ≡ suc t * suc t) × (length out ≡ n * (2 * suc t)) → ⊥)
-      → numberOf (desk p n t F out .1) ≡ some 3
-  unfolding desk
-  desk-length s wrong = ap numberOf (verdict-length p n t F (length out) s wrong)
-
-  pub desk-residue : sizes n t ≡ true → length F ≡ suc t * suc t → length out ≡ n * (2 * suc t) → (Residues p F → ⊥)
-      → numberOf (desk p n t F out .1) ≡ some 5
-  unfolding desk
-  desk-residue s e r wrong = ap numberOf (verdict-residue p n t F (length out) s e r (residues-not p F wrong))
-
-  -- no other is, and the list is left alone.
-  pub desk-numbers : (k : ℕ) → numberOf (desk p n t F out .1) ≡ some k → (k ≡ 1) ⊎ (k ≡ 3) ⊎ (k ≡ 5)
-  desk-numbers k e = refusals (desk p n t F out .1) k e
-
-  pub desk-refused : (k : ℕ) → numberOf (desk p n t F out .1) ≡ some k → desk p n t F out .0 ≡ out
-  unfolding desk
-  desk-refused k e = after-refused (deals p (suc t) F n) out (verdict p n t F (length out)) k e
-
-  -- The desk by its answer.
-  pub desk-by : (d : Dealing) → d ≡ verdict p n t F (length out) → (listAfter d (deals p (suc t) F n) out, d) ≡ desk p n t F out
-  unfolding desk
-  desk-by d e = ap (λ z. (listAfter z (deals p (suc t) F n) out, z)) e
+  desk-by-fail why e = dealt-refused (deals p (suc t) F n) out e

@@ -2,48 +2,37 @@
 ghost use mathlib.Core.Path.{_≡_};
 ghost use Prim.Native.Nat.{_*_, _≤_};
 ghost use lib.ListN.{length};
-ghost use Rattle.lists.specs.Options.{orZero};
 ghost use Rattle.field.specs.Modulus.{modulus};
-ghost use Rattle.dealer.specs.Desk.{deal, deals, numberOf, verdict, desk};
+ghost use Rattle.answers.specs.Refusals.{lowest};
+ghost use Rattle.dealer.specs.Desk.{deal, deals, deskTests, desk};
+use answers::Admission;
+use answers::Refusal;
 
 // What the desk answers.
 pub enum Dealing {
     Written,
-    WrongSize,
-    WrongLength,
-    NotResidue,
+    Refused(Refusal),
 }
 
-// Document 01's number of a refusal, 0 where the deals are written.
-pub fn refusal_number(answer: Dealing) -> u8
-    ensures { λ r. ⌜ r ≡ orZero (numberOf answer) ⌝ }
-{
-    match answer {
-        Dealing::Written => 0,
-        Dealing::WrongSize => 1,
-        Dealing::WrongLength => 3,
-        Dealing::NotResidue => 5,
-    }
-}
-
-// The lowest refusal that applies, or that all may be written.
-fn verdict(n: u8, t: u8, list: &[u16], room: usize) -> Dealing
-    ensures { λ r. ⌜ r ≡ verdict modulus n t (now (list .entry)) room ⌝ }
+// The lowest refusal that applies, if one does. Behind a test its fact is known, and the compiler makes the loops over a list of known
+// width that follow: so each test has a way out of its own.
+fn admission(n: u8, t: u8, list: &[u16], room: usize) -> Admission
+    ensures { λ r. ⌜ r ≡ lowest (deskTests modulus n t (now (list .entry)) room) ⌝ }
 {
     if !parties::sizes(n, t) {
-        return Dealing::WrongSize;
+        return Admission::Fail(Refusal::WrongSize);
     }
     let width = t as usize + 1;
     if list.len() != width * width {
-        return Dealing::WrongLength;
+        return Admission::Fail(Refusal::WrongLength);
     }
     if room != n as usize * (2 * width) {
-        return Dealing::WrongLength;
+        return Admission::Fail(Refusal::WrongLength);
     }
     if !polynomial::residues(list) {
-        return Dealing::NotResidue;
+        return Admission::Fail(Refusal::NotResidue);
     }
-    Dealing::Written
+    Admission::Pass
 }
 
 // Party i's deal, over the whole of the lent part: its row, then its column.
@@ -75,12 +64,10 @@ fn write_deals(n: u8, list: &[u16], width: usize, out: &mut [u16])
 pub fn deal(n: u8, t: u8, list: &[u16], out: &mut [u16]) -> Dealing
     ensures { λ r. ⌜ (now (out .exit), r) ≡ desk modulus n t (now (list .entry)) (now (out .entry)) ⌝ }
 {
-    let answer = verdict(n, t, list, out.len());
-    match answer {
-        Dealing::WrongSize => Dealing::WrongSize,
-        Dealing::WrongLength => Dealing::WrongLength,
-        Dealing::NotResidue => Dealing::NotResidue,
-        Dealing::Written => {
+    let admitted = admission(n, t, list, out.len());
+    match admitted {
+        Admission::Fail(why) => Dealing::Refused(why),
+        Admission::Pass => {
             write_deals(n, list, t as usize + 1, out);
             Dealing::Written
         }

@@ -1,135 +1,165 @@
--- The answers by the tests, in their order: each is what the code gives in the case that applies.
+-- What the C functions make of the fit's answers is what their definitions say.
+--   repairs-passed, repairs-tests   the tests of a repair and what they ask for
+--   column-by, opened-by            what is written by the parts of the fit's answer
+--   repairing-refused, repairing-by, opening-by
+--   repair-1, repair-3, open-1, open-3, deal-number   which number is given, and that what was lent is left alone
 use mathlib.Core.Path.{_≡_, refl, sym, ap, _∙_}
-use mathlib.Core.Bool.{true, false, _&&_, and-eq-true-iff, true≢false, false≢true}
+use mathlib.Core.Logic.{_⊎_, inl, inr, ⊎-elim}
+use mathlib.Core.Bool.{Bool, true, false}
 use mathlib.Core.Option.{Option, none, some}
-use mathlib.Core.List.{List}
-use Prim.Native.Nat.{ℕ, suc, _+_, _*_, _-_, _<_, _≤_}
-use native.Mathlib.Numerals.{add-one}
-use borrow.Author.Tests.{lt-leb, le-leb, eq-eqb, ne-eqb, leb-true, eqb-true}
-use lib.Dec.{leb, eqb}
-use lib.ListN.{length, getD, take, replicate}
+use mathlib.Core.List.{List, [], _∷_}
+use Prim.Native.Nat.{ℕ, suc, _+_, _*_, _-_, _≤_}
+use native.Mathlib.Omega.{arith}
+use borrow.Author.Tests.{le-leb, eq-eqb, ne-eqb, leb-true, eqb-true}
+use lib.Dec.{eqb, leb}
+use lib.ListN.{length, getD, replicate}
 use lib.Seq.{take-at}
+use Rattle.lists.specs.Options.{orZero}
+use Rattle.lists.proofs.Cases.{true-or-false}
 use Rattle.lists.proofs.Padded.{getD-zeros}
 use Rattle.field.specs.Modulus.{modulus}
 use Rattle.field.proofs.Primes.{prime}
-use Rattle.trial.specs.declared.Fitted.{Fitted}
+use Rattle.polynomial.specs.Polynomial.{distinctResidues}
+use Rattle.polynomial.proofs.Below.{distinct-residues-true, distinct-residues-facts}
+use Rattle.answers.specs.declared.Refusal.{Refusal}
+use Rattle.answers.specs.declared.Refusal.the-variants.{WrongSize, WrongLength}
+use Rattle.answers.specs.declared.Admission.{Admission}
+use Rattle.answers.specs.declared.Admission.the-variants.{Pass, Fail}
+use Rattle.answers.specs.Refusals.{refusalNumber, lowest}
+use Rattle.answers.specs.Fits.{decoded}
+use Rattle.answers.proofs.Tests.{lowest-pass}
 use Rattle.fit.specs.Fit.{fit}
-use Rattle.trial.specs.Answer.{answer}
-use Rattle.fit.specs.Answer.{fitIn}
-use Rattle.fit.proofs.Answers.{fit-within}
+use Rattle.fit.specs.Admitted.{decodedIf, fitIn}
+use Rattle.fit.proofs.Admitted.{fit-admitted}
 use Rattle.fit.proofs.Decoding.{fit-sound}
-use Rattle.parties.specs.Parties.{sizes, points}
-use Rattle.recovery.specs.Recovery.{publishedIn}
-use Rattle.recovery.proofs.Fitting.{published-within}
-use Rattle.exports.specs.Exports.{lengthsFit, repaired, repairing, opened, opening}
-
--- ---- the lengths of a repair
-module _ (t m k room : ℕ) where
-  pub lengths-uneven : (m ≡ k → ⊥) → false ≡ lengthsFit t m k room
-  unfolding lengthsFit
-  lengths-uneven h = rw (ne-eqb m k h)
-
-  module _ (e : m ≡ k) where
-    pub lengths-few : m < 3 * t + 1 → false ≡ lengthsFit t m k room
-    unfolding lengthsFit
-    lengths-few h = rw (eq-eqb m k e, lt-leb (3 * t + 1) m h)
-
-    module _ (a : 3 * t + 1 ≤ m) where
-      pub lengths-many : 16 < m → false ≡ lengthsFit t m k room
-      unfolding lengthsFit
-      lengths-many h = rw (eq-eqb m k e, le-leb (3 * t + 1) m a, lt-leb m 16 h)
-
-      pub lengths-room : m ≤ 16 → eqb room (t + 1) ≡ lengthsFit t m k room
-      unfolding lengthsFit
-      lengths-room h = rw (eq-eqb m k e, le-leb (3 * t + 1) m a, le-leb m 16 h, add-one t)
-
-  pub lengths-facts : lengthsFit t m k room ≡ true → (m ≡ k) × (3 * t + 1 ≤ m) × (m ≤ 16) × (room ≡ suc t)
-  unfolding lengthsFit
-  lengths-facts h =
-      let c = and-eq-true-iff (eqb m k && leb (3 * t + 1) m && leb m 16) (eqb room (suc t)) .0 h in
-      let b = and-eq-true-iff (eqb m k && leb (3 * t + 1) m) (leb m 16) .0 (c .0) in
-      let a = and-eq-true-iff (eqb m k) (leb (3 * t + 1) m) .0 (b .0) in
-      (eqb-true m k (a .0), leb-true (3 * t + 1) m (a .1), leb-true m 16 (b .1), eqb-true room (suc t) (c .1))
-
--- ---- what is found, by the two fields of the answer r
-module _ (r : Fitted) where
-  repaired-not : (old : List ℕ) (o : Option (List ℕ)) → r ≡ answer o → r .found ≡ false → (old, 9) ≡ repaired old o
-  repaired-not old none e h = refl
-  repaired-not old (some f) e h = absurd (true≢false (sym (ap (λ (a : Fitted). a .found) e) ∙ h))
-
-  -- The front of the four coefficients is the polynomial.
-  repaired-found : (old : List ℕ) (n : ℕ) (o : Option (List ℕ)) → r ≡ answer o → r .found ≡ true → ((f : List ℕ) → o ≡ some f → length f ≡ n)
-      → (take n (r .coefficients), 0) ≡ repaired old o
-  repaired-found old n none e h size = absurd (false≢true (sym (ap (λ (a : Fitted). a .found) e) ∙ h))
-  repaired-found old n (some f) e h size =
-      ap (λ (a : Fitted). (take n (a .coefficients), 0)) e
-      ∙ ap (λ (l : List ℕ). (l, 0)) (take-at f (replicate (4 - length f) 0) n (size f refl))
-
-  opened-not : (old : ℕ) (o : Option (List ℕ)) → r ≡ answer o → r .found ≡ false → (old, 10) ≡ opened old o
-  opened-not old none e h = refl
-  opened-not old (some f) e h = absurd (true≢false (sym (ap (λ (a : Fitted). a .found) e) ∙ h))
-
-  opened-found : (old : ℕ) (o : Option (List ℕ)) → r ≡ answer o → r .found ≡ true → (getD (r .coefficients) 0 0, 0) ≡ opened old o
-  opened-found old none e h = absurd (false≢true (sym (ap (λ (a : Fitted). a .found) e) ∙ h))
-  opened-found old (some f) e h =
-      ap (λ (a : Fitted). (getD (a .coefficients) 0 0, 0)) e ∙ ap (λ (v : ℕ). (v, 0)) (getD-zeros f (4 - length f) 0)
+use Rattle.parties.specs.Parties.{sizes}
+use Rattle.recovery.specs.Recovery.{openingOf, publishedIn}
+use Rattle.dealer.specs.Desk.{dealingNumber, desk}
+use Rattle.exports.specs.Exports.{dealing, repairTests, repaired, repairedIf, repairing, opened, openedIf, opening}
+use Rattle.exports.specs.Pieces.{columnBy, openedBy, Repairs}
 
 -- ---- a repair
 module _ (t : ℕ) (xs ys column : List ℕ) where
-  pub repairing-low : t < 1 → (column, 1) ≡ repairing t xs ys column
+  pub repairs-passed : lowest (repairTests t xs (length ys) (length column)) ≡ Pass → Repairs t xs ys column
+  repairs-passed e =
+      let sizes = lowest-pass (repairTests t xs (length ys) (length column)) e in
+      let lists = sizes .1 .1 in
+      let rest = lists .1 .1 in
+      record {
+        some-faulty = leb-true 1 t (sizes .0);
+        few-faulty = leb-true t 3 (sizes .1 .0);
+        lengths = eqb-true (length xs) (length ys) (lists .0);
+        enough = leb-true (3 * t + 1) (length xs) (lists .1 .0);
+        most = leb-true (length xs) 16 (rest .0);
+        room = eqb-true (length column) (suc t) (rest .1 .0);
+        points = distinct-residues-facts modulus xs (rest .1 .1 .0);
+      }
+
+  pub repairs-tests : Repairs t xs ys column → lowest (repairTests t xs (length ys) (length column)) ≡ Pass
+  repairs-tests r =
+      rw (
+        le-leb 1 t (r .some-faulty),
+        le-leb t 3 (r .few-faulty),
+        eq-eqb (length xs) (length ys) (r .lengths),
+        le-leb (3 * t + 1) (length xs) (r .enough),
+        le-leb (length xs) 16 (r .most),
+        eq-eqb (length column) (suc t) (r .room),
+        distinct-residues-true modulus xs (r .points),
+      )
+
+  pub repairing-refused : {why : Refusal} → lowest (repairTests t xs (length ys) (length column)) ≡ Fail why
+      → (column, refusalNumber why) ≡ repairing t xs ys column
   unfolding repairing
-  repairing-low h = rw (lt-leb 1 t h)
+  repairing-refused e = ap (λ a. repairedIf a column (fit modulus t (length xs - t) xs ys)) (sym e)
 
-  module _ (a : 1 ≤ t) where
-    pub repairing-high : 3 < t → (column, 1) ≡ repairing t xs ys column
+  module _ (r : Repairs t xs ys column) where
+    pub repairing-by : repairing t xs ys column ≡ repaired column (fit modulus t (length xs - t) xs ys)
     unfolding repairing
-    repairing-high h = rw (le-leb 1 t a, lt-leb t 3 h)
+    repairing-by = ap (λ a. repairedIf a column (fit modulus t (length xs - t) xs ys)) (repairs-tests r)
 
-    module _ (b : t ≤ 3) where
-      pub repairing-lengths : lengthsFit t (length xs) (length ys) (length column) ≡ false → (column, 3) ≡ repairing t xs ys column
-      unfolding repairing
-      repairing-lengths h = rw (le-leb 1 t a, le-leb t 3 b, h)
+    -- The front of the four coefficients is the polynomial.
+    column-decoded : (o : Option (List ℕ)) → ((f : List ℕ) → o ≡ some f → length f ≡ length column)
+        → columnBy (decoded o .outcome) (decoded o .coefficients) column ≡ repaired column o
+    column-decoded none size = refl
+    column-decoded (some f) size = ap (λ (l : List ℕ). (l, 0)) (take-at f (replicate (4 - length f) 0) (length column) (size f refl))
 
-      module _ (l : lengthsFit t (length xs) (length ys) (length column) ≡ true) where
-        pub repairing-by : repairing t xs ys column ≡ repaired column (fit modulus t (length xs - t) xs ys)
-        unfolding repairing
-        repairing-by = rw (le-leb 1 t a, le-leb t 3 b, l)
+    pub column-by : let fitted = fitIn t (length xs - t) xs ys in
+        columnBy (fitted .outcome) (fitted .coefficients) column ≡ repairing t xs ys column
+    column-by =
+        let admitted = fit-admitted t (length xs - t) xs ys (record {
+          degree = r .few-faulty;
+          bounded = record { lengths = r .lengths; most = r .most };
+          above = omega (arith, r .enough);
+        }) in
+        ap (λ w. columnBy (w .outcome) (w .coefficients) column) admitted
+        ∙ column-decoded (fit modulus t (length xs - t) xs ys)
+        (λ f e. fit-sound modulus prime t (length xs - t) xs ys f e .poly .size ∙ sym (r .room))
+        ∙ sym repairing-by
 
-        module _ (r : Fitted) (e : r ≡ fitIn t (length xs - t) xs ys) where
-          fitted : r ≡ answer (fit modulus t (length xs - t) xs ys)
-          fitted = e ∙ sym (fit-within t (length xs - t) xs ys b (lengths-facts t _ _ _ l .0))
+-- ---- the numbers of a repair: 1 for t, then 3 for the lists
+lists-only : (a b c d e : Bool)
+    → let found = lowest ((a, WrongLength) ∷ (b, WrongLength) ∷ (c, WrongLength) ∷ (d, WrongLength) ∷ (e, WrongLength) ∷ []) in
+    (found ≡ Pass) ⊎ (found ≡ Fail WrongLength)
+lists-only false b c d e = inr refl
+lists-only true false c d e = inr refl
+lists-only true true false d e = inr refl
+lists-only true true true false e = inr refl
+lists-only true true true true false = inr refl
+lists-only true true true true true = inl refl
 
-          pub repairing-not : r .found ≡ false → (column, 9) ≡ repairing t xs ys column
-          repairing-not h = repaired-not r column (fit modulus t (length xs - t) xs ys) fitted h ∙ sym repairing-by
+module _ (t : ℕ) (xs ys column : List ℕ) where
+  pub repair-1 : ((1 ≤ t) × (t ≤ 3) → ⊥) → repairing t xs ys column ≡ (column, 1)
+  unfolding repairing
+  repair-1 d =
+      ⊎-elim
+      (λ (low : leb 1 t ≡ true). ⊎-elim
+      (λ (high : leb t 3 ≡ true). absurd (d (leb-true 1 t low, leb-true t 3 high)))
+      (λ (high : leb t 3 ≡ false). rw (low, high))
+      (true-or-false (leb t 3)))
+      (λ (low : leb 1 t ≡ false). rw low)
+      (true-or-false (leb 1 t))
 
-          pub repairing-found : r .found ≡ true → (take (length column) (r .coefficients), 0) ≡ repairing t xs ys column
-          repairing-found h =
-              repaired-found r column (length column) (fit modulus t (length xs - t) xs ys) fitted h
-              (λ f s. fit-sound modulus prime t (length xs - t) xs ys f s .poly .size ∙ sym (lengths-facts t _ _ _ l .3))
-              ∙ sym repairing-by
+  pub repair-3 : 1 ≤ t → t ≤ 3 → (Repairs t xs ys column → ⊥) → repairing t xs ys column ≡ (column, 3)
+  repair-3 a b d =
+      ⊎-elim
+      (λ e. absurd (d (repairs-passed t xs ys column (rw (le-leb 1 t a, le-leb t 3 b) e))))
+      (λ e. sym (repairing-refused t xs ys column {why = WrongLength} (rw (le-leb 1 t a, le-leb t 3 b) e)))
+      (lists-only (eqb (length xs) (length ys)) (leb (3 * t + 1) (length xs)) (leb (length xs) 16) (eqb (length column) (suc t))
+      (distinctResidues modulus xs))
 
 -- ---- an opening
+opened-decoded : (a : Admission) (o : Option (List ℕ)) (old : ℕ)
+    → openedBy (decodedIf a o .outcome) (getD (decodedIf a o .coefficients) 0 0) old ≡ openedIf a old o
+opened-decoded (Fail why) o old = refl
+opened-decoded Pass none old = refl
+opened-decoded Pass (some f) old = ap (λ (v : ℕ). (v, 0)) (getD-zeros f (4 - length f) 0)
+
 module _ (n t : ℕ) (shares : List ℕ) (old : ℕ) where
-  pub opening-size : sizes n t ≡ false → (old, 1) ≡ opening n t shares old
+  pub opened-by : let fitted = publishedIn n t shares in
+      openedBy (fitted .outcome) (getD (fitted .coefficients) 0 0) old ≡ opening n t shares old
+  unfolding opening publishedIn
+  opened-by =
+      opened-decoded (lowest ((sizes n t, WrongSize) ∷ (eqb (length shares) n, WrongLength) ∷ [])) (openingOf modulus n t shares) old
+
+  pub opening-by : sizes n t ≡ true → length shares ≡ n → opening n t shares old ≡ opened old (openingOf modulus n t shares)
   unfolding opening
-  opening-size s = rw s
+  opening-by s l = rw (s, eq-eqb (length shares) n l)
 
-  module _ (s : sizes n t ≡ true) where
-    pub opening-length : (length shares ≡ n → ⊥) → (old, 3) ≡ opening n t shares old
-    unfolding opening
-    opening-length h = rw (s, ne-eqb (length shares) n h)
+  pub open-1 : sizes n t ≡ false → opening n t shares old ≡ (old, 1)
+  unfolding opening
+  open-1 s = rw s
 
-    module _ (l : length shares ≡ n) where
-      pub opening-by : opening n t shares old ≡ opened old (fit modulus t (n - t) (points n) shares)
-      unfolding opening
-      opening-by = rw (s, eq-eqb (length shares) n l)
+  pub open-3 : sizes n t ≡ true → (length shares ≡ n → ⊥) → opening n t shares old ≡ (old, 3)
+  unfolding opening
+  open-3 s d = rw (s, ne-eqb (length shares) n d)
 
-      module _ (r : Fitted) (e : r ≡ publishedIn n t shares) where
-        fitted-shares : r ≡ answer (fit modulus t (n - t) (points n) shares)
-        fitted-shares = e ∙ sym (published-within n t shares s l)
+-- ---- a dealing: the desk's number, and 0 for none
+pub deal-number : (n t : ℕ) (F out : List ℕ) (k : ℕ) → dealingNumber (desk modulus n t F out .1) ≡ some k
+    → dealing n t F out ≡ (desk modulus n t F out .0, k)
+unfolding dealing
+deal-number n t F out k e = ap (λ o. (desk modulus n t F out .0, orZero o)) e
 
-        pub opening-not : r .found ≡ false → (old, 10) ≡ opening n t shares old
-        opening-not h = opened-not r old (fit modulus t (n - t) (points n) shares) fitted-shares h ∙ sym opening-by
-
-        pub opening-found : r .found ≡ true → (getD (r .coefficients) 0 0, 0) ≡ opening n t shares old
-        opening-found h = opened-found r old (fit modulus t (n - t) (points n) shares) fitted-shares h ∙ sym opening-by
+pub deal-written : (n t : ℕ) (F out : List ℕ) → dealingNumber (desk modulus n t F out .1) ≡ none
+    → dealing n t F out ≡ (desk modulus n t F out .0, 0)
+unfolding dealing
+deal-written n t F out e = ap (λ o. (desk modulus n t F out .0, orZero o)) e

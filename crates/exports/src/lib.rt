@@ -3,9 +3,28 @@
 ghost use mathlib.Core.Path.{_≡_};
 ghost use Prim.Native.Nat.{_≤_};
 ghost use lib.ListN.{length, take};
+ghost use Rattle.lists.specs.Options.{orZero};
+ghost use Rattle.dealer.specs.Desk.{dealingNumber};
+ghost use Rattle.answers.specs.Refusals.{lowest};
 ghost use Rattle.happy.specs.Happy.{happySet};
-ghost use Rattle.transcript.specs.Transcript.{rendering};
-ghost use Rattle.exports.specs.Exports.{dealing, lengthsFit, repairing, opening};
+ghost use Rattle.exports.specs.Exports.{dealing, repairTests, repairing, opening, rendered};
+ghost use Rattle.exports.specs.Pieces.{columnBy, openedBy, Repairs};
+use answers::Admission;
+use answers::Decoding;
+use answers::Refusal;
+use answers::also;
+use answers::refusal_number;
+use dealer::Dealing;
+
+// Document 01's number of the desk's answer, 0 where the deals are written.
+fn dealing_number(answer: Dealing) -> u8
+    ensures { λ r. ⌜ r ≡ orZero (dealingNumber answer) ⌝ }
+{
+    match answer {
+        Dealing::Written => 0,
+        Dealing::Refused(why) => refusal_number(why),
+    }
+}
 
 // Deals F, whose coefficients stand in `f`, to n lamps.
 #[no_mangle]
@@ -13,7 +32,7 @@ pub extern "C" fn doumbaht_deal(n: u8, t: u8, f: &[u16], deals: &mut [u16]) -> u
     ensures { λ r. ⌜ (now (deals .exit), r) ≡ dealing n t (now (f .entry)) (now (deals .entry)) ⌝ }
 {
     let answer = dealer::deal(n, t, f, deals);
-    dealer::refusal_number(answer)
+    dealing_number(answer)
 }
 
 // The happy set by the reports.
@@ -24,22 +43,22 @@ pub extern "C" fn doumbaht_happy_set(reports: &[u16]) -> u16
     happy::happy_set(reports)
 }
 
-// Whether a repair with these many points, values and places for coefficients can be asked for.
-fn lengths_fit(t: u8, points: usize, values: usize, room: usize) -> bool
-    requires { ⌜ t ≤ 3 ⌝ }
-    ensures { λ r. ⌜ r ≡ lengthsFit t points values room ⌝ }
+// What a repair is refused for, with so many values and so much room for coefficients.
+fn repair_admission(t: u8, xs: &[u16], values: usize, room: usize) -> Admission
+    ensures { λ r. ⌜ r ≡ lowest (repairTests t (now (xs .entry)) values room) ⌝ }
 {
-    let t = t as usize;
-    if points != values {
-        return false;
-    }
-    if points < 3 * t + 1 {
-        return false;
-    }
-    if 16 < points {
-        return false;
-    }
-    room == t + 1
+    let degree = t as usize;
+    let some = also(Admission::Pass, 1 <= t, Refusal::WrongSize);
+    let size = also(some, t <= 3, Refusal::WrongSize);
+    let even = also(size, xs.len() == values, Refusal::WrongLength);
+    let enough = also(even, 3 * degree + 1 <= xs.len(), Refusal::WrongLength);
+    let few = also(enough, xs.len() <= 16, Refusal::WrongLength);
+    let lent = also(few, room == degree + 1, Refusal::WrongLength);
+    also(
+        lent,
+        polynomial::distinct_residues(xs),
+        Refusal::WrongLength,
+    )
 }
 
 // Writes the front of the list over the whole of the lent one.
@@ -54,28 +73,57 @@ fn put_front(list: [u16; 4], out: &mut [u16])
     }
 }
 
+// Writes the coefficients where they are found.
+fn put_column(outcome: Decoding, list: [u16; 4], out: &mut [u16]) -> u8
+    requires { ⌜ length (now out) ≤ 4 ⌝ }
+    ensures { λ r. ⌜ (now (out .exit), r) ≡ columnBy outcome list (now (out .entry)) ⌝ }
+{
+    match outcome {
+        Decoding::Found => {
+            put_front(list, out);
+            0
+        }
+        Decoding::Nothing => refusal_number(Refusal::NoColumn),
+        Decoding::Refused(why) => refusal_number(why),
+    }
+}
+
+// The repair where every test passes.
+fn repaired(t: u8, xs: &[u16], ys: &[u16], column: &mut [u16]) -> u8
+    requires { ⌜ Repairs t (now xs) (now ys) (now column) ⌝ }
+    ensures { λ r. ⌜ (now (column .exit), r) ≡ repairing t (now (xs .entry)) (now (ys .entry)) (now (column .entry)) ⌝ }
+{
+    let degree = t as usize;
+    let fitted = fit::fit(degree, xs.len() - degree, xs, ys);
+    let outcome = fitted.outcome;
+    let coefficients = fitted.coefficients;
+    put_column(outcome, coefficients, column)
+}
+
 // Repairs a column: the polynomial of degree at most t that differs from the points in at most t places.
 #[no_mangle]
 pub extern "C" fn doumbaht_repair(t: u8, xs: &[u16], ys: &[u16], column: &mut [u16]) -> u8
     ensures { λ r. ⌜ (now (column .exit), r) ≡ repairing t (now (xs .entry)) (now (ys .entry)) (now (column .entry)) ⌝ }
 {
-    if t < 1 {
-        return 1;
+    let admitted = repair_admission(t, xs, ys.len(), column.len());
+    match admitted {
+        Admission::Fail(why) => refusal_number(why),
+        Admission::Pass => repaired(t, xs, ys, column),
     }
-    if 3 < t {
-        return 1;
+}
+
+// Writes the constant where it is found.
+fn put_opened(outcome: Decoding, constant: u16, opened: &mut u16) -> u8
+    ensures { λ r. ⌜ (now (opened .exit), r) ≡ openedBy outcome constant (now (opened .entry)) ⌝ }
+{
+    match outcome {
+        Decoding::Found => {
+            *opened = constant;
+            0
+        }
+        Decoding::Nothing => refusal_number(Refusal::NoOpening),
+        Decoding::Refused(why) => refusal_number(why),
     }
-    if !lengths_fit(t, xs.len(), ys.len(), column.len()) {
-        return 3;
-    }
-    let degree = t as usize;
-    let fitted = fit::fit(degree, xs.len() - degree, xs, ys);
-    if !fitted.found {
-        return 9;
-    }
-    let coefficients = fitted.coefficients;
-    put_front(coefficients, column);
-    0
 }
 
 // Opens the published shares of n lamps, by themselves.
@@ -83,25 +131,18 @@ pub extern "C" fn doumbaht_repair(t: u8, xs: &[u16], ys: &[u16], column: &mut [u
 pub extern "C" fn doumbaht_open(n: u8, t: u8, shares: &[u16], opened: &mut u16) -> u8
     ensures { λ r. ⌜ (now (opened .exit), r) ≡ opening n t (now (shares .entry)) (now (opened .entry)) ⌝ }
 {
-    if !parties::sizes(n, t) {
-        return 1;
-    }
-    if shares.len() != n as usize {
-        return 3;
-    }
     let fitted = recovery::published(n, t, shares);
-    if !fitted.found {
-        return 10;
-    }
+    let outcome = fitted.outcome;
     let coefficients = fitted.coefficients;
-    *opened = coefficients[0];
-    0
+    put_opened(outcome, coefficients[0], opened)
 }
 
-// Writes the text of a record over the front of the lent buffer, and answers its length.
+// Writes the text of a record over the front of the lent buffer, and answers its length. No text is empty: 0 says that the
+// buffer is too short.
 #[no_mangle]
 pub extern "C" fn doumbaht_text(bytes: &[u8], out: &mut [u8]) -> usize
-    ensures { λ r. ⌜ (now (out .exit), r) ≡ rendering (now (bytes .entry)) (now (out .entry)) ⌝ }
+    ensures { λ r. ⌜ (now (out .exit), r) ≡ rendered (now (bytes .entry)) (now (out .entry)) ⌝ }
 {
-    transcript::render(bytes, out)
+    let answer = transcript::render(bytes, out);
+    transcript::bytes_written(answer)
 }

@@ -3,7 +3,7 @@
 ghost use mathlib.Core.Path.{_≡_};
 ghost use Prim.Native.Nat.{_%_, _<_};
 ghost use lib.Dec.{eqb};
-ghost use Rattle.field.specs.Arithmetic.{add, sub, mul, inv};
+ghost use Rattle.field.specs.Arithmetic.{add, sub, mul, inv, cubicValue};
 ghost use Rattle.field.specs.Differences.{slope, newton};
 ghost use Rattle.field.specs.Modulus.{modulus};
 
@@ -29,6 +29,13 @@ fn product(a: u32, b: u32) -> u32
     a * b % MODULUS as u32
 }
 
+// The residue of a number.
+pub fn reduced(a: u16) -> u16
+    ensures { λ r. ⌜ r ≡ a % modulus ⌝ }
+{
+    a % MODULUS
+}
+
 // c + a b by one reduction: a product of two numbers of 16 bits and a third number still fit 32.
 pub fn mul_add(a: u16, b: u16, c: u16) -> u16
     ensures { λ r. ⌜ r ≡ add modulus c (mul modulus a b) ⌝ }
@@ -44,7 +51,7 @@ pub fn mul_sub(a: u16, b: u16, c: u16) -> u16
 }
 
 // Whether y is the residue of v. A compiler asks by one product whether a difference is a multiple; a remainder takes two.
-pub fn reduces_to(v: u64, y: u16) -> bool
+fn reduces_to(v: u64, y: u16) -> bool
     ensures { λ r. ⌜ r ≡ eqb (v % modulus) y ⌝ }
 {
     if MODULUS <= y {
@@ -54,6 +61,17 @@ pub fn reduces_to(v: u64, y: u16) -> bool
         return false;
     }
     (v - y as u64) % MODULUS as u64 == 0
+}
+
+// Whether y is a + b x + c x² + d x³: Horner's rule for four coefficients, without a loop and unreduced. Products of four numbers of
+// 16 bits, and what is added to them, still fit 64.
+pub fn is_cubic_value(a: u16, b: u16, c: u16, d: u16, x: u16, y: u16) -> bool
+    ensures { λ r. ⌜ r ≡ eqb (cubicValue modulus a b c d x) y ⌝ }
+{
+    let by = x as u64;
+    let high = by * d as u64 + c as u64;
+    let middle = by * high + b as u64;
+    reduces_to(by * middle + a as u64, y)
 }
 
 // The inverse of a residue, and 0 of 0. Throughout the loop a * t is d: each turn puts the remainder of the prime by d, which is

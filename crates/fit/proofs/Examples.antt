@@ -9,10 +9,11 @@ use Rattle.field.specs.Arithmetic.{add, sub, mul, inv, invWithin}
 use Rattle.field.specs.Modulus.{modulus}
 use Rattle.interpolation.specs.Interpolation.{interpolate}
 use Rattle.lists.specs.Choices.{hide}
-use Rattle.trial.specs.Trial.{hits, received, through}
-use Rattle.trial.specs.Answer.{answer}
+use Rattle.trial.specs.Trial.{hits, pointsSent, through}
+use Rattle.answers.specs.declared.Refusal.the-variants.{WrongSize, WrongLength}
+use Rattle.answers.specs.Fits.{decoded, refusedFit}
 use Rattle.fit.specs.Fit.{sent, fit}
-use Rattle.fit.specs.Answer.{fitIn}
+use Rattle.fit.specs.Admitted.{fitIn}
 
 -- The points 1 to n.
 abbrev upTo : ℕ → List ℕ
@@ -21,6 +22,10 @@ upTo n = take n (1 ∷ 2 ∷ 3 ∷ 4 ∷ 5 ∷ 6 ∷ 7 ∷ 8 ∷ 9 ∷ 10 ∷ 11
 -- What a sender writes for a number that is not sent.
 abbrev unsent : ℕ
 unsent = 65535
+
+-- The last eight of sixteen values of a cubic, all right.
+abbrev right : List ℕ
+right = 10436 ∷ 14175 ∷ 18716 ∷ 24137 ∷ 30516 ∷ 37931 ∷ 46460 ∷ 56181 ∷ []
 
 pub examples :
     -- M3: 10, 13, 999, 19, 22 opens 7.
@@ -46,15 +51,18 @@ pub examples :
     -- Other points, −1 and 0 among them.
     × (fit modulus 1 3 ((modulus - 1) ∷ 100 ∷ 0 ∷ 5 ∷ []) (4 ∷ 307 ∷ 8 ∷ 22 ∷ []) ≡ some (7 ∷ 3 ∷ []))
     -- n = 16, t = 3: four wrong among the first seven, so that all 35 choices fail; and three, so that only the last of them is right.
-    × (fit modulus 3 13 (upTo 16) (37 ∷ 167 ∷ 479 ∷ 1041 ∷ 1945 ∷ 3251 ∷ 5059 ∷ 7421 ∷ 10436 ∷ 14175 ∷ 18716 ∷ 24137 ∷ 30516 ∷ 37931 ∷ 46460 ∷ 56181 ∷ []) ≡ none)
-    × (fit modulus 3 13 (upTo 16) (37 ∷ 169 ∷ 477 ∷ 1041 ∷ 1940 ∷ 3251 ∷ 5052 ∷ 7421 ∷ 10436 ∷ 14175 ∷ 18716 ∷ 24137 ∷ 30516 ∷ 37931 ∷ 46460 ∷ 56181 ∷ []) ≡ some (5 ∷ 7 ∷ 11 ∷ 13 ∷ []))
-unfolding zipWith fit hits sent received through interpolate add sub mul inv invWithin
+    × (fit modulus 3 13 (upTo 16) (37 ∷ 167 ∷ 479 ∷ 1041 ∷ 1945 ∷ 3251 ∷ 5059 ∷ 7421 ∷ right) ≡ none)
+    × (fit modulus 3 13 (upTo 16) (37 ∷ 169 ∷ 477 ∷ 1041 ∷ 1940 ∷ 3251 ∷ 5052 ∷ 7421 ∷ right) ≡ some (5 ∷ 7 ∷ 11 ∷ 13 ∷ []))
+unfolding zipWith fit hits sent pointsSent through interpolate add sub mul inv invWithin
 examples = (refl, refl, refl, refl, refl, refl, refl, refl, refl, refl, refl, refl, refl, refl)
 
--- What the code answers: four coefficients, and nothing for a degree above 3 or for lists of two lengths.
+-- What the code answers: four coefficients; a refusal for a degree above 3, for lists of two lengths, for 17 points and for a need of t.
 pub answers :
-    (fitIn 1 4 (upTo 5) (10 ∷ 13 ∷ 999 ∷ 19 ∷ 22 ∷ []) ≡ answer (some (7 ∷ 3 ∷ 0 ∷ 0 ∷ [])))
-    × (fitIn 4 4 (upTo 5) (0 ∷ 0 ∷ 0 ∷ 0 ∷ 0 ∷ []) ≡ answer none)
-    × (fitIn 1 4 (upTo 4) (0 ∷ 0 ∷ 0 ∷ 0 ∷ 0 ∷ []) ≡ answer none)
-unfolding zipWith fitIn fit hits sent received through interpolate add sub mul inv invWithin
-answers = (refl, refl, refl)
+    (fitIn 1 4 (upTo 5) (10 ∷ 13 ∷ 999 ∷ 19 ∷ 22 ∷ []) ≡ decoded (some (7 ∷ 3 ∷ 0 ∷ 0 ∷ [])))
+    × (fitIn 1 4 (upTo 5) (10 ∷ 13 ∷ 999 ∷ 998 ∷ 22 ∷ []) ≡ decoded none)
+    × (fitIn 4 4 (upTo 4) (0 ∷ 0 ∷ 0 ∷ 0 ∷ 0 ∷ []) ≡ refusedFit WrongSize)
+    × (fitIn 1 4 (upTo 4) (0 ∷ 0 ∷ 0 ∷ 0 ∷ 0 ∷ []) ≡ refusedFit WrongLength)
+    × (fitIn 1 4 (0 ∷ upTo 16) (0 ∷ upTo 16) ≡ refusedFit WrongLength)
+    × (fitIn 1 1 (upTo 5) (0 ∷ 0 ∷ 0 ∷ 0 ∷ 0 ∷ []) ≡ refusedFit WrongLength)
+unfolding zipWith fitIn fit hits sent pointsSent through interpolate add sub mul inv invWithin
+answers = (refl, refl, refl, refl, refl, refl)

@@ -12,17 +12,20 @@ use Rattle.lists.specs.Choices.{choices}
 use Rattle.lists.proofs.Choices.{first-append, choices-front}
 use Rattle.lists.proofs.Sublists.{take-take}
 use Rattle.field.specs.Modulus.{modulus}
-use Rattle.trial.specs.declared.Fitted.{Fitted}
-use Rattle.trial.specs.Trial.{hits, received, through, firstFitting, tried}
-use Rattle.trial.specs.Answer.{answer}
-use Rattle.trial.proofs.Answers.{answer-found}
+use Rattle.trial.specs.declared.Tried.{Tried}
+use Rattle.trial.specs.Trial.{hits, pointsSent, through, firstFitting, tried}
+use Rattle.trial.specs.Results.{resultOf}
+use Rattle.trial.proofs.Results.{result-found}
+use Rattle.answers.specs.Fits.{decoded}
 use Rattle.fit.specs.Fit.{sent, fit}
+use Rattle.fit.specs.Admitted.{fittedOf}
+use Rattle.fit.proofs.Admitted.{fitted-result}
 
 -- What is found where no point may be passed over is found first in any case.
 tried-front : (p need : ℕ) (xs ys : List ℕ) (i k s : ℕ) (f : List ℕ) → tried p need xs ys i k 0 ≡ some f → tried p need xs ys i k s ≡ some f
 unfolding tried orElse
 tried-front p need xs ys i k s f e =
-    let qs : List (ℕ × ℕ) = received p (drop i xs) (drop i ys) in
+    let qs : List (ℕ × ℕ) = pointsSent p (drop i xs) (drop i ys) in
     let test : List ℕ → Bool = λ f. leb need (hits p f xs ys) in
     let polynomials : List (List (ℕ × ℕ)) → List (List ℕ) = map (through p) in
     let (others, split) = choices-front k (take (k + s) qs) in
@@ -35,28 +38,31 @@ tried-front p need xs ys i k s f e =
 
 module _ (t need : ℕ) (xs ys : List ℕ) where
   -- All choices are tried from the first point on.
-  pub fit-search : (n e : ℕ) → n ≡ sent modulus ys → e ≡ n - need
-      → answer (tried modulus need xs ys 0 (t + 1) e) ≡ answer (fit modulus t need xs ys)
+  all-choices : (n e : ℕ) → n ≡ sent modulus ys → e ≡ n - need → tried modulus need xs ys 0 (t + 1) e ≡ fit modulus t need xs ys
   unfolding fit tried
-  fit-search n e counted spare = rw (add-one t, spare, counted) refl
+  all-choices n e counted spare = rw (add-one t, spare, counted) refl
+
+  pub fit-search : (r : Tried) (n e : ℕ) → n ≡ sent modulus ys → e ≡ n - need → r ≡ resultOf (tried modulus need xs ys 0 (t + 1) e)
+      → fittedOf r ≡ decoded (fit modulus t need xs ys)
+  fit-search r n e counted spare told = fitted-result r (fit modulus t need xs ys) (told ∙ ap resultOf (all-choices n e counted spare))
 
   abbrev spare : ℕ
   spare = sent modulus ys - need
 
-  whole : answer (tried modulus need xs ys 0 (t + 1) spare) ≡ answer (fit modulus t need xs ys)
-  whole = fit-search (sent modulus ys) spare refl refl
+  whole : tried modulus need xs ys 0 (t + 1) spare ≡ fit modulus t need xs ys
+  whole = all-choices (sent modulus ys) spare refl refl
 
-  -- What the first points sent give is the answer.
-  pub fit-first : (r : Fitted) → r ≡ answer (tried modulus need xs ys 0 (t + 1) 0) → r .found ≡ true → r ≡ answer (fit modulus t need xs ys)
+  -- What the first points sent give is what fits.
+  pub fit-first : (r : Tried) → r ≡ resultOf (tried modulus need xs ys 0 (t + 1) 0) → r .found ≡ true
+      → fittedOf r ≡ decoded (fit modulus t need xs ys)
   fit-first r e told =
-      let (f, some-f) = answer-found _ (sym (ap (λ w. w .found) e) ∙ told) in
-      e ∙ ap answer (some-f ∙ sym (tried-front modulus need xs ys 0 (t + 1) spare f some-f)) ∙ whole
+      let (f, some-f) = result-found _ (sym (ap (λ w. w .found) e) ∙ told) in
+      fitted-result r (fit modulus t need xs ys)
+      (e ∙ ap resultOf (some-f ∙ sym (tried-front modulus need xs ys 0 (t + 1) spare f some-f) ∙ whole))
 
-  -- Where they give nothing, and none may be wrong, that is.
+  -- Where they give nothing, and none may be wrong, nothing does.
   pub fit-first-none : (n : ℕ) → n ≡ sent modulus ys → n ≤ need → tried modulus need xs ys 0 (t + 1) 0 ≡ none
-      → answer none ≡ answer (fit modulus t need xs ys)
+      → decoded none ≡ decoded (fit modulus t need xs ys)
   fit-first-none n counted few lost =
       let none-spare : 0 ≡ spare = omega arith in
-      ap answer (sym lost)
-      ∙ ap (λ s. answer (tried modulus need xs ys 0 (t + 1) s)) none-spare
-      ∙ whole
+      ap decoded (sym lost ∙ ap (tried modulus need xs ys 0 (t + 1)) none-spare ∙ whole)

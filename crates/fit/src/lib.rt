@@ -5,14 +5,58 @@ ghost use mathlib.Core.Option.{none};
 ghost use Prim.Native.Nat.{_+_, _≤_, _<_};
 ghost use lib.Dec.{ltb, eqb};
 ghost use lib.ListN.{length, take};
+ghost use Rattle.answers.specs.Fits.{decoded};
 ghost use Rattle.field.specs.Modulus.{modulus};
-ghost use Rattle.trial.specs.Trial.{pointsOf, received, tried};
-ghost use Rattle.trial.specs.Answer.{answer, fourIn};
+ghost use Rattle.polynomial.specs.Polynomial.{Points};
+ghost use Rattle.trial.specs.Trial.{pointsOf, pointsSent, fittingThrough, tried};
+ghost use Rattle.trial.specs.Results.{Bounded, resultOf};
 ghost use Rattle.fit.specs.Fit.{sent, fit};
-ghost use Rattle.fit.specs.Answer.{fitIn};
+ghost use Rattle.fit.specs.Admitted.{fittedOf, fitIn};
 ghost use Rattle.fit.specs.Grouping.{Behind, Grouping};
 ghost use Rattle.fit.specs.Pairs.{fourAt};
-use trial::Fitted;
+use answers::Decoding;
+use answers::Fitted;
+use answers::Refusal;
+use trial::Tried;
+
+// What is answered for what was found by trial.
+fn decoded(tried: Tried) -> Fitted
+    ensures { λ r. ⌜ r ≡ fittedOf tried ⌝ }
+{
+    let f = tried.coefficients;
+    if tried.found {
+        return Fitted {
+            outcome: Decoding::Found,
+            coefficients: f,
+        };
+    }
+    Fitted {
+        outcome: Decoding::Nothing,
+        coefficients: f,
+    }
+}
+
+// The answer where nothing fits.
+fn nothing() -> Fitted
+    ensures { λ r. ⌜ r ≡ decoded none ⌝ }
+{
+    Fitted {
+        outcome: Decoding::Nothing,
+        coefficients: [0; 4],
+    }
+}
+
+// The same, written anew: an answer that is returned as a call gave it would be copied as a block, for which the processor waits.
+fn copied(fitted: Fitted) -> Fitted
+    ensures { λ r. ⌜ r ≡ fitted ⌝ }
+{
+    let outcome = fitted.outcome;
+    let f = fitted.coefficients;
+    Fitted {
+        outcome: outcome,
+        coefficients: f,
+    }
+}
 
 // How many values were sent. The loop goes from the end: n is always the count of the values from i on.
 fn sent(ys: &[u16]) -> usize
@@ -53,7 +97,7 @@ fn behind(ys: &[u16], i: usize, k: usize) -> usize
 // behind them one fewer: the next t + 1 are tried alone, and so on while enough points are left, and only then those that are left.
 fn groups(t: usize, need: usize, xs: &[u16], ys: &[u16], sent: usize, spare: usize) -> Fitted
     requires { ⌜ Grouping modulus t need (now xs) (now ys) 0 sent spare × (0 < spare) ⌝ }
-    ensures { λ r. ⌜ r ≡ answer (fit modulus t need (now (xs .entry)) (now (ys .entry))) ⌝ }
+    ensures { λ r. ⌜ r ≡ decoded (fit modulus t need (now (xs .entry)) (now (ys .entry))) ⌝ }
 {
     let mut i = 0;
     let mut left = sent;
@@ -64,20 +108,20 @@ fn groups(t: usize, need: usize, xs: &[u16], ys: &[u16], sent: usize, spare: usi
         wrong -= 1;
         let group = trial::next(xs, ys, need, i, t + 1);
         if group.found {
-            return trial::copied(group);
+            return decoded(group);
         }
         if wrong == 0 {
-            return trial::nothing();
+            return nothing();
         }
     }
-    trial::copied(trial::choices(xs, ys, need, i, t + 1, wrong))
+    decoded(trial::choices(xs, ys, need, i, t + 1, wrong))
 }
 
 // The first ten points sent.
 fn first_ten(xs: &[u16], ys: &[u16], px: &mut [u16], py: &mut [u16])
-    requires { ⌜ (length (now xs) ≡ length (now ys)) × (10 ≤ length (received modulus (now xs) (now ys))) ⌝ }
+    requires { ⌜ (length (now xs) ≡ length (now ys)) × (10 ≤ length (pointsSent modulus (now xs) (now ys))) ⌝ }
     requires { ⌜ (length (now px) ≡ 10) × (length (now py) ≡ 10) ⌝ }
-    ensures { λ r. ⌜ pointsOf (now (px .exit)) (now (py .exit)) ≡ take 10 (received modulus (now (xs .entry)) (now (ys .entry))) ⌝ }
+    ensures { λ r. ⌜ pointsOf (now (px .exit)) (now (py .exit)) ≡ take 10 (pointsSent modulus (now (xs .entry)) (now (ys .entry))) ⌝ }
 {
     let mut d = 0;
     let mut i = 0;
@@ -113,9 +157,10 @@ fn test_pairs(
     py: &[u16; 10],
     a: usize,
     b: usize,
-) -> Fitted
-    requires { ⌜ (a ≤ 8) × (b ≤ 8) ⌝ }
-    ensures { λ r. ⌜ r ≡ fourIn need (now (xs .entry)) (now (ys .entry)) (fourAt a b (now (px .entry))) (fourAt a b (now (py .entry))) ⌝ }
+) -> Tried
+    requires { ⌜ Bounded (now xs) (now ys) × (a ≤ 8) × (b ≤ 8) ⌝ }
+    ensures { λ r. ⌜ r ≡ resultOf (fittingThrough modulus need (now (xs .entry)) (now (ys .entry))
+        (fourAt a b (now (px .entry))) (fourAt a b (now (py .entry)))) ⌝ }
 {
     trial::four(xs, ys, need, four_at(px, a, b), four_at(py, a, b))
 }
@@ -129,7 +174,7 @@ const SECOND_PAIRS: [usize; 9] = [6, 4, 6, 4, 6, 8, 8, 8, 8];
 // pairs of points two have no wrong point, so ten choices are enough where points one by one would take 35.
 fn by_pairs(xs: &[u16], ys: &[u16], need: usize, sent: usize) -> Fitted
     requires { ⌜ Grouping modulus 3 need (now xs) (now ys) 0 sent 3 × (10 ≤ sent) ⌝ }
-    ensures { λ r. ⌜ r ≡ answer (fit modulus 3 need (now (xs .entry)) (now (ys .entry))) ⌝ }
+    ensures { λ r. ⌜ r ≡ decoded (fit modulus 3 need (now (xs .entry)) (now (ys .entry))) ⌝ }
 {
     let mut px = [0u16; 10];
     let mut py = [0u16; 10];
@@ -141,13 +186,13 @@ fn by_pairs(xs: &[u16], ys: &[u16], need: usize, sent: usize) -> Fitted
     while k < 9 {
         let a = firsts[k];
         let b = seconds[k];
-        let fitted = test_pairs(xs, ys, need, &px, &py, a, b);
-        if fitted.found {
-            return trial::copied(fitted);
+        let tested = test_pairs(xs, ys, need, &px, &py, a, b);
+        if tested.found {
+            return decoded(tested);
         }
         k += 1;
     }
-    trial::nothing()
+    nothing()
 }
 
 // Whether a cubic is looked for, three of the n points may be wrong, and there are too few for four groups of four.
@@ -165,40 +210,47 @@ fn short_of_groups(t: usize, wrong: usize, n: usize) -> bool
 
 // The search where nothing that fits goes through the first t + 1 points sent.
 fn later(t: usize, need: usize, xs: &[u16], ys: &[u16]) -> Fitted
-    requires { ⌜ (t ≤ 3) × (length (now xs) ≡ length (now ys)) × (tried modulus need (now xs) (now ys) 0 (t + 1) 0 ≡ none) ⌝ }
-    ensures { λ r. ⌜ r ≡ answer (fit modulus t need (now (xs .entry)) (now (ys .entry))) ⌝ }
+    requires { ⌜ (t ≤ 3) × Bounded (now xs) (now ys)
+        × (tried modulus need (now xs) (now ys) 0 (t + 1) 0 ≡ none) × Points modulus (now xs) ⌝ }
+    ensures { λ r. ⌜ r ≡ decoded (fit modulus t need (now (xs .entry)) (now (ys .entry))) ⌝ }
 {
     let n = sent(ys);
     if n <= need {
-        return trial::nothing();
+        return nothing();
     }
     let spare = n - need;
     if spare + t < need {
-        if polynomial::points(xs) {
-            if short_of_groups(t, spare, n) {
-                return trial::copied(by_pairs(xs, ys, need, n));
-            }
-            return trial::copied(groups(t, need, xs, ys, n, spare));
+        if short_of_groups(t, spare, n) {
+            return copied(by_pairs(xs, ys, need, n));
         }
+        return copied(groups(t, need, xs, ys, n, spare));
     }
-    trial::copied(trial::choices(xs, ys, need, 0, t + 1, spare))
+    decoded(trial::choices(xs, ys, need, 0, t + 1, spare))
 }
 
-// The polynomial of degree at most t that agrees with at least `need` of the points (xs[i], ys[i]), if one is found.
-// For t above 3, or lists of two lengths, none is.
+// The polynomial of degree at most t that agrees with at least `need` of the points (xs[i], ys[i]), if one does. A degree above 3 is
+// refused as a wrong size; lists of two lengths, more than 16 points, or a need of t or less, as a wrong length. That the points are
+// distinct residues is the caller's to show: only then is none found only where there is none.
 // The first t + 1 points sent come first in any case, and mostly none of them is wrong: they are tried before anything is asked.
 pub fn fit(t: usize, need: usize, xs: &[u16], ys: &[u16]) -> Fitted
+    requires { ⌜ Points modulus (now xs) ⌝ }
     ensures { λ r. ⌜ r ≡ fitIn t need (now (xs .entry)) (now (ys .entry)) ⌝ }
 {
     if 3 < t {
-        return trial::nothing();
+        return answers::refused_fit(Refusal::WrongSize);
     }
     if xs.len() != ys.len() {
-        return trial::nothing();
+        return answers::refused_fit(Refusal::WrongLength);
+    }
+    if 16 < xs.len() {
+        return answers::refused_fit(Refusal::WrongLength);
+    }
+    if need <= t {
+        return answers::refused_fit(Refusal::WrongLength);
     }
     let first = trial::next(xs, ys, need, 0, t + 1);
     if first.found {
-        return trial::copied(first);
+        return decoded(first);
     }
-    trial::copied(later(t, need, xs, ys))
+    copied(later(t, need, xs, ys))
 }

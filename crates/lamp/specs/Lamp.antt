@@ -1,18 +1,19 @@
 -- The lamp (document 01): one party's state and its calls, refused or not, at every state.
 --   made n t i        the lamp as made
 --   Sized l           its size and number are within document 01's
+--   Call, tests l c   a call, and what it is looked at for, in the order of the refusals' numbers
 --   settled p l S     what settling with the happy set S gives
---   Call, step p l c  a call, and the lamp and answer that it gives back
+--   outcome p l c     the reply to a call that no test refuses; step p l c: the reply to any call
 --   after p l cs      the lamp after a list of calls
 -- Laws: proofs/Calls, proofs/Checks, proofs/Outcomes.
 use mathlib.Core.Path.{_≡_}
-use mathlib.Core.Bool.{Bool, true, cond, not, _&&_}
+use mathlib.Core.Bool.{Bool, true, cond, not}
 use mathlib.Core.Option.{Option, none, some}
-use mathlib.Core.List.{List, [], _∷_}
+use mathlib.Core.List.{List, [], _∷_, _++_}
 use Prim.Native.Nat.{ℕ, suc, _*_, _-_}
 use lib.Count.{ones}
 use lib.Dec.{eqb, leb}
-use lib.ListN.{length, take, getD, replicate}
+use lib.ListN.{length, take, replicate}
 use Rattle.lists.specs.Tabulate.{tabulate, pad}
 use Rattle.happy.specs.Happy.{happySet}
 use Rattle.parties.specs.Parties.{sizes, isParty, member, entry}
@@ -21,34 +22,41 @@ use Rattle.recovery.specs.Recovery.{repair, openingWith}
 use Rattle.answers.specs.declared.Stage.{Stage}
 use Rattle.answers.specs.declared.Stage.the-variants.{Waiting, Dealt, Reported, Holding, Closed}
 use Rattle.answers.specs.declared.Refusal.{Refusal}
-use Rattle.answers.specs.declared.Refusal.the-variants.{AlteredReport, DealerRejected, NoColumn, NoOpening}
+use Rattle.answers.specs.declared.Refusal.the-variants.{WrongSize, WrongNumber, WrongLength, WrongStage, AlteredReport, DealerRejected}
+use Rattle.answers.specs.declared.Refusal.the-variants.{NoColumn, NoOpening}
 use Rattle.answers.specs.declared.Answer.{Answer}
 use Rattle.answers.specs.declared.Answer.the-variants.{Done, Pair, Report, Accepted, Opened, Refused}
 use Rattle.answers.specs.declared.Admission.{Admission}
 use Rattle.answers.specs.declared.Admission.the-variants.{Pass, Fail}
+use Rattle.answers.specs.declared.Decoding.{Decoding}
+use Rattle.answers.specs.declared.Decoding.the-variants as decoding
+use Rattle.answers.specs.Refusals.{Test, lowest}
+use Rattle.answers.specs.Answers.{stageNumber}
+use Rattle.answers.specs.Fits.{constant}
+use Rattle.lamp.specs.declared.Party.{Party}
+use Rattle.lamp.specs.declared.Sharing.{Sharing}
 use Rattle.lamp.specs.declared.Lamp.{Lamp}
 use Rattle.lamp.specs.declared.Reply.{Reply}
-use Rattle.answers.specs.Answer.{stageNumber, lowest}
 
 -- The lamp as made for n, t and its number.
 abbrev pub made : ℕ → ℕ → ℕ → Lamp
 made n t i = record {
-  n = n;
-  t = t;
-  number = i;
-  stage = Waiting;
-  row = replicate 4 0;
-  column = replicate 4 0;
-  heard = replicate 16 0;
-  report = 0;
-  happy = 0;
-  share = 0;
+  party = record { n = n; t = t; number = i };
+  sharing = record {
+    stage = Waiting;
+    row = replicate 4 0;
+    column = replicate 4 0;
+    heard = replicate 16 0;
+    report = 0;
+    happy = 0;
+    share = 0;
+  };
 }
 
 -- The lamp's size and number are within document 01's.
 pub record Sized (l : Lamp) : Type 0 where
-  pub size : sizes (l .n) (l .t) ≡ true
-  pub party : isParty (l .n) (l .number) ≡ true
+  pub size : sizes (l .party .n) (l .party .t) ≡ true
+  pub party : isParty (l .party .n) (l .party .number) ≡ true
 
 -- ---- replies
 
@@ -59,47 +67,57 @@ reply l a = record { lamp = l; answer = a }
 abbrev pub refuse : Lamp → Refusal → Reply
 refuse l why = reply l (Refused why)
 
--- The check of a call at the lamp l, with what the call says of numbers, of its list and of the stage.
-unfoldable pub check : Lamp → Bool → Bool → Bool → Admission
-check l number list stage = lowest (sizes (l .n) (l .t)) (isParty (l .n) (l .number) && number) list stage
-
--- The reply r, unless the check fails.
+-- The reply r, unless the call is refused.
 abbrev pub guard : Lamp → Admission → Reply → Reply
 guard l Pass r = r
 guard l (Fail why) r = refuse l why
 
--- The lamp is at this stage.
-abbrev pub isAt : Stage → Lamp → Bool
-isAt s l = eqb (stageNumber (l .stage)) (stageNumber s)
+-- ---- the tests
+
+-- 1 and 2, asked of the party alone.
+abbrev pub partyTests : Party → List Test
+partyTests a = (sizes (a .n) (a .t), WrongSize) ∷ (isParty (a .n) (a .number), WrongNumber) ∷ []
+
+-- Then 3, whether the lent list fits, and 4, whether the stage takes the call.
+abbrev pub lentTests : Party → Bool → Bool → List Test
+lentTests a fits takes = partyTests a ++ (fits, WrongLength) ∷ (takes, WrongStage) ∷ []
+
+-- A saying is lent no list, and names a party.
+abbrev pub sayingTests : Party → Bool → Bool → List Test
+sayingTests a named takes = partyTests a ++ (named, WrongNumber) ∷ (takes, WrongStage) ∷ []
+
+-- The sharing is at this stage.
+abbrev pub isAt : Stage → Sharing → Bool
+isAt s x = eqb (stageNumber (x .stage)) (stageNumber s)
 
 -- ---- the dealt row and column, which stay as dealt after a repair and when closed
 
 abbrev pub rowOfLamp : Lamp → List ℕ
-rowOfLamp l = take (suc (l .t)) (l .row)
+rowOfLamp l = take (suc (l .party .t)) (l .sharing .row)
 
 abbrev pub columnOfLamp : Lamp → List ℕ
-columnOfLamp l = take (suc (l .t)) (l .column)
+columnOfLamp l = take (suc (l .party .t)) (l .sharing .column)
 
 -- ---- 1. taking a deal
 
 unfoldable pub withDeal : Lamp → List ℕ → Lamp
 withDeal l d = record {
-  n = l .n;
-  t = l .t;
-  number = l .number;
-  stage = Dealt;
-  row = pad 4 (rowOf (l .t) d);
-  column = pad 4 (columnOf (l .t) d);
-  heard = l .heard;
-  report = l .report;
-  happy = l .happy;
-  share = l .share;
+  party = l .party;
+  sharing = record {
+    stage = Dealt;
+    row = pad 4 (rowOf (l .party .t) d);
+    column = pad 4 (columnOf (l .party .t) d);
+    heard = l .sharing .heard;
+    report = l .sharing .report;
+    happy = l .sharing .happy;
+    share = l .sharing .share;
+  };
 }
 
 -- ---- 2. saying the pair for party j
 
 unfoldable pub saidPair : ℕ → Lamp → ℕ → ℕ × ℕ
-saidPair p l j = pairFor p (l .number) (rowOfLamp l) (columnOfLamp l) j
+saidPair p l j = pairFor p (l .party .number) (rowOfLamp l) (columnOfLamp l) j
 
 -- ---- 3. hearing n pairs
 
@@ -108,20 +126,20 @@ abbrev pub firsts : ℕ → List ℕ → List ℕ
 firsts n hs = tabulate (λ k. firstFrom hs (suc k)) n
 
 unfoldable pub reportFrom : ℕ → Lamp → List ℕ → ℕ
-reportFrom p l hs = reportOf p (l .n) (l .number) (rowOfLamp l) (columnOfLamp l) hs
+reportFrom p l hs = reportOf p (l .party .n) (l .party .number) (rowOfLamp l) (columnOfLamp l) hs
 
 unfoldable pub withPairs : ℕ → Lamp → List ℕ → Lamp
 withPairs p l hs = record {
-  n = l .n;
-  t = l .t;
-  number = l .number;
-  stage = Reported;
-  row = l .row;
-  column = l .column;
-  heard = pad 16 (firsts (l .n) hs);
-  report = reportFrom p l hs;
-  happy = l .happy;
-  share = l .share;
+  party = l .party;
+  sharing = record {
+    stage = Reported;
+    row = l .sharing .row;
+    column = l .sharing .column;
+    heard = pad 16 (firsts (l .party .n) hs);
+    report = reportFrom p l hs;
+    happy = l .sharing .happy;
+    share = l .sharing .share;
+  };
 }
 
 -- ---- 4. settling
@@ -129,44 +147,52 @@ withPairs p l hs = record {
 -- The lamp at its last stage, with its happy set and its share.
 unfoldable pub atEnd : Lamp → Stage → ℕ → ℕ → Lamp
 atEnd l s S v = record {
-  n = l .n;
-  t = l .t;
-  number = l .number;
-  stage = s;
-  row = l .row;
-  column = l .column;
-  heard = l .heard;
-  report = l .report;
-  happy = S;
-  share = v;
+  party = l .party;
+  sharing = record {
+    stage = s;
+    row = l .sharing .row;
+    column = l .sharing .column;
+    heard = l .sharing .heard;
+    report = l .sharing .report;
+    happy = S;
+    share = v;
+  };
 }
-
--- The constant of a polynomial.
-abbrev pub constant : List ℕ → ℕ
-constant f = getD f 0 0
 
 -- A party outside the happy set holds the constant of its repaired column; where none fits it is closed with 9.
 abbrev pub repaired : Lamp → ℕ → Option (List ℕ) → Reply
 repaired l S none = reply (atEnd l Closed S 0) (Refused NoColumn)
 repaired l S (some f) = reply (atEnd l Holding S (constant f)) Accepted
 
+-- The same by what the repair answers; of legal sizes and a happy set it is not refused.
+abbrev pub repairedBy : Lamp → ℕ → Decoding → ℕ → Reply
+repairedBy l S decoding.Found v = reply (atEnd l Holding S v) Accepted
+repairedBy l S decoding.Nothing v = reply (atEnd l Closed S 0) (Refused NoColumn)
+repairedBy l S (decoding.Refused why) v = refuse l why
+
 -- Below n − t ones the dealer is rejected; a happy party's share is its column's constant.
 unfoldable pub settled : ℕ → Lamp → ℕ → Reply
 settled p l S =
-    let mended = repaired l S (repair p (l .n) (l .t) S (l .heard)) in
-    cond (leb (l .n - l .t) (ones S))
-    (cond (member S (l .number)) (reply (atEnd l Holding S (constant (columnOfLamp l))) Accepted) mended)
+    let mended = repaired l S (repair p (l .party .n) (l .party .t) S (l .sharing .heard)) in
+    cond (leb (l .party .n - l .party .t) (ones S))
+    (cond (member S (l .party .number)) (reply (atEnd l Holding S (constant (columnOfLamp l))) Accepted) mended)
     (reply (atEnd l Closed 0 0) (Refused DealerRejected))
 
 -- ---- 5. opening
 
 -- The polynomial that fits the published shares, the lamp's own share in its own place: at most t of them differ.
 unfoldable pub opening : ℕ → Lamp → List ℕ → Option (List ℕ)
-opening p l xs = openingWith p (l .n) (l .t) (l .number) (l .share) xs
+opening p l xs = openingWith p (l .party .n) (l .party .t) (l .party .number) (l .sharing .share) xs
 
 abbrev pub opened : Lamp → Option (List ℕ) → Reply
 opened l none = refuse l NoOpening
 opened l (some f) = reply l (Opened (constant f))
+
+-- The same by what the opening answers.
+abbrev pub openedBy : Lamp → Decoding → ℕ → Reply
+openedBy l decoding.Found v = reply l (Opened v)
+openedBy l decoding.Nothing v = refuse l NoOpening
+openedBy l (decoding.Refused why) v = refuse l why
 
 -- ---- the calls
 
@@ -178,28 +204,31 @@ pub data Call : Type 0 where
   settle : List ℕ → Call
   openShares : List ℕ → Call
 
+-- What a call is looked at for.
+abbrev pub tests : Lamp → Call → List Test
+tests l (takeDeal d) = lentTests (l .party) (eqb (length d) (2 * suc (l .party .t))) (isAt Waiting (l .sharing))
+tests l (sayPair j) = sayingTests (l .party) (isParty (l .party .n) j) (not (isAt Waiting (l .sharing)))
+tests l (hearPairs hs) = lentTests (l .party) (eqb (length hs) (2 * l .party .n)) (isAt Dealt (l .sharing))
+tests l (settle rs) = lentTests (l .party) (eqb (length rs) (l .party .n)) (isAt Reported (l .sharing))
+tests l (openShares xs) = lentTests (l .party) (eqb (length xs) (l .party .n)) (isAt Holding (l .sharing))
+
+-- The reply where every test passes.
+abbrev pub outcome : ℕ → Lamp → Call → Reply
+outcome p l (takeDeal d) = reply (withDeal l d) Done
+outcome p l (sayPair j) = reply l (Pair (saidPair p l j .0) (saidPair p l j .1))
+outcome p l (hearPairs hs) = reply (withPairs p l hs) (Report (reportFrom p l hs))
+outcome p l (settle rs) =
+    let done = settled p l (happySet rs) in
+    cond (eqb (entry rs (l .party .number)) (l .sharing .report)) done (refuse l AlteredReport)
+outcome p l (openShares xs) = opened l (opening p l xs)
+
 -- One call.
 unfoldable pub step : ℕ → Lamp → Call → Reply
-step p l (takeDeal d) =
-    let r = reply (withDeal l d) Done in
-    guard l (check l true (eqb (length d) (2 * suc (l .t))) (isAt Waiting l)) r
-step p l (sayPair j) =
-    let r = reply l (Pair (saidPair p l j .0) (saidPair p l j .1)) in
-    guard l (check l (isParty (l .n) j) true (not (isAt Waiting l))) r
-step p l (hearPairs hs) =
-    let r = reply (withPairs p l hs) (Report (reportFrom p l hs)) in
-    guard l (check l true (eqb (length hs) (2 * l .n)) (isAt Dealt l)) r
-step p l (settle rs) =
-    let outcome = settled p l (happySet rs) in
-    let r = cond (eqb (entry rs (l .number)) (l .report)) outcome (refuse l AlteredReport) in
-    guard l (check l true (eqb (length rs) (l .n)) (isAt Reported l)) r
-step p l (openShares xs) =
-    let r = opened l (opening p l xs) in
-    guard l (check l true (eqb (length xs) (l .n)) (isAt Holding l)) r
+step p l c = let r = outcome p l c in guard l (lowest (tests l c)) r
 
 -- Making: 1 or 2 for a bad size or number, with a state all the same.
 unfoldable pub make : ℕ → ℕ → ℕ → Reply
-make n t i = let l = made n t i in guard l (check l true true true) (reply l Done)
+make n t i = let l = made n t i in guard l (lowest (partyTests (l .party))) (reply l Done)
 
 -- The lamp after a list of calls.
 abbrev pub after : ℕ → Lamp → List Call → Lamp

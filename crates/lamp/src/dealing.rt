@@ -7,6 +7,7 @@ ghost use Rattle.field.specs.Modulus.{modulus};
 ghost use Rattle.consistency.specs.Deal.{pairFor};
 ghost use Rattle.lamp.specs.Lamp.{withDeal};
 use crate::Lamp;
+use crate::Sharing;
 use answers::Answer;
 use answers::Stage;
 
@@ -23,31 +24,34 @@ pub(crate) fn copied(list: &[u16], from: usize, count: usize) -> [u16; 4]
 }
 
 pub(crate) fn with_deal(lamp: Lamp, deal: &[u16]) -> Lamp
-    requires { ⌜ (lamp .t ≤ 3) × (length (now deal) ≡ 2 * (lamp .t + 1)) ⌝ }
+    requires { ⌜ (lamp .party .t ≤ 3) × (length (now deal) ≡ 2 * (lamp .party .t + 1)) ⌝ }
     ensures { λ r. ⌜ r ≡ withDeal lamp (now (deal .entry)) ⌝ }
 {
-    let width = lamp.t as usize + 1;
+    let width = lamp.party.t as usize + 1;
     let row = copied(deal, 0, width);
     let column = copied(deal, width, width);
-    let heard = lamp.heard;
-    Lamp {
-        n: lamp.n,
-        t: lamp.t,
-        number: lamp.number,
+    let heard = lamp.sharing.heard;
+    let party = lamp.party;
+    let sharing = Sharing {
         stage: Stage::Dealt,
         row: row,
         column: column,
         heard: heard,
-        report: lamp.report,
-        happy: lamp.happy,
-        share: lamp.share,
+        report: lamp.sharing.report,
+        happy: lamp.sharing.happy,
+        share: lamp.sharing.share,
+    };
+    Lamp {
+        party: party,
+        sharing: sharing,
     }
 }
 
 // The pair for party j from arrays, whose first t + 1 numbers are the row and the column.
 pub(crate) fn said_pair(i: u8, t: u8, row: [u16; 4], column: [u16; 4], j: u8) -> Answer
     requires { ⌜ t ≤ 3 ⌝ }
-    ensures { λ r. ⌜ r ≡ Answer.Pair (pairFor modulus i (take (suc t) row) (take (suc t) column) j .0) (pairFor modulus i (take (suc t) row) (take (suc t) column) j .1) ⌝ }
+    ensures { λ r. ⌜ r ≡ Answer.Pair (pairFor modulus i (take (suc t) row) (take (suc t) column) j .0)
+        (pairFor modulus i (take (suc t) row) (take (suc t) column) j .1) ⌝ }
 {
     let width = t as usize + 1;
     let pair = consistency::pair_for(i, &row[..width], &column[..width], j);

@@ -1,4 +1,5 @@
 // One party's end of the protocol (document 01's lamp): its state goes into each call by value and comes back with the answer.
+mod admission;
 mod dealing;
 mod opening;
 mod reporting;
@@ -6,24 +7,31 @@ mod settling;
 
 ghost use mathlib.Core.Path.{_≡_};
 ghost use Rattle.field.specs.Modulus.{modulus};
-ghost use Rattle.lamp.specs.Lamp.{make, refuse, check, step, takeDeal, sayPair, hearPairs, settle, openShares};
+ghost use Rattle.lamp.specs.Lamp.{make, refuse, step, takeDeal, sayPair, hearPairs, settle, openShares};
+use admission::is_stage;
+use admission::legal;
+use admission::lent;
+use admission::saying;
 use answers::Admission;
 use answers::Answer;
 use answers::Refusal;
 use answers::Stage;
-use answers::lowest;
-use answers::stage_number;
 use dealing::said_pair;
 use dealing::with_deal;
 use opening::opened;
 use reporting::heard;
 use settling::settled;
 
-// Row and column as dealt, with zeros behind them; the first number heard from each party; the report given out.
-pub struct Lamp {
+// Who a lamp is.
+pub struct Party {
     pub n: u8,
     pub t: u8,
     pub number: u8,
+}
+
+// What it has of one sharing: row and column as dealt, with zeros behind them; the first number heard from each party; the report
+// given out.
+pub struct Sharing {
     pub stage: Stage,
     pub row: [u16; 4],
     pub column: [u16; 4],
@@ -33,22 +41,14 @@ pub struct Lamp {
     pub share: u16,
 }
 
+pub struct Lamp {
+    pub party: Party,
+    pub sharing: Sharing,
+}
+
 pub struct Reply {
     pub lamp: Lamp,
     pub answer: Answer,
-}
-
-// What is wrong with a call, the lamp's own size and number included.
-fn check(lamp: Lamp, number: bool, list: bool, stage: bool) -> Admission
-    ensures { λ r. ⌜ r ≡ check lamp number list stage ⌝ }
-{
-    let n = lamp.n;
-    let size = parties::sizes(n, lamp.t);
-    let own = parties::is_party(n, lamp.number);
-    if own {
-        return lowest(size, number, list, stage);
-    }
-    lowest(size, false, list, stage)
 }
 
 fn refuse(lamp: Lamp, why: Refusal) -> Reply
@@ -65,10 +65,12 @@ impl Lamp {
     pub fn make(n: u8, t: u8, number: u8) -> Reply
         ensures { λ r. ⌜ r ≡ make n t number ⌝ }
     {
-        let lamp = Lamp {
+        let party = Party {
             n: n,
             t: t,
             number: number,
+        };
+        let sharing = Sharing {
             stage: Stage::Waiting,
             row: [0; 4],
             column: [0; 4],
@@ -77,8 +79,12 @@ impl Lamp {
             happy: 0,
             share: 0,
         };
-        let checked = check(lamp, true, true, true);
-        match checked {
+        let lamp = Lamp {
+            party: party,
+            sharing: sharing,
+        };
+        let admitted = legal(party);
+        match admitted {
             Admission::Fail(why) => refuse(lamp, why),
             Admission::Pass => Reply {
                 lamp: lamp,
@@ -90,10 +96,12 @@ impl Lamp {
     pub fn take_deal(self, deal: &[u16]) -> Reply
         ensures { λ r. ⌜ r ≡ step modulus self (takeDeal (now (deal .entry))) ⌝ }
     {
-        let stage = self.stage;
-        let fits = deal.len() == 2 * (self.t as usize + 1);
-        let checked = check(self, true, fits, stage_number(stage) == 0);
-        match checked {
+        let party = self.party;
+        let sharing = self.sharing;
+        let stage = sharing.stage;
+        let fits = deal.len() == 2 * (party.t as usize + 1);
+        let admitted = lent(party, fits, is_stage(stage, Stage::Waiting));
+        match admitted {
             Admission::Fail(why) => refuse(self, why),
             Admission::Pass => {
                 let dealt = with_deal(self, deal);
@@ -109,15 +117,17 @@ impl Lamp {
     pub fn say_pair(self, j: u8) -> Reply
         ensures { λ r. ⌜ r ≡ step modulus self (sayPair j) ⌝ }
     {
-        let stage = self.stage;
-        let other = parties::is_party(self.n, j);
-        let checked = check(self, other, true, stage_number(stage) != 0);
-        match checked {
+        let party = self.party;
+        let sharing = self.sharing;
+        let stage = sharing.stage;
+        let named = parties::is_party(party.n, j);
+        let admitted = saying(party, named, !is_stage(stage, Stage::Waiting));
+        match admitted {
             Admission::Fail(why) => refuse(self, why),
             Admission::Pass => {
-                let row = self.row;
-                let column = self.column;
-                let pair = said_pair(self.number, self.t, row, column, j);
+                let row = sharing.row;
+                let column = sharing.column;
+                let pair = said_pair(party.number, party.t, row, column, j);
                 Reply {
                     lamp: self,
                     answer: pair,
@@ -130,10 +140,12 @@ impl Lamp {
     pub fn hear_pairs(self, pairs: &[u16]) -> Reply
         ensures { λ r. ⌜ r ≡ step modulus self (hearPairs (now (pairs .entry))) ⌝ }
     {
-        let stage = self.stage;
-        let fits = pairs.len() == 2 * self.n as usize;
-        let checked = check(self, true, fits, stage_number(stage) == 1);
-        match checked {
+        let party = self.party;
+        let sharing = self.sharing;
+        let stage = sharing.stage;
+        let fits = pairs.len() == 2 * party.n as usize;
+        let admitted = lent(party, fits, is_stage(stage, Stage::Dealt));
+        match admitted {
             Admission::Fail(why) => refuse(self, why),
             Admission::Pass => heard(self, pairs),
         }
@@ -143,14 +155,16 @@ impl Lamp {
     pub fn settle(self, reports: &[u16]) -> Reply
         ensures { λ r. ⌜ r ≡ step modulus self (settle (now (reports .entry))) ⌝ }
     {
-        let stage = self.stage;
-        let fits = reports.len() == self.n as usize;
-        let checked = check(self, true, fits, stage_number(stage) == 2);
-        match checked {
+        let party = self.party;
+        let sharing = self.sharing;
+        let stage = sharing.stage;
+        let fits = reports.len() == party.n as usize;
+        let admitted = lent(party, fits, is_stage(stage, Stage::Reported));
+        match admitted {
             Admission::Fail(why) => refuse(self, why),
             Admission::Pass => {
-                let place = self.number as usize - 1;
-                if reports[place] != self.report {
+                let place = party.number as usize - 1;
+                if reports[place] != sharing.report {
                     return refuse(self, Refusal::AlteredReport);
                 }
                 settled(self, happy::happy_set(reports))
@@ -162,10 +176,12 @@ impl Lamp {
     pub fn open(self, shares: &[u16]) -> Reply
         ensures { λ r. ⌜ r ≡ step modulus self (openShares (now (shares .entry))) ⌝ }
     {
-        let stage = self.stage;
-        let fits = shares.len() == self.n as usize;
-        let checked = check(self, true, fits, stage_number(stage) == 3);
-        match checked {
+        let party = self.party;
+        let sharing = self.sharing;
+        let stage = sharing.stage;
+        let fits = shares.len() == party.n as usize;
+        let admitted = lent(party, fits, is_stage(stage, Stage::Holding));
+        match admitted {
             Admission::Fail(why) => refuse(self, why),
             Admission::Pass => opened(self, shares),
         }

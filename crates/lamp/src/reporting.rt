@@ -5,9 +5,10 @@ ghost use lib.ListN.{length, take};
 ghost use Rattle.lists.specs.Tabulate.{pad};
 ghost use Rattle.field.specs.Modulus.{modulus};
 ghost use Rattle.consistency.specs.Deal.{reportOf};
-ghost use Rattle.lamp.specs.Lamp.{firsts, reply, reportFrom, withPairs};
+ghost use Rattle.lamp.specs.Lamp.{firsts, reply, reportFrom, withPairs, Sized};
 use crate::Lamp;
 use crate::Reply;
+use crate::Sharing;
 use answers::Answer;
 use answers::Stage;
 
@@ -20,7 +21,7 @@ pub(crate) fn given_report(
     column: [u16; 4],
     pairs: &[u16],
 ) -> u16
-    requires { ⌜ (n ≤ 16) × (t ≤ 3) × (length (now pairs) ≡ 2 * n) ⌝ }
+    requires { ⌜ (n ≤ 16) × (1 ≤ i) × (i ≤ n) × (t ≤ 3) × (length (now pairs) ≡ 2 * n) ⌝ }
     ensures { λ r. ⌜ r ≡ reportOf modulus n i (take (suc t) row) (take (suc t) column) (now (pairs .entry)) ⌝ }
 {
     let width = t as usize + 1;
@@ -43,24 +44,34 @@ pub(crate) fn firsts(n: u8, pairs: &[u16]) -> [u16; 16]
 
 // The outcome of hearing n pairs: the report that is given out is kept.
 pub(crate) fn heard(lamp: Lamp, pairs: &[u16]) -> Reply
-    requires { ⌜ (lamp .t ≤ 3) × (lamp .n ≤ 16) × (length (now pairs) ≡ 2 * lamp .n) ⌝ }
-    ensures { λ r. ⌜ r ≡ reply (withPairs modulus lamp (now (pairs .entry))) (Answer.Report (reportFrom modulus lamp (now (pairs .entry)))) ⌝ }
+    requires { ⌜ Sized lamp × (length (now pairs) ≡ 2 * lamp .party .n) ⌝ }
+    ensures { λ r. ⌜ r ≡ reply (withPairs modulus lamp (now (pairs .entry)))
+        (Answer.Report (reportFrom modulus lamp (now (pairs .entry)))) ⌝ }
 {
-    let row = lamp.row;
-    let column = lamp.column;
-    let heard = firsts(lamp.n, pairs);
-    let bits = given_report(lamp.n, lamp.number, lamp.t, row, column, pairs);
-    let kept = Lamp {
-        n: lamp.n,
-        t: lamp.t,
-        number: lamp.number,
+    let row = lamp.sharing.row;
+    let column = lamp.sharing.column;
+    let heard = firsts(lamp.party.n, pairs);
+    let bits = given_report(
+        lamp.party.n,
+        lamp.party.number,
+        lamp.party.t,
+        row,
+        column,
+        pairs,
+    );
+    let party = lamp.party;
+    let sharing = Sharing {
         stage: Stage::Reported,
         row: row,
         column: column,
         heard: heard,
         report: bits,
-        happy: lamp.happy,
-        share: lamp.share,
+        happy: lamp.sharing.happy,
+        share: lamp.sharing.share,
+    };
+    let kept = Lamp {
+        party: party,
+        sharing: sharing,
     };
     Reply {
         lamp: kept,

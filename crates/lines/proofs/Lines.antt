@@ -13,7 +13,8 @@ use Rattle.lists.specs.Masks.{bit}
 use Rattle.lists.proofs.Masks.{bit-none}
 use Rattle.text.specs.Letters.{letters, decimal, joined}
 use Rattle.text.proofs.Letters.{decimal-short, decimal-two, joined-append}
-use Rattle.lines.specs.Lines.{sizeWords, name, names, happyWords, verdictWords, outcomeWords, lampWords, openedWords, refusedWords}
+use Rattle.lines.specs.Lines.{name, names, happyWords, verdictWords, outcomeWords}
+use Rattle.lines.specs.Lines.{sizeLine, verdictLines, lampLine, openedLine, refusedLine}
 
 -- ---- the happy lamps
 module _ (set k : ℕ) where
@@ -60,13 +61,14 @@ number-short x rest = rw length-append (omega (arith, decimal-short x))
 place-short : (x : ℕ) (rest : List ℕ) → x < 100 → length (decimal x ++ rest) ≤ 2 + length rest
 place-short x rest h = rw length-append (omega (arith, decimal-two x h))
 
-pub size-short : (n t : ℕ) → length (joined (sizeWords n t)) ≤ 17
+pub size-short : (n t : ℕ) → length (sizeLine n t) ≤ 17
 size-short n t = omega (arith, number-short n (joined (letters " " ∷ decimal t ∷ letters "\n" ∷ [])), number-short t (letters "\n"))
 
-pub refused-short : (k : ℕ) → length (joined (refusedWords k)) ≤ 21
+pub refused-short : (k : ℕ) → length (refusedLine k) ≤ 21
 refused-short k = omega (arith, number-short k (letters "\n"))
 
-either-short : (b : Bool) (vs ws : List (List ℕ)) (m : ℕ) → length (joined vs) ≤ m → length (joined ws) ≤ m → length (joined (cond b vs ws)) ≤ m
+either-short : (b : Bool) (vs ws : List (List ℕ)) (m : ℕ) → length (joined vs) ≤ m → length (joined ws) ≤ m
+    → length (joined (cond b vs ws)) ≤ m
 either-short true vs ws m h k = h
 either-short false vs ws m h k = k
 
@@ -76,11 +78,11 @@ outcome-short word k v h =
     (rw length-append (omega (arith, number-short v (letters "\n"))))
     (omega (arith, number-short k (letters "\n")))
 
-pub lamp-short : (i k v : ℕ) → i < 100 → length (joined (lampWords i k v)) ≤ 22
+pub lamp-short : (i k v : ℕ) → i < 100 → length (lampLine i k v) ≤ 22
 lamp-short i k v h =
     omega (arith, place-short i (joined (outcomeWords (letters " share ") k v)) h, outcome-short (letters " share ") k v (lit≤ tt))
 
-pub opened-short : (k v : ℕ) → length (joined (openedWords k v)) ≤ 21
+pub opened-short : (k v : ℕ) → length (openedLine k v) ≤ 21
 opened-short k v = omega (arith, outcome-short (letters " ") k v (lit≤ tt))
 
 name-short : (set k : ℕ) → k < 99 → length (joined (name set k)) ≤ 3
@@ -94,7 +96,7 @@ names-short set zero h = omega arith
 names-short set (suc n) h =
     rw (joined-append, length-append) (omega (arith, names-short set n (omega arith), name-short set n (omega arith)))
 
-pub verdict-short : (b : Bool) (set n : ℕ) → n ≤ 99 → length (joined (verdictWords b set n)) ≤ 22 + 3 * n
+pub verdict-short : (b : Bool) (set n : ℕ) → n ≤ 99 → length (verdictLines b set n) ≤ 22 + 3 * n
 unfolding verdictWords
 verdict-short true set n h =
     let long : length (joined (names set n ++ letters "\n" ∷ [])) ≡ length (joined (names set n)) + 1 = rw (joined-append, length-append) in

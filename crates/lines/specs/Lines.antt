@@ -1,6 +1,7 @@
--- The lines that are printed of a record (document 01, "Record and bench"), from numbers alone: the words of each in the order they are put.
+-- The lines that are printed of a record (document 01, "Record and bench"), from numbers alone. Each line is said once: the words in the
+-- order in which they are put, and the text that they make.
 --   sizeWords, happyWords, verdictWords, lampWords, openedWords, refusedWords   the words of a line
---   sizeLine, happyLine, verdictLines   the text that they make
+--   sizeLine, happyLine, verdictLines, lampLine, openedLine, refusedLine        its text
 --   outcomeWords word refusal value   a value behind the word, or a refusal; the refusal 0 stands for none
 -- Laws: proofs/Lines.
 use mathlib.Core.Bool.{Bool, cond}
@@ -49,16 +50,31 @@ verdictLines accepted set n = joined (verdictWords accepted set n)
 
 -- The word and the value where the refusal is 0, otherwise " refused k".
 abbrev pub outcomeWords : List ℕ → ℕ → ℕ → List (List ℕ)
-outcomeWords word refusal value = cond (eqb refusal 0) (word ∷ decimal value ∷ letters "\n" ∷ []) (letters " refused " ∷ decimal refusal ∷ letters "\n" ∷ [])
+outcomeWords word refusal value =
+    cond (eqb refusal 0)
+    (word ∷ decimal value ∷ letters "\n" ∷ [])
+    (letters " refused " ∷ decimal refusal ∷ letters "\n" ∷ [])
 
 -- "lamp i share v" or "lamp i refused k".
 abbrev pub lampWords : ℕ → ℕ → ℕ → List (List ℕ)
 lampWords i refusal share = letters "lamp " ∷ decimal i ∷ outcomeWords (letters " share ") refusal share
 
+-- Their text.
+abbrev pub lampLine : ℕ → ℕ → ℕ → List ℕ
+lampLine i refusal share = joined (lampWords i refusal share)
+
 -- "opened v" or "opened refused k".
 abbrev pub openedWords : ℕ → ℕ → List (List ℕ)
 openedWords refusal value = letters "opened" ∷ outcomeWords (letters " ") refusal value
 
+-- Their text.
+abbrev pub openedLine : ℕ → ℕ → List ℕ
+openedLine refusal value = joined (openedWords refusal value)
+
 -- "record refused k".
 abbrev pub refusedWords : ℕ → List (List ℕ)
 refusedWords k = letters "record refused " ∷ decimal k ∷ letters "\n" ∷ []
+
+-- Their text.
+abbrev pub refusedLine : ℕ → List ℕ
+refusedLine k = joined (refusedWords k)

@@ -1,8 +1,10 @@
-// The lines of a record's text, each from numbers alone, put into a buffer that the caller lends. A word that has no room is left out, as in `text`.
+// The lines of a record's text, each from numbers alone, put into a buffer that the caller lends. A word that has no room is left out, as
+// in `text`.
 // Where a line may say a refusal, 0 stands for none.
 ghost use mathlib.Core.Path.{_≡_};
 ghost use Rattle.text.specs.Letters.{puts};
-ghost use Rattle.lines.specs.Lines.{sizeWords, name, names, happyWords, verdictWords, outcomeWords, lampWords, openedWords, refusedWords};
+ghost use Rattle.lines.specs.Lines.{sizeWords, name, names, happyWords, verdictWords};
+ghost use Rattle.lines.specs.Lines.{outcomeWords, lampWords, openedWords, refusedWords};
 
 // Puts "size n t".
 pub fn put_size(out: &mut [u8], at: usize, n: u8, t: u8) -> usize

@@ -1,9 +1,7 @@
 // Polynomials modulo the field's prime: lists of coefficients, the constant first.
 ghost use mathlib.Core.Path.{_≡_};
-ghost use mathlib.Core.List.{[], _∷_};
-ghost use lib.Dec.{eqb};
 ghost use Rattle.field.specs.Modulus.{modulus};
-ghost use Rattle.polynomial.specs.Polynomial.{residues, absent, points, value};
+ghost use Rattle.polynomial.specs.Polynomial.{residues, absent, distinctResidues, value};
 
 // Whether every number of the list is below the modulus.
 pub fn residues(list: &[u16]) -> bool
@@ -35,8 +33,8 @@ fn absent(x: u16, list: &[u16]) -> bool
 
 // Whether the numbers of the list are distinct residues. A number below all those behind it is none of them: in a list that rises
 // nothing is compared twice.
-pub fn points(list: &[u16]) -> bool
-    ensures { λ r. ⌜ r ≡ points modulus (now (list .entry)) ⌝ }
+pub fn distinct_residues(list: &[u16]) -> bool
+    ensures { λ r. ⌜ r ≡ distinctResidues modulus (now (list .entry)) ⌝ }
 {
     let mut low = field::MODULUS;
     let mut i = list.len();
@@ -66,21 +64,10 @@ pub fn value(f: &[u16], x: u16) -> u16
         return 0;
     }
     let mut i = f.len() - 1;
-    let mut v = f[i] % field::MODULUS;
+    let mut v = field::reduced(f[i]);
     while 0 < i {
         i -= 1;
         v = field::mul_add(x, v, f[i]);
     }
     v
-}
-
-// Whether y is a + b x + c x² + d x³: Horner's rule for four coefficients, without a loop and unreduced. Products of four numbers of
-// 16 bits, and what is added to them, still fit 64.
-pub fn is_cubic_value(a: u16, b: u16, c: u16, d: u16, x: u16, y: u16) -> bool
-    ensures { λ r. ⌜ r ≡ eqb (value modulus (a ∷ b ∷ c ∷ d ∷ []) x) y ⌝ }
-{
-    let by = x as u64;
-    let high = by * d as u64 + c as u64;
-    let middle = by * high + b as u64;
-    field::reduces_to(by * middle + a as u64, y)
 }

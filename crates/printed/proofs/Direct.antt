@@ -12,6 +12,7 @@ use lib.ListN.{length, drop, replicate, length-drop}
 use lib.Seq.{take-at, take-all, length-take-le}
 use borrow.Author.Tests.{eq-eqb}
 use Rattle.lists.specs.Masks.{bit}
+use Rattle.lists.specs.Options.{orZero}
 use Rattle.lists.specs.Tabulate.{tabulate, pad}
 use Rattle.lists.specs.Choices.{select}
 use Rattle.lists.proofs.Tabulate.{length-tabulate}
@@ -20,28 +21,32 @@ use Rattle.fit.specs.Fit.{fit}
 use Rattle.parties.specs.Parties.{points, member, entry}
 use Rattle.parties.proofs.Parties.{party-true}
 use Rattle.dealer.specs.Desk.{stretch}
-use Rattle.answers.specs.declared.Refusal.the-variants.{AlteredReport}
+use Rattle.answers.specs.declared.Refusal.the-variants.{AlteredReport, DealerRejected, NoColumn}
 use Rattle.answers.specs.declared.Answer.the-variants.{Done}
 use Rattle.lamp.specs.declared.Lamp.{Lamp}
 use Rattle.lamp.specs.declared.Reply.{Reply}
-use Rattle.answers.specs.Answer.{numberOf}
+use Rattle.answers.specs.Refusals.{refusalNumber}
+use Rattle.answers.specs.Answers.{numberOf}
+use Rattle.answers.specs.Fits.{constant}
 use Rattle.consistency.specs.Deal.{rowOf, columnOf, firstFrom, reportOf}
 use Rattle.recovery.specs.Recovery.{repair}
-use Rattle.lamp.specs.Lamp.{Sized, made, reply, columnOfLamp, withDeal, firsts, withPairs, reportFrom, constant, repaired, refuse, atEnd, settled, takeDeal, hearPairs, settle, step}
-use Rattle.record.specs.Record.{nOf, tOf, reading}
+use Rattle.lamp.specs.Lamp.{Sized, made, reply, columnOfLamp, withDeal, firsts, withPairs, reportFrom, repaired, refuse, atEnd, settled}
+use Rattle.lamp.specs.Lamp.{takeDeal, hearPairs, settle, step}
 use Rattle.record.specs.declared.Reading.the-variants.{Fine}
-use Rattle.text.specs.Letters.{letters, field, line}
-use Rattle.lines.specs.Lines.{sizeLine, verdictLines}
-use Rattle.transcript.specs.Outcomes.{outcome, lampLine, lastLine}
-use Rattle.transcript.specs.Transcript.{numbersOf, run, lampLines, textOf, textBy, text, Whole}
-use Rattle.transcript.proofs.Runs.{whole-sizes, whole-facts, deals-count, pairs-count, reports-count, part-room}
+use Rattle.record.specs.Record.{nOf, tOf, reading, IsRecord, numbersOf}
+use Rattle.record.proofs.Answers.{record-fine}
+use Rattle.text.specs.Letters.{letters, field, line, joined}
+use Rattle.lines.specs.Lines.{sizeLine, verdictLines, outcomeWords}
+use Rattle.transcript.specs.Outcomes.{replyLine, lastLine}
+use Rattle.transcript.specs.Transcript.{run, lampLines, textOf, textBy, text}
+use Rattle.transcript.proofs.Runs.{fine-legal, fine-facts, deals-count, pairs-count, reports-count, part-room}
 use Rattle.agreement.proofs.Runs.{by-cond}
 use Rattle.agreement.proofs.Steps.{takes, hears, looks}
-use Rattle.printed.specs.Direct.{itsDeal, itsPairs, itsReport, happy, verdict, mended, said, saidLines, direct}
+use Rattle.printed.specs.Direct.{itsDeal, itsPairs, itsReport, happy, isAcceptedIn, refuses, mended, lampSays, lampsSay, direct}
 
 -- What a reply prints behind "lamp i".
 abbrev shown : Reply → List ℕ
-shown r = outcome (r .lamp .share) (numberOf (r .answer))
+shown r = joined (outcomeWords (letters " share ") (orZero (numberOf (r .answer))) (r .lamp .sharing .share))
 
 -- The heard numbers behind the n-th are not looked at.
 repair-padded : (p n t S : ℕ) (xs : List ℕ) → length xs ≡ n → repair p n t S (pad 16 xs) ≡ repair p n t S xs
@@ -60,26 +65,30 @@ shown-cond : (b : Bool) (x y : Reply) → shown (cond b x y) ≡ cond b (shown x
 shown-cond true x y = refl
 shown-cond false x y = refl
 
--- With enough happy lamps nobody says 8.
-not-eight : (p : ℕ) (l : Lamp) (S : ℕ) → leb (l .n - l .t) (ones S) ≡ true → numberOf (settled p l S .answer) ≡ some 8 → ⊥
+-- The dealer is rejected.
+abbrev Rejecting : Reply → Type 0
+Rejecting r = numberOf (r .answer) ≡ some (refusalNumber DealerRejected)
+
+-- With enough happy lamps nobody says so.
+not-rejecting : (p : ℕ) (l : Lamp) (S : ℕ) → leb (l .party .n - l .party .t) (ones S) ≡ true → Rejecting (settled p l S) → ⊥
 unfolding settled
-not-eight p l S e =
-    rw e (by-cond (λ (r : Reply). numberOf (r .answer) ≡ some 8 → ⊥) (member S (l .number)) _ _ (Option·none-ne-some _)
-    (mended-not (repair p (l .n) (l .t) S (l .heard))))
+not-rejecting p l S e =
+    rw e (by-cond (λ r. Rejecting r → ⊥) (member S (l .party .number)) _ _ (Option·none-ne-some _)
+    (mended-not (repair p (l .party .n) (l .party .t) S (l .sharing .heard))))
   where
-    mended-not : (o : Option (List ℕ)) → numberOf (repaired l S o .answer) ≡ some 8 → ⊥
-    mended-not none q = let z = Option·some-injective 9 8 q in omega arith
+    mended-not : (o : Option (List ℕ)) → Rejecting (repaired l S o) → ⊥
+    mended-not none q = let z = Option·some-injective (refusalNumber NoColumn) (refusalNumber DealerRejected) q in omega arith
     mended-not (some f) q = Option·none-ne-some _ q
 
-module _ (bytes : List ℕ) (fine : reading bytes ≡ Fine) where
+module _ (bytes : List ℕ) (is : IsRecord bytes) where
   abbrev n : ℕ
   n = nOf bytes
 
   abbrev t : ℕ
   t = tOf bytes
 
-  whole : Whole bytes n t
-  whole = record { fine = fine; parties = refl; faulty = refl }
+  fine : reading bytes ≡ Fine n t
+  fine = record-fine bytes is
 
   -- ---- one lamp
   module _ (i : ℕ) (first : 1 ≤ i) (last : i ≤ n) where
@@ -102,17 +111,17 @@ module _ (bytes : List ℕ) (fine : reading bytes ≡ Fine) where
     reported = withPairs modulus dealt hs
 
     sized : Sized start
-    sized = record { size = whole-sizes bytes n t whole; party = party-true n i first last }
+    sized = record { size = fine-legal bytes n t fine; party = party-true n i first last }
 
     pub deal-long : length d ≡ 2 * suc t
     deal-long =
-        let f = whole-facts bytes n t whole in
-        own-part (numbersOf bytes 0) n (t + 1) i (deals-count bytes n t whole) (f .3) (omega arith) first last ∙ omega arith
+        let f = fine-facts bytes n t fine in
+        own-part (numbersOf bytes 0) n (t + 1) i (deals-count bytes n t fine) (f .3) (omega arith) first last ∙ omega arith
 
     pub pairs-long : length hs ≡ 2 * n
     pairs-long =
-        let f = whole-facts bytes n t whole in
-        own-part (numbersOf bytes 1) n n i (pairs-count bytes n t whole) (f .3) (f .3) first last
+        let f = fine-facts bytes n t fine in
+        own-part (numbersOf bytes 1) n n i (pairs-count bytes n t fine) (f .3) (f .3) first last
 
     dealt-sized : Sized dealt
     unfolding withDeal
@@ -133,59 +142,61 @@ module _ (bytes : List ℕ) (fine : reading bytes ≡ Fine) where
     unfolding withPairs withDeal
     column-is = take-at (columnOf t d) (replicate (4 - length (columnOf t d)) 0) (suc t) (length-drop (suc t) d ∙ omega (arith, deal-long))
 
-    report-is : reported .report ≡ itsReport bytes i
+    report-is : reported .sharing .report ≡ itsReport bytes i
     unfolding withPairs withDeal reportFrom
     report-is =
         ap₂ (λ row column. reportOf modulus n i row column hs)
         (take-at (rowOf t d) (replicate (4 - length (rowOf t d)) 0) (suc t) (length-take-le (suc t) d (omega (arith, deal-long))))
         (take-at (columnOf t d) (replicate (4 - length (columnOf t d)) 0) (suc t) (length-drop (suc t) d ∙ omega (arith, deal-long)))
 
-    answered : run bytes n t i ≡ cond (eqb (entry rs i) (itsReport bytes i)) (settled modulus reported (happy bytes)) (refuse reported AlteredReport)
+    answered : run bytes n t i
+        ≡ cond (eqb (entry rs i) (itsReport bytes i)) (settled modulus reported (happy bytes)) (refuse reported AlteredReport)
     unfolding run withPairs withDeal
     answered =
         ap (λ (r : Reply). step modulus (step modulus (r .lamp) (hearPairs hs) .lamp) (settle rs)) taken
         ∙ ap (λ l. step modulus l (settle rs)) heard
-        ∙ looks reported reported-sized modulus rs (ap (λ z. z && true) (eq-eqb (length rs) n (reports-count bytes n t whole)))
+        ∙ looks reported reported-sized modulus rs (ap (λ z. z && true) (eq-eqb (length rs) n (reports-count bytes n t fine)))
         ∙ ap (λ r. cond (eqb (entry rs i) r) (settled modulus reported (happy bytes)) (refuse reported AlteredReport)) report-is
 
-    -- The lamp says 8 exactly if the printed verdict is against the dealer, its own report being in the record.
+    -- The lamp says so exactly if the printed verdict is against the dealer, its own report being in the record.
     module _ (own : entry rs i ≡ itsReport bytes i) where
       settling : run bytes n t i ≡ settled modulus reported (happy bytes)
       settling =
           answered
-          ∙ ap (λ b. cond b (settled modulus reported (happy bytes)) (refuse reported AlteredReport)) (eq-eqb (entry rs i) (itsReport bytes i) own)
+          ∙ ap (λ b. cond b (settled modulus reported (happy bytes)) (refuse reported AlteredReport))
+          (eq-eqb (entry rs i) (itsReport bytes i) own)
 
-      pub says-rejected : verdict bytes ≡ false → numberOf (run bytes n t i .answer) ≡ some 8
+      pub says-rejected : isAcceptedIn bytes ≡ false → Rejecting (run bytes n t i)
       unfolding settled withPairs withDeal
       says-rejected e = ap (λ (r : Reply). numberOf (r .answer)) settling ∙ rw e
 
-      pub says-accepted : verdict bytes ≡ true → numberOf (run bytes n t i .answer) ≡ some 8 → ⊥
+      pub says-accepted : isAcceptedIn bytes ≡ true → Rejecting (run bytes n t i) → ⊥
       unfolding withPairs withDeal
-      says-accepted e eight = not-eight modulus reported (happy bytes) e (sym (ap (λ (r : Reply). numberOf (r .answer)) settling) ∙ eight)
+      says-accepted e said = not-rejecting modulus reported (happy bytes) e (sym (ap (λ (r : Reply). numberOf (r .answer)) settling) ∙ said)
 
-    mended-shown : (o : Option (List ℕ)) → shown (repaired reported (happy bytes) o) ≡ mended bytes o
+    mended-shown : (o : Option (List ℕ)) → shown (repaired reported (happy bytes) o) ≡ mended o
     unfolding atEnd
     mended-shown none = refl
     mended-shown (some f) = refl
 
-    pub lamp-said : lampLine i (run bytes n t i) ≡ field (letters "lamp ") i ++ said bytes i
-    unfolding lampLine said settled atEnd withPairs withDeal
+    pub lamp-said : replyLine i (run bytes n t i) ≡ field (letters "lamp ") i ++ lampSays bytes i
+    unfolding replyLine lampSays settled atEnd withPairs withDeal
     lamp-said =
         ap (λ z. field (letters "lamp ") i ++ z)
         (ap shown answered
         ∙ shown-cond (eqb (entry rs i) (itsReport bytes i)) _ _
-        ∙ ap (λ z. cond (eqb (entry rs i) (itsReport bytes i)) z (line (letters " refused ") 7))
-        (shown-cond (verdict bytes) _ _
-        ∙ ap (λ z. cond (verdict bytes) z (line (letters " refused ") 8))
+        ∙ ap (λ z. cond (eqb (entry rs i) (itsReport bytes i)) z (refuses AlteredReport))
+        (shown-cond (isAcceptedIn bytes) _ _
+        ∙ ap (λ z. cond (isAcceptedIn bytes) z (refuses DealerRejected))
         (shown-cond (member (happy bytes) i) _ _
         ∙ ap₂ (cond (member (happy bytes) i))
         (ap (λ f. line (letters " share ") (constant f)) column-is)
         (mended-shown (repair modulus n t (happy bytes) (pad 16 (firsts n hs)))
-        ∙ ap (mended bytes) (repair-padded modulus n t (happy bytes) (firsts n hs) (length-tabulate (λ k. firstFrom hs (suc k)) n))))))
+        ∙ ap mended (repair-padded modulus n t (happy bytes) (firsts n hs) (length-tabulate (λ k. firstFrom hs (suc k)) n))))))
 
   -- ---- all of them
-  lines-said : (k : ℕ) → k ≤ n → lampLines bytes n t k ≡ saidLines bytes k
-  unfolding lampLines saidLines
+  lines-said : (k : ℕ) → k ≤ n → lampLines bytes n t k ≡ lampsSay bytes k
+  unfolding lampLines lampsSay
   lines-said zero h = refl
   lines-said (suc k) h = ap₂ (λ xs ys. xs ++ ys) (lines-said k (omega arith)) (lamp-said (suc k) (omega arith) h)
 
@@ -193,4 +204,5 @@ module _ (bytes : List ℕ) (fine : reading bytes ≡ Fine) where
   pub text-direct : text bytes ≡ direct bytes
   unfolding text textBy textOf direct
   text-direct =
-      rw fine (ap (λ ls. ((sizeLine n t ++ verdictLines (verdict bytes) (happy bytes) n) ++ ls) ++ lastLine (verdict bytes) n t (numbersOf bytes 3)) (lines-said n (omega arith)))
+      let last : List ℕ = lastLine (isAcceptedIn bytes) n t (numbersOf bytes 3) in
+      rw fine (ap (λ ls. ((sizeLine n t ++ verdictLines (isAcceptedIn bytes) (happy bytes) n) ++ ls) ++ last) (lines-said n (omega arith)))

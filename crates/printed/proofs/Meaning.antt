@@ -1,9 +1,9 @@
 -- What the words of the text mean: numbers are decimal, the happy line names the members of the set, and the published list opens
--- the constant of the one polynomial that fits it.
+-- the constant of the one polynomial that fits it; a refused record gives one line with the number.
 use mathlib.Core.Path.{_≡_, refl, sym, ap, ap₂, _∙_}
 use mathlib.Core.Logic.{⊎-elim}
 use mathlib.Core.Bool.{Bool, true}
-use mathlib.Core.Option.{Option, none, some}
+use mathlib.Core.Option.{some}
 use mathlib.Core.List.{List, [], _∷_, _++_, append-assoc}
 use Prim.Native.Nat.{ℕ, zero, suc, _+_, _*_, _-_, _/_, _≤_, _<_}
 use native.Mathlib.Nat.{div-div-eq-div-mul}
@@ -19,19 +19,23 @@ use Rattle.lists.proofs.Cases.{true-or-false}
 use Rattle.field.specs.Modulus.{modulus}
 use Rattle.field.proofs.Primes.{prime}
 use Rattle.polynomial.specs.Polynomial.{Points}
-use Rattle.fit.specs.Fit.{fit}
+use Rattle.fit.specs.Fit.{Near, fit}
 use Rattle.text.specs.Letters.{letters, digit, decimal, field, line, joined}
 use Rattle.text.proofs.Letters.{joined-append}
-use Rattle.record.specs.Record.{reading, numberOf}
-use Rattle.lines.specs.Lines.{name, names}
-use Rattle.transcript.specs.Outcomes.{openedLine, lastLine}
+use Rattle.answers.specs.declared.Refusal.the-variants.{NoOpening}
+use Rattle.answers.specs.Refusals.{refusalNumber}
+use Rattle.answers.specs.Fits.{constant}
+use Rattle.record.specs.declared.Reading.{Reading}
+use Rattle.record.specs.declared.Reading.the-variants.{Fine, Refused}
+use Rattle.record.specs.Record.{reading, readingNumber}
+use Rattle.lines.specs.Lines.{name, names, refusedLine}
+use Rattle.transcript.specs.Outcomes.{openingLine, lastLine}
 use Rattle.transcript.specs.Transcript.{textOf, textBy, text}
 use Rattle.parties.specs.Parties.{sizes, parties, points, member}
 use Rattle.parties.proofs.Parties.{sizes-facts, length-points}
-use Rattle.lamp.specs.Lamp.{constant}
-use Rattle.agreement.specs.Demand2.{Nearest}
+use Rattle.agreement.specs.Setting.{setting}
 use Rattle.agreement.proofs.Geometry.{points-fine}
-use Rattle.agreement.proofs.Rightness.{near-found, near-none}
+use Rattle.fit.proofs.Rule.{near-found, near-none}
 use Rattle.printed.specs.Meaning.{spelt, listed}
 
 -- ---- numbers
@@ -64,7 +68,8 @@ decimal-spells x h =
     let tens = spelt-next (x / 10) x refl [] in
     let hundreds = spelt-next (x / 100) (x / 10) (div-div-eq-div-mul x 10 10) (digit x ∷ []) ∙ tens in
     let thousands = spelt-next (x / 1000) (x / 100) (div-div-eq-div-mul x 100 10) (digit (x / 10) ∷ digit x ∷ []) ∙ hundreds in
-    let all = spelt-next (x / 10000) (x / 1000) (div-div-eq-div-mul x 1000 10) (digit (x / 100) ∷ digit (x / 10) ∷ digit x ∷ []) ∙ thousands in
+    let behind : List ℕ = digit (x / 100) ∷ digit (x / 10) ∷ digit x ∷ [] in
+    let all = spelt-next (x / 10000) (x / 1000) (div-div-eq-div-mul x 1000 10) behind ∙ thousands in
     forms (λ ds. spelt 0 ds ≡ x) x
     (λ a. spelt-next 0 x (omega arith) [])
     (λ a b. spelt-next 0 (x / 10) (omega arith) (digit x ∷ []) ∙ tens)
@@ -87,7 +92,8 @@ decimal-first x h k =
 -- ---- the happy lamps
 listed-append : (xs ys : List ℕ) → listed (xs ++ ys) ≡ listed xs ++ listed ys
 listed-append [] ys = refl
-listed-append (x ∷ xs) ys = ap (λ z. field (letters " ") x ++ z) (listed-append xs ys) ∙ sym (append-assoc (field (letters " ") x) (listed xs) (listed ys))
+listed-append (x ∷ xs) ys =
+    ap (λ z. field (letters " ") x ++ z) (listed-append xs ys) ∙ sym (append-assoc (field (letters " ") x) (listed xs) (listed ys))
 
 keep-append : (test : ℕ → Bool) (xs ys : List ℕ) → keep test (xs ++ ys) ≡ keep test xs ++ keep test ys
 keep-append test [] ys = refl
@@ -100,7 +106,8 @@ unfolding names name tabulate
 names-members set zero = refl
 names-members set (suc n) =
     let place : suc n - 1 ≡ n = omega arith in
-    let last : joined (name set n) ≡ listed (keep (member set) (suc n ∷ [])) = rw place (⊎-elim (λ e. rw e refl) (λ e. rw e refl) (true-or-false (bit set n))) in
+    let last : joined (name set n) ≡ listed (keep (member set) (suc n ∷ [])) =
+    rw place (⊎-elim (λ e. rw e refl) (λ e. rw e refl) (true-or-false (bit set n))) in
     joined-append (names set n) (name set n)
     ∙ ap₂ (λ xs ys. xs ++ ys) (names-members set n) last
     ∙ sym (listed-append (keep (member set) (parties n)) (keep (member set) (suc n ∷ [])))
@@ -109,7 +116,7 @@ names-members set (suc n) =
 -- ---- the opening
 module _ (n t : ℕ) (size : sizes n t ≡ true) (shares : List ℕ) (long : length shares ≡ n) where
   fine : Points modulus (points n)
-  fine = points-fine modulus prime (lit< tt) n t size
+  fine = points-fine (setting modulus n t) (record { prime = prime; above = lit< tt; size = size })
 
   same : length (points n) ≡ length shares
   same = length-points n ∙ sym long
@@ -121,21 +128,33 @@ module _ (n t : ℕ) (size : sizes n t ≡ true) (shares : List ℕ) (long : len
   needed = ap (λ m. fit modulus t (m - t) (points n) shares) (sym (length-points n))
 
   -- The published list opens the constant of the polynomial that differs from it in at most t places.
-  pub opened-nearest : (f : List ℕ) → Nearest modulus t (points n) shares f → lastLine true n t shares ≡ line (letters "opened ") (constant f)
+  pub opened-near : (f : List ℕ) → Near modulus t (points n) shares f
+      → lastLine true n t shares ≡ line (letters "opened ") (constant f)
   unfolding lastLine
-  opened-nearest f near = ap openedLine (needed ∙ near-found modulus prime t (points n) shares fine same enough f near)
+  opened-near f near = ap openingLine (needed ∙ near-found modulus prime t (points n) shares fine same enough f near)
 
-  -- It is refused with 10 only where there is none.
-  pub opened-none : ((f : List ℕ) → Nearest modulus t (points n) shares f → ⊥) → lastLine true n t shares ≡ line (letters "opened refused ") 10
+  -- It is refused only where there is none.
+  pub opened-none : ((f : List ℕ) → Near modulus t (points n) shares f → ⊥)
+      → lastLine true n t shares ≡ line (letters "opened refused ") (refusalNumber NoOpening)
   unfolding lastLine
-  opened-none never = ap openedLine (needed ∙ near-none modulus prime t (points n) shares fine same enough .1 never)
+  opened-none never = ap openingLine (needed ∙ near-none modulus prime t (points n) shares fine same enough .1 never)
 
 -- ---- No text is empty.
-some-text : (o : Option ℕ) (bytes : List ℕ) → 1 ≤ length (textBy o bytes)
+some-text : (r : Reading) (bytes : List ℕ) → 1 ≤ length (textBy r bytes)
 unfolding textBy textOf
-some-text none bytes = omega arith
-some-text (some k) bytes = omega arith
+some-text (Fine n t) bytes = omega arith
+some-text (Refused why) bytes = omega arith
 
 pub text-some : (bytes : List ℕ) → 1 ≤ length (text bytes)
 unfolding text
-text-some bytes = some-text (numberOf (reading bytes)) bytes
+text-some bytes = some-text (reading bytes) bytes
+
+-- ---- a refused record
+-- One line alone, with the number of the refusal.
+pub text-refused : (bytes : List ℕ) (k : ℕ) → readingNumber (reading bytes) ≡ some k → text bytes ≡ refusedLine k
+unfolding text textBy
+text-refused bytes k e = by (reading bytes) e
+  where
+    by : (r : Reading) → readingNumber r ≡ some k → textBy r bytes ≡ refusedLine k
+    by (Fine n t) e = absurd (let z : _≡_ {A = ℕ} 0 1 = cc in omega arith)
+    by (Refused why) e = ap refusedLine (let same : some (refusalNumber why) ≡ some k = e in cc)

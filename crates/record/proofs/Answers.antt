@@ -1,56 +1,64 @@
--- Laws of reading: which answer when, that `Fine` means a record, and what its sections are.
+-- Laws of reading: which answer when, that what is found fine is a record and the other way round, and what the sections of a record are.
 use mathlib.Core.Path.{_≡_, refl, sym, ap, ap₂, _∙_}
-use mathlib.Core.Bool.{Bool, true, false, cond, and-eq-true-iff, false≢true}
+use mathlib.Core.Logic.{⊎-elim}
+use mathlib.Core.Bool.{Bool, true, false, and-eq-true-iff}
 use mathlib.Core.Option.{none, some}
 use mathlib.Core.List.{List, []}
 use Prim.Native.Nat.{ℕ, zero, suc, _+_, _*_, _-_, _≤_, _<_}
-use native.Mathlib.Nat.{add-sub-cancel-left}
 use native.Mathlib.Omega.{arith}
-use lib.Dec.{eqb, ltb}
+use lib.Dec.{eqb, leb}
 use lib.ListN.{length, getD, take, drop, length-drop}
-use lib.Seq.{length-take-le}
-use borrow.Author.Tests.{lt-ltb, le-ltb, ltb-false, le-leb, lt-leb, eqb-true, eq-eqb, ne-eqb}
+use lib.Seq.{take-all, length-take-le}
+use borrow.Author.Tests.{leb-true, le-leb, lt-leb, eqb-true, eq-eqb, ne-eqb}
+use Rattle.lists.proofs.Cases.{le-or-lt}
+use Rattle.lists.proofs.InPlace.{drop-end}
+use Rattle.answers.specs.declared.Refusal.the-variants.{WrongSize, WrongDirectory}
+use Rattle.answers.specs.declared.Admission.{Admission}
+use Rattle.answers.specs.declared.Admission.the-variants.{Pass, Fail}
+use Rattle.answers.specs.Refusals.{refusalNumber, lowest}
+use Rattle.answers.proofs.Tests.{lowest-pass}
 use Rattle.parties.specs.Parties.{sizes}
 use Rattle.record.specs.declared.Reading.{Reading}
-use Rattle.record.specs.declared.Reading.the-variants.{Fine, WrongSize, WrongDirectory}
+use Rattle.record.specs.declared.Reading.the-variants.{Fine, Refused}
 use Rattle.record.specs.Bytes.{numberAt, standAt}
-use Rattle.record.specs.Record.{sectionLength, sectionStart, directory, directoryRight, nOf, tOf, reading, IsRecord, numberOf, isFine, sectionOf}
+use Rattle.record.specs.Record.{sectionLength, sectionStart, directory, directoryRight, nOf, tOf, IsRecord, sectionOf}
+use Rattle.record.specs.Record.{readingTests, readBy, reading, readingNumber}
 use Rattle.record.proofs.Bytes.{stand-facts, stand-true}
 use Rattle.record.proofs.Sections.{sections-small, length-directory, directory-offset, directory-count, section-before-end}
 
 -- ---- Which answer when, in document 01's order
 module _ (bytes : List ℕ) where
-  pub reading-short : length bytes < 2 → reading bytes ≡ WrongDirectory
+  pub reading-short : length bytes < 2 → reading bytes ≡ Refused WrongDirectory
   unfolding reading
-  reading-short h = simp (lt-ltb _ _ h)
+  reading-short h = simp (lt-leb _ _ h)
 
   module _ (two : 2 ≤ length bytes) where
-    pub reading-size : sizes (nOf bytes) (tOf bytes) ≡ false → reading bytes ≡ WrongSize
+    pub reading-size : sizes (nOf bytes) (tOf bytes) ≡ false → reading bytes ≡ Refused WrongSize
     unfolding reading
-    reading-size e = simp (le-ltb _ _ two, e)
+    reading-size e = simp (le-leb _ _ two, e)
 
-    pub reading-wrong : sizes (nOf bytes) (tOf bytes) ≡ true → directoryRight bytes (nOf bytes) (tOf bytes) ≡ false → reading bytes ≡ WrongDirectory
+    pub reading-wrong : sizes (nOf bytes) (tOf bytes) ≡ true → directoryRight bytes (nOf bytes) (tOf bytes) ≡ false
+        → reading bytes ≡ Refused WrongDirectory
     unfolding reading
-    reading-wrong e d = simp (le-ltb _ _ two, e, d)
+    reading-wrong e d = simp (le-leb _ _ two, e, d)
 
-    pub reading-fine : sizes (nOf bytes) (tOf bytes) ≡ true → directoryRight bytes (nOf bytes) (tOf bytes) ≡ true → reading bytes ≡ Fine
+    pub reading-fine : sizes (nOf bytes) (tOf bytes) ≡ true → directoryRight bytes (nOf bytes) (tOf bytes) ≡ true
+        → reading bytes ≡ Fine (nOf bytes) (tOf bytes)
     unfolding reading
-    reading-fine e d = simp (le-ltb _ _ two, e, d)
+    reading-fine e d = simp (le-leb _ _ two, e, d)
 
--- The same in document 01's numbers: 6, 1, 6, none.
+-- The same in document 01's numbers.
 module _ (bytes : List ℕ) where
-  pub number-short : length bytes < 2 → numberOf (reading bytes) ≡ some 6
-  number-short h = ap numberOf (reading-short bytes h)
+  pub number-short : length bytes < 2 → readingNumber (reading bytes) ≡ some (refusalNumber WrongDirectory)
+  number-short h = ap readingNumber (reading-short bytes h)
 
-  pub number-size : 2 ≤ length bytes → sizes (nOf bytes) (tOf bytes) ≡ false → numberOf (reading bytes) ≡ some 1
-  number-size two e = ap numberOf (reading-size bytes two e)
+  pub number-size : 2 ≤ length bytes → sizes (nOf bytes) (tOf bytes) ≡ false
+      → readingNumber (reading bytes) ≡ some (refusalNumber WrongSize)
+  number-size two e = ap readingNumber (reading-size bytes two e)
 
   pub number-directory : 2 ≤ length bytes → sizes (nOf bytes) (tOf bytes) ≡ true → directoryRight bytes (nOf bytes) (tOf bytes) ≡ false
-      → numberOf (reading bytes) ≡ some 6
-  number-directory two e d = ap numberOf (reading-wrong bytes two e d)
-
-  pub number-none : reading bytes ≡ Fine → numberOf (reading bytes) ≡ none
-  number-none e = ap numberOf e
+      → readingNumber (reading bytes) ≡ some (refusalNumber WrongDirectory)
+  number-directory two e d = ap readingNumber (reading-wrong bytes two e d)
 
 -- As the code tests the directory: first where the record ends.
 module _ (bytes : List ℕ) (n t : ℕ) where
@@ -58,77 +66,107 @@ module _ (bytes : List ℕ) (n t : ℕ) where
   unfolding directoryRight
   directory-no d = simp (ne-eqb _ _ d)
 
-  pub directory-by : (list : List ℕ) → list ≡ directory n t → length bytes ≡ sectionStart n t 4 → standAt bytes 2 list ≡ directoryRight bytes n t
+  pub directory-by : (list : List ℕ) → list ≡ directory n t → length bytes ≡ sectionStart n t 4
+      → standAt bytes 2 list ≡ directoryRight bytes n t
   unfolding directoryRight
   directory-by list e end = ap (standAt bytes 2) e ∙ simp (eq-eqb _ _ end)
 
-pub fine-only : (r : Reading) → isFine r ≡ true → r ≡ Fine
-fine-only Fine e = refl
-fine-only WrongSize e = absurd (false≢true e)
-fine-only WrongDirectory e = absurd (false≢true e)
+-- ---- A fine record is a record, and a record is fine
 
--- ---- A fine record is a record
+-- Nothing is found fine but where every test passes, and the sizes are handed on.
+passed : (a : Admission) (m s n t : ℕ) → readBy a m s ≡ Fine n t → (a ≡ Pass) × (n ≡ m) × (t ≡ s)
+passed Pass m s n t e = (refl, cc, cc)
+passed (Fail why) m s n t e = absurd (let z : _≡_ {A = ℕ} 0 1 = cc in omega arith)
 
--- Every test passed.
-passed : (short size right : Bool) → isFine (cond short WrongDirectory (cond size (cond right Fine WrongDirectory) WrongSize)) ≡ true
-    → (short ≡ false) × (size ≡ true) × (right ≡ true)
-passed true size right e = absurd (false≢true e)
-passed false true true e = (refl, refl, refl)
-passed false true false e = absurd (false≢true e)
-passed false false right e = absurd (false≢true e)
+module _ (bytes : List ℕ) where
+  pub fine-sizes : (n t : ℕ) → reading bytes ≡ Fine n t → (n ≡ nOf bytes) × (t ≡ tOf bytes)
+  unfolding reading
+  fine-sizes n t e = let q = passed (lowest (readingTests bytes)) (nOf bytes) (tOf bytes) n t e in (q .1, q .2)
 
-pub fine-passed : (bytes : List ℕ) → reading bytes ≡ Fine
-    → (2 ≤ length bytes) × (sizes (nOf bytes) (tOf bytes) ≡ true) × (length bytes ≡ sectionStart (nOf bytes) (tOf bytes) 4)
-    × ((k : ℕ) → k < 8 → numberAt bytes (2 + 2 * k) ≡ getD (directory (nOf bytes) (tOf bytes)) k 0)
-unfolding reading directoryRight
-fine-passed bytes e =
-    let n = nOf bytes in
-    let t = tOf bytes in
-    let (long, size, right) = passed (ltb (length bytes) 2) (sizes n t) (directoryRight bytes n t) (ap isFine e) in
-    let (end, stand) = and-eq-true-iff (eqb (length bytes) (sectionStart n t 4)) (standAt bytes 2 (directory n t)) .0 right in
-    (ltb-false _ _ long, size, eqb-true _ _ end, λ k h. stand-facts bytes 2 (directory n t) stand k (omega (arith, length-directory n t)))
+  pub fine-record : (n t : ℕ) → reading bytes ≡ Fine n t → IsRecord bytes
+  unfolding reading directoryRight
+  fine-record a b e =
+      let n = nOf bytes in
+      let t = tOf bytes in
+      let (long, (size, (right, rest))) = lowest-pass (readingTests bytes) (passed (lowest (readingTests bytes)) n t a b e .0) in
+      let (ends, stand) = and-eq-true-iff (eqb (length bytes) (sectionStart n t 4)) (standAt bytes 2 (directory n t)) .0 right in
+      let each : (k : ℕ) → k < 8 → numberAt bytes (2 + 2 * k) ≡ getD (directory n t) k 0 = λ k h.
+      stand-facts bytes 2 (directory n t) stand k (omega (arith, length-directory n t)) in
+      record {
+        two = leb-true _ _ long;
+        size = size;
+        offset = λ k h.
+            let place : 2 + 4 * k ≡ 2 + 2 * (2 * k) = omega arith in
+            ap (numberAt bytes) place ∙ each (2 * k) (omega arith) ∙ directory-offset n t k h;
+        count = λ k h.
+            let place : 4 + 4 * k ≡ 2 + 2 * (2 * k + 1) = omega arith in
+            ap (numberAt bytes) place ∙ each (2 * k + 1) (omega arith) ∙ directory-count n t k h;
+        end = eqb-true _ _ ends;
+      }
 
-pub fine-record : (bytes : List ℕ) → reading bytes ≡ Fine → IsRecord bytes
-fine-record bytes e =
-    let n = nOf bytes in
-    let t = tOf bytes in
-    let (two, size, end, at) = fine-passed bytes e in
-    record {
-      two = two;
-      size = size;
-      offset = λ k h.
-          let place : 2 + 4 * k ≡ 2 + 2 * (2 * k) = omega arith in
-          ap (numberAt bytes) place ∙ at (2 * k) (omega arith) ∙ directory-offset n t k h;
-      count = λ k h.
-          let place : 4 + 4 * k ≡ 2 + 2 * (2 * k + 1) = omega arith in
-          ap (numberAt bytes) place ∙ at (2 * k + 1) (omega arith) ∙ directory-count n t k h;
-      end = end;
-    }
+module _ (bytes : List ℕ) (r : IsRecord bytes) where
+  -- The longest record is that of 16 parties, 3 of them faulty.
+  pub longest : length bytes ≤ 1362
+  longest = omega (arith, r .end, sections-small (nOf bytes) (tOf bytes) (r .size))
 
--- The longest record is that of 16 parties, 3 of them faulty.
-pub longest : (bytes : List ℕ) → reading bytes ≡ Fine → length bytes ≤ 1362
-longest bytes e =
-    let (two, size, end, at) = fine-passed bytes e in
-    let (deals, pairs, each) = sections-small (nOf bytes) (tOf bytes) size in
-    omega arith
+  -- Each number of the directory is an offset or a length.
+  pub record-directory : (k : ℕ) → k < length (directory (nOf bytes) (tOf bytes))
+      → numberAt bytes (2 + 2 * k) ≡ getD (directory (nOf bytes) (tOf bytes)) k 0
+  unfolding directory
+  record-directory zero h = r .offset 0 (omega arith)
+  record-directory (suc zero) h = r .count 0 (omega arith)
+  record-directory (suc (suc zero)) h = r .offset 1 (omega arith)
+  record-directory (suc (suc (suc zero))) h = r .count 1 (omega arith)
+  record-directory (suc (suc (suc (suc zero)))) h = r .offset 2 (omega arith)
+  record-directory (suc (suc (suc (suc (suc zero))))) h = r .count 2 (omega arith)
+  record-directory (suc (suc (suc (suc (suc (suc zero)))))) h = r .offset 3 (omega arith)
+  record-directory (suc (suc (suc (suc (suc (suc (suc zero))))))) h = r .count 3 (omega arith)
+  record-directory (suc (suc (suc (suc (suc (suc (suc (suc k)))))))) h = absurd (omega arith)
 
--- Each number of the directory is an offset or a length.
-pub record-fine : (bytes : List ℕ) → IsRecord bytes → reading bytes ≡ Fine
-unfolding directoryRight directory
-record-fine bytes r =
-    let stand : standAt bytes 2 (directory (nOf bytes) (tOf bytes)) ≡ true = stand-true bytes 2 (directory (nOf bytes) (tOf bytes)) each in
-    reading-fine bytes (r .two) (r .size) (simp (eq-eqb _ _ (r .end), stand))
-  where
-    each : (k : ℕ) → k < length (directory (nOf bytes) (tOf bytes)) → numberAt bytes (2 + 2 * k) ≡ getD (directory (nOf bytes) (tOf bytes)) k 0
-    each zero h = r .offset 0 (omega arith)
-    each (suc zero) h = r .count 0 (omega arith)
-    each (suc (suc zero)) h = r .offset 1 (omega arith)
-    each (suc (suc (suc zero))) h = r .count 1 (omega arith)
-    each (suc (suc (suc (suc zero)))) h = r .offset 2 (omega arith)
-    each (suc (suc (suc (suc (suc zero))))) h = r .count 2 (omega arith)
-    each (suc (suc (suc (suc (suc (suc zero)))))) h = r .offset 3 (omega arith)
-    each (suc (suc (suc (suc (suc (suc (suc zero))))))) h = r .count 3 (omega arith)
-    each (suc (suc (suc (suc (suc (suc (suc (suc k)))))))) h = absurd (omega arith)
+  pub record-fine : reading bytes ≡ Fine (nOf bytes) (tOf bytes)
+  unfolding directoryRight
+  record-fine =
+      let list : List ℕ = directory (nOf bytes) (tOf bytes) in
+      let stand : standAt bytes 2 list ≡ true = stand-true bytes 2 list record-directory in
+      reading-fine bytes (r .two) (r .size) (simp (eq-eqb _ _ (r .end), stand))
+
+  pub number-none : readingNumber (reading bytes) ≡ none
+  number-none = ap readingNumber record-fine
+
+-- ---- A part from `offset` on of `count` bytes, as far as the bytes reach
+module _ (bytes : List ℕ) (from end offset count : ℕ) (f : from ≡ length bytes - (length bytes - offset))
+    (e : end ≡ length bytes - (length bytes - (offset + count))) where
+  -- The part is the same though it is cut.
+  abbrev Reached : Type 0
+  Reached = take (end - from) (drop from bytes) ≡ take count (drop offset bytes)
+
+  -- The offset lies behind the bytes.
+  none-reached : length bytes ≤ offset → Reached
+  none-reached h =
+      ap (take (end - from)) (drop-end bytes from (omega arith))
+      ∙ take-all (end - from) [] (omega arith)
+      ∙ sym (take-all count [] (omega arith))
+      ∙ ap (take count) (sym (drop-end bytes offset h))
+
+  -- The end does.
+  some-reached : offset < length bytes → length bytes ≤ offset + count → Reached
+  some-reached h l =
+      let here : from ≡ offset = omega arith in
+      let long = length-drop offset bytes in
+      ap (λ z. take (end - from) (drop z bytes)) here
+      ∙ take-all (end - from) (drop offset bytes) (omega arith)
+      ∙ sym (take-all count (drop offset bytes) (omega arith))
+
+  all-reached : offset + count < length bytes → Reached
+  all-reached h =
+      let here : from ≡ offset = omega arith in
+      let long : end - from ≡ count = omega arith in
+      ap₂ (λ a b. take a (drop b bytes)) long here
+
+  part-reached : Reached
+  part-reached =
+      ⊎-elim none-reached (λ h. ⊎-elim (some-reached h) all-reached (le-or-lt (length bytes) (offset + count)))
+      (le-or-lt (length bytes) offset)
 
 -- ---- The sections
 module _ (bytes : List ℕ) (k : ℕ) where
@@ -136,38 +174,28 @@ module _ (bytes : List ℕ) (k : ℕ) where
   unfolding sectionOf
   section-above h = simp (lt-leb _ _ h)
 
-  pub section-refused : k ≤ 3 → isFine (reading bytes) ≡ false → sectionOf bytes k ≡ []
-  unfolding sectionOf
-  section-refused h e = simp (le-leb _ _ h, e)
-
-  module _ (fine : reading bytes ≡ Fine) (h : k ≤ 3) where
-    -- The bytes that the directory names lie within the record.
-    pub section-room : numberAt bytes (2 + 4 * k) + numberAt bytes (4 + 4 * k) ≤ length bytes
-    section-room =
-        let r = fine-record bytes fine in
-        omega (arith, r .offset k h, r .count k h, r .end, section-before-end (nOf bytes) (tOf bytes) k h)
-
-    pub section-named : sectionOf bytes k ≡ take (numberAt bytes (4 + 4 * k)) (drop (numberAt bytes (2 + 4 * k)) bytes)
+  module _ (h : k ≤ 3) where
+    section-named : sectionOf bytes k ≡ take (numberAt bytes (4 + 4 * k)) (drop (numberAt bytes (2 + 4 * k)) bytes)
     unfolding sectionOf
-    section-named = simp (le-leb _ _ h, fine)
+    section-named = simp (le-leb _ _ h)
 
-    -- As the code takes it: from the offset to the end.
-    pub section-part : (from count : ℕ) → from ≡ numberAt bytes (2 + 4 * k) → count ≡ numberAt bytes (4 + 4 * k)
-        → take (from + count - from) (drop from bytes) ≡ sectionOf bytes k
-    section-part from count f c =
-        ap (λ z. take z (drop from bytes)) (add-sub-cancel-left from count)
-        ∙ ap₂ (λ a b. take b (drop a bytes)) f c
-        ∙ sym section-named
+    -- As the code takes it: from the offset to the end, as far as the bytes reach.
+    pub section-part : (from end offset count : ℕ) → from ≡ length bytes - (length bytes - offset)
+        → end ≡ length bytes - (length bytes - (offset + count)) → offset ≡ numberAt bytes (2 + 4 * k) → count ≡ numberAt bytes (4 + 4 * k)
+        → take (end - from) (drop from bytes) ≡ sectionOf bytes k
+    section-part from end offset count f e o c =
+        part-reached bytes from end offset count f e ∙ ap₂ (λ a b. take b (drop a bytes)) o c ∙ sym section-named
 
-    pub section-at : sectionOf bytes k ≡ take (sectionLength (nOf bytes) (tOf bytes) k) (drop (sectionStart (nOf bytes) (tOf bytes) k) bytes)
-    section-at =
-        let r = fine-record bytes fine in
-        section-named ∙ ap₂ (λ a b. take b (drop a bytes)) (r .offset k h) (r .count k h)
+  -- Of a record each section has document 01's place and length.
+  module _ (r : IsRecord bytes) (h : k ≤ 3) where
+    pub section-at : sectionOf bytes k
+        ≡ take (sectionLength (nOf bytes) (tOf bytes) k) (drop (sectionStart (nOf bytes) (tOf bytes) k) bytes)
+    section-at = section-named h ∙ ap₂ (λ a b. take b (drop a bytes)) (r .offset k h) (r .count k h)
 
     pub length-section : length (sectionOf bytes k) ≡ sectionLength (nOf bytes) (tOf bytes) k
     length-section =
-        let r = fine-record bytes fine in
         let start : ℕ = sectionStart (nOf bytes) (tOf bytes) k in
         let size : ℕ = sectionLength (nOf bytes) (tOf bytes) k in
         ap length section-at
-        ∙ length-take-le size (drop start bytes) (omega (arith, length-drop start bytes, r .end, section-before-end (nOf bytes) (tOf bytes) k h))
+        ∙ length-take-le size (drop start bytes)
+        (omega (arith, length-drop start bytes, r .end, section-before-end (nOf bytes) (tOf bytes) k h))

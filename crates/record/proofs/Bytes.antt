@@ -45,7 +45,8 @@ numbers-take (suc k) (high ∷ []) = let next : 2 * suc k ≡ suc (suc (2 * k)) 
 numbers-take (suc k) (high ∷ low ∷ bytes) =
     let next : 2 * suc k ≡ suc (suc (2 * k)) = omega arith in rw next (ap (λ z. (high * 256 + low) ∷ z) (numbers-take k bytes))
 
-pub numbers-part : (from count : ℕ) (bytes : List ℕ) → numbers (take (2 * count) (drop (2 * from) bytes)) ≡ take count (drop from (numbers bytes))
+pub numbers-part : (from count : ℕ) (bytes : List ℕ)
+    → numbers (take (2 * count) (drop (2 * from) bytes)) ≡ take count (drop from (numbers bytes))
 numbers-part from count bytes = numbers-take count (drop (2 * from) bytes) ∙ ap (take count) (numbers-drop from bytes)
 
 pub numbers-below : (bytes : List ℕ) → All (λ b. b < 256) bytes → All (λ x. x < 65536) (numbers bytes)

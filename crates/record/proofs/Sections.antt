@@ -1,15 +1,16 @@
--- Laws of the sections' sizes and of the directory: all is small, section k lies before the record's end, and the directory has its offset and length.
+-- Laws of the sections' sizes and of the directory: all is small, section k lies before the record's end, and the directory has its offset
+-- and length.
 use mathlib.Core.Path.{_≡_, refl, ap}
-use mathlib.Core.Bool.{true}
+use mathlib.Core.Bool.{true, false}
 use mathlib.Core.List.{List, [], _∷_}
 use Prim.Native.Nat.{ℕ, zero, suc, _+_, _*_, _≤_, _<_}
 use native.Mathlib.Nat.{mul-le-mul}
 use native.Mathlib.Omega.{arith}
-use lib.ListN.{length, getD}
+use lib.ListN.{length, getD, replicate}
 use Rattle.lists.specs.All.{All}
 use Rattle.parties.specs.Parties.{sizes}
 use Rattle.parties.proofs.Parties.{sizes-facts}
-use Rattle.record.specs.Record.{sectionLength, sectionStart, directory}
+use Rattle.record.specs.Record.{sectionLength, sectionStart, directory, directoryOrZeros}
 
 module _ (n t : ℕ) where
   -- ---- All is small: deals and round two are the only sections whose length is a product
@@ -47,6 +48,15 @@ module _ (n t : ℕ) where
   directory-count (suc (suc zero)) h = refl
   directory-count (suc (suc (suc zero))) h = refl
   directory-count (suc (suc (suc (suc k)))) h = absurd (omega arith)
+
+  -- As the code makes it: for legal sizes, and for any others.
+  pub directory-legal : sizes n t ≡ true → directoryOrZeros n t ≡ directory n t
+  unfolding directoryOrZeros
+  directory-legal e = rw e
+
+  pub directory-zeros : sizes n t ≡ false → replicate 8 0 ≡ directoryOrZeros n t
+  unfolding directoryOrZeros
+  directory-zeros e = rw e
 
   -- The last offset and the last length give the record's end.
   pub directory-end : (list : List ℕ) → list ≡ directory n t → getD list 6 0 + getD list 7 0 ≡ sectionStart n t 4

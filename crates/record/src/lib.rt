@@ -1,17 +1,17 @@
 // The record's reader: whether bytes are a record, its sections as parts of the caller's bytes, and their numbers.
 ghost use mathlib.Core.Path.{_≡_};
 ghost use mathlib.Core.Bool.{true};
-ghost use Prim.Native.Nat.{_+_, _*_, _≤_};
-ghost use lib.ListN.{length};
+ghost use Prim.Native.Nat.{_+_, _*_, _-_, _≤_};
+ghost use lib.ListN.{length, getD};
 ghost use Rattle.parties.specs.Parties.{sizes};
 ghost use Rattle.record.specs.Bytes.{numberAt, numbers, numberIn, standAt, over};
-ghost use Rattle.record.specs.Record.{directory, directoryRight, reading, isFine, sectionOf};
+ghost use Rattle.record.specs.Record.{directoryOrZeros, directoryRight, reading, sectionOf};
+use answers::Refusal;
 
-// What the reader answers. Document 01's number of each refusal is `numberOf` in the definitions.
+// What the reader answers: the record's n and t, or why it is refused.
 pub enum Reading {
-    Fine,
-    WrongSize,
-    WrongDirectory,
+    Fine(u8, u8),
+    Refused(Refusal),
 }
 
 // A byte as a number of 16 bits, with the bound that the sum below needs.
@@ -46,11 +46,13 @@ fn stand_at(bytes: &[u8], at: usize, list: &[u16]) -> bool
     true
 }
 
-// The directory that a record for n and t has.
-fn directory(n: u8, t: u8) -> [u16; 8]
-    requires { ⌜ sizes n t ≡ true ⌝ }
-    ensures { λ r. ⌜ r ≡ directory n t ⌝ }
+// The directory that a record for n and t has, for reader and writer; eight zeros where the sizes are not legal.
+pub fn directory(n: u8, t: u8) -> [u16; 8]
+    ensures { λ r. ⌜ r ≡ directoryOrZeros n t ⌝ }
 {
+    if !parties::sizes(n, t) {
+        return [0; 8];
+    }
     let n = n as u16;
     let deals = 4 * n * (t as u16 + 1);
     let pairs = 4 * n * n;
@@ -75,49 +77,64 @@ fn directory_right(bytes: &[u8], n: u8, t: u8) -> bool
     stand_at(bytes, 2, &numbers[..8])
 }
 
-// Whether the bytes are a record, and if not, why.
+// The sizes of a record, or why the bytes are none.
 pub fn read(bytes: &[u8]) -> Reading
     ensures { λ r. ⌜ r ≡ reading (now (bytes .entry)) ⌝ }
 {
     if bytes.len() < 2 {
-        return Reading::WrongDirectory;
+        return Reading::Refused(Refusal::WrongDirectory);
     }
     let n = bytes[0];
     let t = bytes[1];
     if !parties::sizes(n, t) {
-        return Reading::WrongSize;
+        return Reading::Refused(Refusal::WrongSize);
     }
     if !directory_right(bytes, n, t) {
-        return Reading::WrongDirectory;
+        return Reading::Refused(Refusal::WrongDirectory);
     }
-    Reading::Fine
+    Reading::Fine(n, t)
 }
 
-// Whether the record is not refused.
-fn is_fine(answer: Reading) -> bool
-    ensures { λ r. ⌜ r ≡ isFine answer ⌝ }
+// The byte at a place as a number of 16 bits, 0 behind the last.
+fn byte_at(bytes: &[u8], at: usize) -> u16
+    ensures { λ r. ⌜ (r ≡ getD (now (bytes .entry)) at 0) × (r ≤ 255) ⌝ }
 {
-    match answer {
-        Reading::Fine => true,
-        Reading::WrongSize => false,
-        Reading::WrongDirectory => false,
+    if bytes.len() <= at {
+        return 0;
     }
+    wide(bytes[at])
 }
 
-// Section k (deals, round two, reports, published shares): a part of the caller's bytes, empty where there is none.
+// The number at a place of the head, which may be cut short.
+fn head_number(bytes: &[u8], at: usize) -> usize
+    requires { ⌜ at ≤ 16 ⌝ }
+    ensures { λ r. ⌜ (r ≡ numberAt (now (bytes .entry)) at) × (r ≤ 65535) ⌝ }
+{
+    (byte_at(bytes, at) * 256 + byte_at(bytes, at + 1)) as usize
+}
+
+// x, but not more than `most`.
+fn at_most(most: usize, x: usize) -> usize
+    ensures { λ r. ⌜ r ≡ most - (most - x) ⌝ }
+{
+    if most < x {
+        return most;
+    }
+    x
+}
+
+// Section k (deals, round two, reports, published shares): a part of the caller's bytes, as far as these reach. Whether they are a record
+// is not asked: `read` does that, once.
 pub fn section(bytes: &[u8], k: usize) -> &[u8]
     ensures { λ r. ⌜ now r ≡ sectionOf (now (bytes .entry)) k ⌝ }
 {
     if 3 < k {
         return &bytes[0..0];
     }
-    if !is_fine(read(bytes)) {
-        return &bytes[0..0];
-    }
-    // The directory of a fine record names bytes of it.
-    let from = number_at(bytes, 2 + 4 * k) as usize;
-    let count = number_at(bytes, 4 + 4 * k) as usize;
-    let end = from + count;
+    let offset = head_number(bytes, 2 + 4 * k);
+    let count = head_number(bytes, 4 + 4 * k);
+    let from = at_most(bytes.len(), offset);
+    let end = at_most(bytes.len(), offset + count);
     &bytes[from..end]
 }
 
@@ -131,7 +148,8 @@ pub fn number(part: &[u8], k: usize) -> u16
     number_at(part, 2 * k)
 }
 
-// Copies the numbers of a section over the front of a lent list. It is a copy, not a call of the protocol: a list of another length is not refused but filled as far as both reach, so a longer one keeps its rest and a shorter one gets only the first numbers.
+// Copies the numbers of a section over the front of a lent list. It is a copy, not a call of the protocol: a list of another length is not
+// refused but filled as far as both reach, so a longer one keeps its rest and a shorter one gets only the first numbers.
 pub fn numbers(part: &[u8], out: &mut [u16])
     ensures { λ r. ⌜ now (out .exit) ≡ over (numbers (now (part .entry))) (now (out .entry)) ⌝ }
 {

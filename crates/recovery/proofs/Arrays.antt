@@ -25,15 +25,16 @@ getD-hide mark (m ∷ ms) (x ∷ xs) zero h l = refl
 getD-hide mark (m ∷ ms) (x ∷ xs) (suc k) h l = getD-hide mark ms xs k (omega arith) (omega arith)
 
 module _ (mark S n : ℕ) (heard : List ℕ) (inside : n ≤ length heard) where
-  sizes : length (tabulate (bit S) n) ≡ length (take n heard)
-  sizes = length-tabulate (bit S) n ∙ sym (length-take-le n heard inside)
+  lengths : length (tabulate (bit S) n) ≡ length (take n heard)
+  lengths = length-tabulate (bit S) n ∙ sym (length-take-le n heard inside)
 
   pub length-heard : length (hide mark (tabulate (bit S) n) (take n heard)) ≡ n
-  length-heard = length-hide mark (tabulate (bit S) n) (take n heard) sizes ∙ length-take-le n heard inside
+  length-heard = length-hide mark (tabulate (bit S) n) (take n heard) lengths ∙ length-take-le n heard inside
 
   pub getD-heard : (k : ℕ) → k < n → getD (hide mark (tabulate (bit S) n) (take n heard)) k 0 ≡ heardAt mark S heard k
   getD-heard k h =
-      getD-hide mark (tabulate (bit S) n) (take n heard) k (omega (arith, length-tabulate (bit S) n)) (omega (arith, length-take-le n heard inside))
+      getD-hide mark (tabulate (bit S) n) (take n heard) k (omega (arith, length-tabulate (bit S) n))
+      (omega (arith, length-take-le n heard inside))
       ∙ ap₂ (λ (b : Bool) (x : ℕ). cond b x mark) (getD-tabulate (bit S) n k false h) (getD-take n heard k 0 h)
 
 -- ---- a turn of the loop

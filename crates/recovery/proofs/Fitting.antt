@@ -1,31 +1,38 @@
--- Repair and opening by the lists that the code lends, and what the code answers within the sizes.
+-- Repair and opening by the lists that the code lends, and what the code answers.
+--   fit-lent, repair-hidden   what is lent to the fit
+--   repair-size, repair-number, repair-few; published-size, published-length; opening-size, opening-number, opening-length   refusals
+--   repair-admitted, published-admitted, opening-admitted   otherwise what is decoded
 use mathlib.Core.Path.{_≡_, sym, ap, _∙_}
 use mathlib.Core.Bool.{true, false}
-use mathlib.Core.Option.{none}
 use mathlib.Core.List.{List}
-use Prim.Native.Nat.{ℕ, _-_, _≤_}
+use Prim.Native.Nat.{ℕ, _+_, _*_, _-_, _^_, _≤_, _<_}
 use native.Mathlib.Omega.{arith}
-use borrow.Author.Tests.{eq-eqb, ne-eqb}
+use borrow.Author.Tests.{eq-eqb, ne-eqb, lt-ltb, le-leb, lt-leb}
 use lib.Count.{ones}
+use lib.Dec.{ltb}
 use lib.ListN.{length, take}
 use Rattle.lists.specs.Choices.{hide}
 use Rattle.lists.specs.Masks.{bit}
 use Rattle.lists.specs.Tabulate.{tabulate}
 use Rattle.field.specs.Modulus.{modulus}
-use Rattle.trial.specs.Answer.{answer}
-use Rattle.fit.specs.Answer.{fitIn}
+use Rattle.answers.specs.declared.Refusal.the-variants.{WrongSize, WrongNumber, WrongLength}
+use Rattle.answers.specs.Fits.{decoded, refusedFit}
+use Rattle.fit.specs.Admitted.{fitIn}
 use Rattle.fit.specs.Fit.{fit}
-use Rattle.fit.proofs.Answers.{fit-within}
+use Rattle.fit.proofs.Admitted.{fit-admitted}
 use Rattle.fit.proofs.Selection.{fit-hide}
 use Rattle.parties.specs.Parties.{sizes, isParty, points, notSent}
 use Rattle.parties.proofs.Parties.{length-points, not-sent-above}
 use Rattle.recovery.specs.Recovery.{repair, openingOf, openingWith, repairIn, publishedIn, openingIn}
 
 -- ---- the points and values that the code lends
-pub fit-lent : (n t need : ℕ) (xs values : List ℕ) → t ≤ 3 → length values ≡ n → xs ≡ points n
-    → fitIn t need xs values ≡ answer (fit modulus t need (points n) values)
-fit-lent n t need xs values h l e =
-    ap (λ ps. fitIn t need ps values) e ∙ sym (fit-within t need (points n) values h (length-points n ∙ sym l))
+pub fit-lent : (n t need : ℕ) (xs values : List ℕ) → n ≤ 16 → t ≤ 3 → t < need → length values ≡ n → xs ≡ points n
+    → fitIn t need xs values ≡ decoded (fit modulus t need (points n) values)
+fit-lent n t need xs values small degree above l e =
+    let same : length (points n) ≡ n = length-points n in
+    ap (λ ps. fitIn t need ps values) e
+    ∙ fit-admitted t need (points n) values
+    (record { degree = degree; bounded = record { lengths = same ∙ sym l; most = omega arith }; above = above })
 
 -- To hide what parties outside the set said is to leave their points out.
 pub repair-hidden : (n t S : ℕ) (heard : List ℕ)
@@ -36,40 +43,52 @@ repair-hidden n t S heard =
 
 -- ---- what the code answers
 module _ (n t : ℕ) where
-  pub repair-within : (S : ℕ) (heard : List ℕ) → sizes n t ≡ true → answer (repair modulus n t S heard) ≡ repairIn n t S heard
-  unfolding repairIn
-  repair-within S heard h = rw h
+  module _ (S : ℕ) (heard : List ℕ) where
+    pub repair-size : sizes n t ≡ false → refusedFit WrongSize ≡ repairIn n t S heard
+    unfolding repairIn
+    repair-size h = rw h
 
-  pub repair-refused : (S : ℕ) (heard : List ℕ) → sizes n t ≡ false → answer none ≡ repairIn n t S heard
-  unfolding repairIn
-  repair-refused S heard h = rw h
+    module _ (sized : sizes n t ≡ true) where
+      pub repair-number : ltb S (2 ^ n) ≡ false → refusedFit WrongNumber ≡ repairIn n t S heard
+      unfolding repairIn
+      repair-number h = rw (sized, h)
+
+      pub repair-few : ltb S (2 ^ n) ≡ true → ones S < 3 * t + 1 → refusedFit WrongLength ≡ repairIn n t S heard
+      unfolding repairIn
+      repair-few h few = rw (sized, h, lt-leb (3 * t + 1) (ones S) few)
+
+      pub repair-admitted : S < 2 ^ n → 3 * t + 1 ≤ ones S → repairIn n t S heard ≡ decoded (repair modulus n t S heard)
+      unfolding repairIn
+      repair-admitted inside many = rw (sized, lt-ltb S (2 ^ n) inside, le-leb (3 * t + 1) (ones S) many)
 
   module _ (xs : List ℕ) where
-    pub published-within : sizes n t ≡ true → length xs ≡ n → answer (openingOf modulus n t xs) ≡ publishedIn n t xs
-    unfolding publishedIn
-    published-within h e = rw (h, eq-eqb (length xs) n e)
-
-    pub published-size : sizes n t ≡ false → answer none ≡ publishedIn n t xs
+    pub published-size : sizes n t ≡ false → refusedFit WrongSize ≡ publishedIn n t xs
     unfolding publishedIn
     published-size h = rw h
 
-    pub published-length : sizes n t ≡ true → (length xs ≡ n → ⊥) → answer none ≡ publishedIn n t xs
-    unfolding publishedIn
-    published-length h d = rw (h, ne-eqb (length xs) n d)
+    module _ (sized : sizes n t ≡ true) where
+      pub published-length : (length xs ≡ n → ⊥) → refusedFit WrongLength ≡ publishedIn n t xs
+      unfolding publishedIn
+      published-length d = rw (sized, ne-eqb (length xs) n d)
+
+      pub published-admitted : length xs ≡ n → publishedIn n t xs ≡ decoded (openingOf modulus n t xs)
+      unfolding publishedIn
+      published-admitted e = rw (sized, eq-eqb (length xs) n e)
 
   module _ (i v : ℕ) (xs : List ℕ) where
-    pub opening-within : sizes n t ≡ true → isParty n i ≡ true → length xs ≡ n → answer (openingWith modulus n t i v xs) ≡ openingIn n t i v xs
-    unfolding openingIn
-    opening-within h k e = rw (h, k, eq-eqb (length xs) n e)
-
-    pub opening-size : sizes n t ≡ false → answer none ≡ openingIn n t i v xs
+    pub opening-size : sizes n t ≡ false → refusedFit WrongSize ≡ openingIn n t i v xs
     unfolding openingIn
     opening-size h = rw h
 
-    pub opening-number : sizes n t ≡ true → isParty n i ≡ false → answer none ≡ openingIn n t i v xs
-    unfolding openingIn
-    opening-number h k = rw (h, k)
+    module _ (sized : sizes n t ≡ true) where
+      pub opening-number : isParty n i ≡ false → refusedFit WrongNumber ≡ openingIn n t i v xs
+      unfolding openingIn
+      opening-number k = rw (sized, k)
 
-    pub opening-length : sizes n t ≡ true → isParty n i ≡ true → (length xs ≡ n → ⊥) → answer none ≡ openingIn n t i v xs
-    unfolding openingIn
-    opening-length h k d = rw (h, k, ne-eqb (length xs) n d)
+      pub opening-length : isParty n i ≡ true → (length xs ≡ n → ⊥) → refusedFit WrongLength ≡ openingIn n t i v xs
+      unfolding openingIn
+      opening-length k d = rw (sized, k, ne-eqb (length xs) n d)
+
+      pub opening-admitted : isParty n i ≡ true → length xs ≡ n → openingIn n t i v xs ≡ decoded (openingWith modulus n t i v xs)
+      unfolding openingIn
+      opening-admitted k e = rw (sized, k, eq-eqb (length xs) n e)

@@ -1,2 +1,3 @@
-pub mod Arrays
 pub mod Fitting
+pub mod Arrays
+pub mod Deciding

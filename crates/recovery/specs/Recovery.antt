@@ -2,22 +2,23 @@
 --   repair p n t S heard            the column repaired from the points (j, first number heard from j) for j in S
 --   openingOf p n t xs              the opening of the published shares xs by themselves
 --   openingWith p n t i v xs        the same with party i's own share v in its own place
---   repairIn, publishedIn, openingIn   what the code answers, for every input
--- Laws: proofs/Fitting.
-use mathlib.Core.Bool.{cond, _&&_}
-use mathlib.Core.Option.{Option, none}
-use mathlib.Core.List.{List}
-use Prim.Native.Nat.{ℕ, _-_}
+--   repairIn, publishedIn, openingIn   what the code answers for every input: a refusal, or what is decoded
+-- Laws: proofs/Fitting, what is answered; proofs/Deciding, what that says of the points.
+use mathlib.Core.Option.{Option}
+use mathlib.Core.List.{List, [], _∷_}
+use Prim.Native.Nat.{ℕ, _+_, _*_, _-_, _^_}
 use lib.Count.{ones}
-use lib.Dec.{eqb}
+use lib.Dec.{leb, ltb, eqb}
 use lib.ListN.{length, take, set}
 use Rattle.lists.specs.Choices.{select}
 use Rattle.lists.specs.Masks.{bit}
 use Rattle.lists.specs.Tabulate.{tabulate}
 use Rattle.field.specs.Modulus.{modulus}
-use Rattle.trial.specs.Answer.{answer}
+use Rattle.answers.specs.declared.Refusal.the-variants.{WrongSize, WrongNumber, WrongLength}
+use Rattle.answers.specs.declared.Fitted.{Fitted}
+use Rattle.answers.specs.Refusals.{lowest}
 use Rattle.fit.specs.Fit.{fit}
-use Rattle.trial.specs.declared.Fitted.{Fitted}
+use Rattle.fit.specs.Admitted.{decodedIf}
 use Rattle.parties.specs.Parties.{sizes, isParty, points}
 
 -- The column that fits the points (j, first number heard from j) for j in S, a set of the n parties: at most t of them differ.
@@ -34,20 +35,21 @@ openingOf p n t xs = fit p t (n - t) (points n) xs
 abbrev pub openingWith : ℕ → ℕ → ℕ → ℕ → ℕ → List ℕ → Option (List ℕ)
 openingWith p n t i v xs = openingOf p n t (set xs (i - 1) v)
 
--- A bad size is answered as nothing found.
+-- The tests of a call, in the order of their numbers: the sizes; that the set names none but the n parties; that they are enough.
 unfoldable pub repairIn : ℕ → ℕ → ℕ → List ℕ → Fitted
 repairIn n t S heard =
-    let repaired = answer (repair modulus n t S heard) in
-    cond (sizes n t) repaired (answer none)
+    decodedIf
+    (lowest ((sizes n t, WrongSize) ∷ (ltb S (2 ^ n), WrongNumber) ∷ (leb (3 * t + 1) (ones S), WrongLength) ∷ []))
+    (repair modulus n t S heard)
 
--- A bad size or length is answered as nothing found.
+-- The sizes; a share for each party.
 unfoldable pub publishedIn : ℕ → ℕ → List ℕ → Fitted
 publishedIn n t xs =
-    let opened = answer (openingOf modulus n t xs) in
-    cond (sizes n t && eqb (length xs) n) opened (answer none)
+    decodedIf (lowest ((sizes n t, WrongSize) ∷ (eqb (length xs) n, WrongLength) ∷ [])) (openingOf modulus n t xs)
 
--- A bad size, number or length is answered as nothing found.
+-- The sizes; the party's own number; a share for each party.
 unfoldable pub openingIn : ℕ → ℕ → ℕ → ℕ → List ℕ → Fitted
 openingIn n t i v xs =
-    let opened = answer (openingWith modulus n t i v xs) in
-    cond (sizes n t && isParty n i && eqb (length xs) n) opened (answer none)
+    decodedIf
+    (lowest ((sizes n t, WrongSize) ∷ (isParty n i, WrongNumber) ∷ (eqb (length xs) n, WrongLength) ∷ []))
+    (openingWith modulus n t i v xs)

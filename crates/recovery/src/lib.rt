@@ -1,16 +1,18 @@
 // What is fitted to the parties' points: the column repaired from what the happy parties said, and the opening of published shares.
 ghost use mathlib.Core.Path.{_≡_};
-ghost use Prim.Native.Nat.{_-_, _≤_};
+ghost use Prim.Native.Nat.{_-_, _≤_, _<_, _^_};
+ghost use lib.Dec.{ltb};
 ghost use lib.ListN.{length, take, set};
 ghost use Rattle.lists.specs.Choices.{hide};
 ghost use Rattle.lists.specs.Masks.{bit};
 ghost use Rattle.lists.specs.Tabulate.{tabulate};
 ghost use Rattle.field.specs.Modulus.{modulus};
-ghost use Rattle.trial.specs.Answer.{answer};
+ghost use Rattle.answers.specs.Fits.{decoded};
 ghost use Rattle.fit.specs.Fit.{fit};
 ghost use Rattle.parties.specs.Parties.{points, notSent};
 ghost use Rattle.recovery.specs.Recovery.{repairIn, publishedIn, openingIn};
-use trial::Fitted;
+use answers::Fitted;
+use answers::Refusal;
 
 // The first n numbers heard, with "not sent" for each party outside the set, first in an array.
 fn heard_from(n: u8, set: u16, heard: [u16; 16]) -> [u16; 16]
@@ -29,34 +31,42 @@ fn heard_from(n: u8, set: u16, heard: [u16; 16]) -> [u16; 16]
     list
 }
 
-// The polynomial of degree at most t that fits the n values at the parties' points, if one does.
+// The polynomial of degree at most t that agrees with at least `need` of the n values at the parties' points, if one does.
 fn fit_parties(n: u8, t: u8, need: usize, values: &[u16]) -> Fitted
-    requires { ⌜ (n ≤ 16) × (t ≤ 3) × (length (now values) ≡ n) ⌝ }
-    ensures { λ r. ⌜ r ≡ answer (fit modulus t need (points n) (now (values .entry))) ⌝ }
+    requires { ⌜ (n ≤ 16) × (t ≤ 3) × (t < need) × (length (now values) ≡ n) ⌝ }
+    ensures { λ r. ⌜ r ≡ decoded (fit modulus t need (points n) (now (values .entry))) ⌝ }
 {
     let count = n as usize;
     let xs = parties::points();
     fit::fit(t as usize, need, &xs[..count], values)
 }
 
-// a - b, or 0 where b is larger.
-fn less(a: usize, b: usize) -> usize
-    ensures { λ r. ⌜ r ≡ a - b ⌝ }
+// Whether the set has none but the first n parties.
+fn within(n: u8, set: u16) -> bool
+    requires { ⌜ n ≤ 16 ⌝ }
+    ensures { λ r. ⌜ r ≡ ltb set (2 ^ n) ⌝ }
 {
-    if b < a { a - b } else { 0 }
+    set as u32 >> n == 0
 }
 
-// The column that fits what the parties of the set said first, if one does. For a bad size none does.
+// The column that fits what the parties of the set said first, if one does. Refused: a bad size, a party above n in the set, fewer
+// than 3t + 1 parties.
 pub fn repair(n: u8, t: u8, set: u16, heard: [u16; 16]) -> Fitted
     ensures { λ r. ⌜ r ≡ repairIn n t set heard ⌝ }
 {
     if !parties::sizes(n, t) {
-        return trial::nothing();
+        return answers::refused_fit(Refusal::WrongSize);
+    }
+    if !within(n, set) {
+        return answers::refused_fit(Refusal::WrongNumber);
+    }
+    let count = happy::count(set) as usize;
+    let faulty = t as usize;
+    if count < 3 * faulty + 1 {
+        return answers::refused_fit(Refusal::WrongLength);
     }
     let values = heard_from(n, set, heard);
-    let count = happy::count(set) as usize;
-    let need = less(count, t as usize);
-    fit_parties(n, t, need, &values[..n as usize])
+    fit_parties(n, t, count - faulty, &values[..n as usize])
 }
 
 // The shares with party i's own in its own place, first in an array.
@@ -73,33 +83,33 @@ fn with_own(i: u8, share: u16, shares: &[u16]) -> [u16; 16]
     list
 }
 
-// The polynomial that fits the published shares by themselves, if one does. For a bad size or length none does.
+// The polynomial that fits the published shares by themselves, if one does. Refused: a bad size, a share too many or too few.
 pub fn published(n: u8, t: u8, shares: &[u16]) -> Fitted
     ensures { λ r. ⌜ r ≡ publishedIn n t (now (shares .entry)) ⌝ }
 {
     if !parties::sizes(n, t) {
-        return trial::nothing();
+        return answers::refused_fit(Refusal::WrongSize);
     }
     if shares.len() != n as usize {
-        return trial::nothing();
+        return answers::refused_fit(Refusal::WrongLength);
     }
     fit_parties(n, t, (n - t) as usize, shares)
 }
 
-// The same with party i's own share in its own place. For a bad size, number or length none does.
+// The same with party i's own share in its own place. Refused also: a number that is no party's.
 pub fn opening(n: u8, t: u8, i: u8, share: u16, shares: &[u16]) -> Fitted
     ensures { λ r. ⌜ r ≡ openingIn n t i share (now (shares .entry)) ⌝ }
 {
     if !parties::sizes(n, t) {
-        return trial::nothing();
+        return answers::refused_fit(Refusal::WrongSize);
     }
     if !parties::is_party(n, i) {
-        return trial::nothing();
+        return answers::refused_fit(Refusal::WrongNumber);
     }
     let count = n as usize;
     if shares.len() != count {
-        return trial::nothing();
+        return answers::refused_fit(Refusal::WrongLength);
     }
     let values = with_own(i, share, shares);
-    published(n, t, &values[..count])
+    fit_parties(n, t, (n - t) as usize, &values[..count])
 }

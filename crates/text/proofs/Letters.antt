@@ -64,9 +64,11 @@ letter-put o v at h = putting-all o (set o at v) (v ∷ []) at (at + 1) (omega a
 pub putting-added : (o q w : List ℕ) (at r : ℕ) → (q, r) ≡ putting o at w → at + length w ≤ length o → Added o at w q r
 unfolding putting
 putting-added o q w at r e h =
-    let both : _≡_ {A = List ℕ × ℕ} (q, r) (take at o ++ w ++ drop (at + length w) o, at + length w) = e ∙ rw (le-leb (at + length w) (length o) h) in
+    let both : _≡_ {A = List ℕ × ℕ} (q, r) (take at o ++ w ++ drop (at + length w) o, at + length w) =
+    e ∙ rw (le-leb (at + length w) (length o) h) in
     let next : r ≡ at + length w = ap (λ z. z .1) both in
-    let front : length (take at o ++ w) ≡ r = length-append (take at o) w ∙ ap (λ z. z + length w) (length-take-le at o (omega arith)) ∙ sym next in
+    let front : length (take at o ++ w) ≡ r =
+    length-append (take at o) w ∙ ap (λ z. z + length w) (length-take-le at o (omega arith)) ∙ sym next in
     let whole : q ≡ (take at o ++ w) ++ drop (at + length w) o = ap (λ z. z .0) both in
     record {
       next = next;
@@ -99,7 +101,8 @@ unfolding puts
 puts-append [] ws o at = refl
 puts-append (v ∷ vs) ws o at = puts-append vs ws (putting o at v .0) (putting o at v .1)
 
-pub puts-then : (o p q : List ℕ) (vs ws : List (List ℕ)) (at r s : ℕ) → (p, r) ≡ puts o at vs → (q, s) ≡ puts p r ws → (q, s) ≡ puts o at (vs ++ ws)
+pub puts-then : (o p q : List ℕ) (vs ws : List (List ℕ)) (at r s : ℕ) → (p, r) ≡ puts o at vs → (q, s) ≡ puts p r ws
+    → (q, s) ≡ puts o at (vs ++ ws)
 puts-then o p q vs ws at r s a b = b ∙ ap (λ (z : List ℕ × ℕ). puts (z .0) (z .1) ws) a ∙ sym (puts-append vs ws o at)
 
 -- Where there is room for all of them the text that they make is put.
@@ -115,8 +118,8 @@ puts-added (word ∷ words) o q at r e h =
     (puts-added words (p .0) q (p .1) r e (omega (arith, first .next, putting-length o word at (omega arith))))
 
 -- The same by a bound m of its length, and where it ends.
-pub puts-within : (words : List (List ℕ)) (o q : List ℕ) (at r m : ℕ) → (q, r) ≡ puts o at words → length (joined words) ≤ m → at + m ≤ length o
-    → Added o at (joined words) q r × (r ≤ at + m)
+pub puts-within : (words : List (List ℕ)) (o q : List ℕ) (at r m : ℕ) → (q, r) ≡ puts o at words → length (joined words) ≤ m
+    → at + m ≤ length o → Added o at (joined words) q r × (r ≤ at + m)
 puts-within words o q at r m e h k =
     let added : Added o at (joined words) q r = puts-added words o q at r e (omega arith) in
     (added, omega (arith, added .next))
@@ -153,7 +156,8 @@ pub decimal-part : (digits : List ℕ) (from x : ℕ) → digits ≡ five x → 
 unfolding zeros decimal
 decimal-part digits from x e f =
     ap₂ (λ m l. take (5 - m) (drop m l)) f e
-    ∙ without-zeros (ltb x 10) (ltb x 100) (ltb x 1000) (ltb x 10000) (digit (x / 10000)) (digit (x / 1000)) (digit (x / 100)) (digit (x / 10)) (digit x)
+    ∙ without-zeros (ltb x 10) (ltb x 100) (ltb x 1000) (ltb x 10000)
+    (digit (x / 10000)) (digit (x / 1000)) (digit (x / 100)) (digit (x / 10)) (digit x)
 
 pub decimal-one : (x : ℕ) → x < 10 → digit x ∷ [] ≡ decimal x
 unfolding decimal

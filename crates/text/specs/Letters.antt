@@ -58,7 +58,8 @@ joined (word ∷ words) = word ++ joined words
 
 -- ---- in a buffer
 
--- The word over the buffer's bytes from the place `at` on, and the place behind it. Where it has no room the buffer is left alone, and the place is `at`.
+-- The word over the buffer's bytes from the place `at` on, and the place behind it. Where it has no room the buffer is left alone, and the
+-- place is `at`.
 unfoldable pub putting : List ℕ → ℕ → List ℕ → List ℕ × ℕ
 putting out at word =
     cond (leb (at + length word) (length out)) (take at out ++ word ++ drop (at + length word) out, at + length word) (out, at)
@@ -68,7 +69,8 @@ unfoldable pub puts : List ℕ → ℕ → List (List ℕ) → List ℕ × ℕ
 puts out at [] = (out, at)
 puts out at (word ∷ words) = puts (putting out at word .0) (putting out at word .1) words
 
--- The buffer after holds what the buffer before held up to the place `at`, then the word, and from the place r behind it on again what it held.
+-- The buffer after holds what the buffer before held up to the place `at`, then the word, and from the place r behind it on again what it
+-- held.
 pub record Added (before : List ℕ) (at : ℕ) (word after : List ℕ) (r : ℕ) : Type 0 where
   pub next : r ≡ at + length word
   pub text : take r after ≡ take at before ++ word

@@ -1,46 +1,39 @@
 -- What a record's lamps and its published shares come to, and the lines that say it (document 01, "Record and bench").
---   isAccepted set n t      the verdict, by the happy set
---   lampLine i r            what lamp i holds, or why it refused, by its reply
---   openedLine f, lastLine accepted n t shares   what the published shares open
+--   isAccepted set n t                            the verdict, by the happy set
+--   replyLine i r                                 what lamp i holds, or why it refused, by its reply
+--   openingLine o, lastLine accepted n t shares   what the published shares open
 -- Laws: proofs/Outcomes.
 use mathlib.Core.Bool.{Bool, cond}
 use mathlib.Core.Option.{Option, none, some}
-use mathlib.Core.List.{List, _++_}
+use mathlib.Core.List.{List}
 use Prim.Native.Nat.{ℕ, _-_}
 use lib.Count.{ones}
 use lib.Dec.{leb}
+use Rattle.lists.specs.Options.{orZero}
 use Rattle.field.specs.Modulus.{modulus}
-use Rattle.recovery.specs.Recovery.{openingOf}
 use Rattle.answers.specs.declared.Refusal.the-variants.{DealerRejected, NoOpening}
+use Rattle.answers.specs.Refusals.{refusalNumber}
+use Rattle.answers.specs.Answers.{numberOf}
+use Rattle.answers.specs.Fits.{constant}
+use Rattle.recovery.specs.Recovery.{openingOf}
 use Rattle.lamp.specs.declared.Reply.{Reply}
-use Rattle.answers.specs.Answer.{refusalNumber, numberOf}
-use Rattle.lamp.specs.Lamp.{constant}
-use Rattle.text.specs.Letters.{letters, field, line}
+use Rattle.lines.specs.Lines.{lampLine, openedLine}
 
 -- The dealer is accepted: the happy set has at least n − t members.
 abbrev pub isAccepted : ℕ → ℕ → ℕ → Bool
 isAccepted set n t = leb (n - t) (ones set)
 
--- ---- a lamp
+-- "lamp i share v", or "lamp i refused k" where the answer has a refusal's number.
+unfoldable pub replyLine : ℕ → Reply → List ℕ
+replyLine i r = lampLine i (orZero (numberOf (r .answer))) (r .lamp .sharing .share)
 
--- " share v", or " refused k" where the answer has a refusal's number.
-abbrev pub outcome : ℕ → Option ℕ → List ℕ
-outcome share none = line (letters " share ") share
-outcome share (some k) = line (letters " refused ") k
+-- "opened v", v being the constant of the polynomial that fits, or a refusal where none does.
+abbrev pub openingLine : Option (List ℕ) → List ℕ
+openingLine none = openedLine (refusalNumber NoOpening) 0
+openingLine (some f) = openedLine 0 (constant f)
 
--- "lamp i share v" or "lamp i refused k", by what the lamp gave back.
-unfoldable pub lampLine : ℕ → Reply → List ℕ
-lampLine i r = field (letters "lamp ") i ++ outcome (r .lamp .share) (numberOf (r .answer))
-
--- ---- the opening
-
--- "opened v", v being the constant of the polynomial that fits, or "opened refused 10".
-abbrev pub openedLine : Option (List ℕ) → List ℕ
-openedLine none = line (letters "opened refused ") (refusalNumber NoOpening)
-openedLine (some f) = line (letters "opened ") (constant f)
-
--- What the published shares open by themselves: at most t of them differ. After a rejected dealer the refusal is 8.
+-- What the published shares open by themselves: at most t of them differ. After a rejected dealer they are not opened.
 unfoldable pub lastLine : Bool → ℕ → ℕ → List ℕ → List ℕ
 lastLine accepted n t shares =
-    let opened = openedLine (openingOf modulus n t shares) in
-    cond accepted opened (line (letters "opened refused ") (refusalNumber DealerRejected))
+    let opened = openingLine (openingOf modulus n t shares) in
+    cond accepted opened (openedLine (refusalNumber DealerRejected) 0)

@@ -1,14 +1,11 @@
 -- What is printed of a record (document 01, "Record and bench"), to the byte.
---   numbersOf bytes k       the numbers of section k: deals, round two, reports, published shares
 --   run bytes n t i         what lamp i answers to settling, run on the record as an honest one
 --   lampLines bytes n t i   the lines of lamps 1 to i
 --   textOf bytes n t, text bytes   the text of a record that is not refused, and of any bytes
 --   rendering bytes out     the buffer afterwards, and the answer
---   Whole bytes n t         the bytes are a record for n and t
+--   bytesWritten answer     how many bytes an answer says are written
 -- Laws: proofs/Texts, proofs/Runs.
-use mathlib.Core.Path.{_≡_}
 use mathlib.Core.Bool.{cond}
-use mathlib.Core.Option.{Option, none, some}
 use mathlib.Core.List.{List, [], _∷_, _++_}
 use Prim.Native.Nat.{ℕ, zero, suc, _+_, _*_, _-_}
 use lib.Dec.{leb}
@@ -16,18 +13,18 @@ use lib.ListN.{length, take, drop}
 use Rattle.field.specs.Modulus.{modulus}
 use Rattle.happy.specs.Happy.{happySet}
 use Rattle.dealer.specs.Desk.{stretch}
+use Rattle.answers.specs.declared.Refusal.the-variants.{WrongLength}
+use Rattle.answers.specs.declared.Writing.{Writing}
+use Rattle.answers.specs.declared.Writing.the-variants as writing
+use Rattle.answers.specs.declared.Writing.the-variants.{Written}
+use Rattle.answers.specs.Refusals.{refusalNumber}
 use Rattle.lamp.specs.declared.Reply.{Reply}
 use Rattle.lamp.specs.Lamp.{made, Call, takeDeal, hearPairs, settle, step, after}
-use Rattle.record.specs.declared.Reading.the-variants.{Fine}
-use Rattle.record.specs.Bytes.{numbers}
-use Rattle.record.specs.Record.{nOf, tOf, reading, numberOf, sectionOf}
-use Rattle.text.specs.Letters.{letters, line}
-use Rattle.lines.specs.Lines.{sizeLine, verdictLines}
-use Rattle.transcript.specs.Outcomes.{isAccepted, lampLine, lastLine}
-
--- The numbers of section k.
-abbrev pub numbersOf : List ℕ → ℕ → List ℕ
-numbersOf bytes k = numbers (sectionOf bytes k)
+use Rattle.record.specs.declared.Reading.{Reading}
+use Rattle.record.specs.declared.Reading.the-variants.{Fine, Refused}
+use Rattle.record.specs.Record.{reading, numbersOf}
+use Rattle.lines.specs.Lines.{sizeLine, verdictLines, refusedLine}
+use Rattle.transcript.specs.Outcomes.{isAccepted, replyLine, lastLine}
 
 -- ---- the lamps
 
@@ -50,7 +47,7 @@ run bytes n t i = step modulus (after modulus (made n t i) (dealCall bytes t i �
 -- The lines of lamps 1 to i.
 unfoldable pub lampLines : List ℕ → ℕ → ℕ → ℕ → List ℕ
 lampLines bytes n t zero = []
-lampLines bytes n t (suc i) = lampLines bytes n t i ++ lampLine (suc i) (run bytes n t (suc i))
+lampLines bytes n t (suc i) = lampLines bytes n t i ++ replyLine (suc i) (run bytes n t (suc i))
 
 -- ---- the text
 
@@ -61,21 +58,23 @@ textOf bytes n t =
     let accepted = isAccepted set n t in
     ((sizeLine n t ++ verdictLines accepted set n) ++ lampLines bytes n t n) ++ lastLine accepted n t (numbersOf bytes 3)
 
--- By the reader's refusal: a refused record gives one line alone.
-unfoldable pub textBy : Option ℕ → List ℕ → List ℕ
-textBy none bytes = textOf bytes (nOf bytes) (tOf bytes)
-textBy (some k) bytes = line (letters "record refused ") k
+-- By the reader's answer: a refused record gives one line alone.
+unfoldable pub textBy : Reading → List ℕ → List ℕ
+textBy (Fine n t) bytes = textOf bytes n t
+textBy (Refused why) bytes = refusedLine (refusalNumber why)
 
 -- The whole text.
 unfoldable pub text : List ℕ → List ℕ
-text bytes = textBy (numberOf (reading bytes)) bytes
+text bytes = textBy (reading bytes) bytes
 
--- The text over the front of the buffer, and its length; a buffer of less than 512 bytes is left alone, and the answer is 0.
-unfoldable pub rendering : List ℕ → List ℕ → List ℕ × ℕ
-rendering bytes out = cond (leb 512 (length out)) (text bytes ++ drop (length (text bytes)) out, length (text bytes)) (out, 0)
+-- The text over the front of the buffer, and its length. No text has more than 512 bytes: a buffer of less is refused and left alone.
+unfoldable pub rendering : List ℕ → List ℕ → List ℕ × Writing
+rendering bytes out =
+    cond (leb 512 (length out))
+    (text bytes ++ drop (length (text bytes)) out, Written (length (text bytes)))
+    (out, writing.Refused WrongLength)
 
--- The bytes are a record, and n and t are its sizes.
-pub record Whole (bytes : List ℕ) (n t : ℕ) : Type 0 where
-  pub fine : reading bytes ≡ Fine
-  pub parties : n ≡ nOf bytes
-  pub faulty : t ≡ tOf bytes
+-- How many bytes are written; none by a refusal.
+abbrev pub bytesWritten : Writing → ℕ
+bytesWritten (Written count) = count
+bytesWritten (writing.Refused why) = 0

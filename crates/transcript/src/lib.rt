@@ -3,20 +3,24 @@ ghost use mathlib.Core.Path.{_≡_};
 ghost use mathlib.Core.List.{[], _∷_};
 ghost use Prim.Native.Nat.{_+_, _≤_};
 ghost use lib.ListN.{length, take, drop};
-ghost use Rattle.lists.specs.Options.{orZero};
 ghost use Rattle.field.specs.Modulus.{modulus};
-ghost use Rattle.trial.specs.Answer.{answer};
+ghost use Rattle.answers.specs.Fits.{decoded};
 ghost use Rattle.recovery.specs.Recovery.{openingOf};
-ghost use Rattle.answers.specs.Answer.{numberOf};
 ghost use Rattle.lamp.specs.Lamp.{made, after};
+ghost use Rattle.record.specs.declared.Reading.the-variants.{Fine};
+ghost use Rattle.record.specs.Record.{reading, numbersOf};
 ghost use Rattle.text.specs.Letters.{Added};
-ghost use Rattle.transcript.specs.Outcomes.{isAccepted, lampLine, lastLine};
-ghost use Rattle.transcript.specs.Transcript.{numbersOf, dealCall, pairsCall, run, lampLines, textOf, text, rendering, Whole};
-use answers::Answer;
+ghost use Rattle.transcript.specs.Outcomes.{isAccepted, replyLine, lastLine};
+ghost use Rattle.transcript.specs.Transcript.{dealCall, pairsCall, run, lampLines, textOf, text, rendering, bytesWritten};
+use answers::Decoding;
+use answers::Fitted;
+use answers::Refusal;
+use answers::Writing;
+use answers::answer_number;
+use answers::refusal_number;
 use lamp::Lamp;
 use lamp::Reply;
 use record::Reading;
-use trial::Fitted;
 
 // ---- the numbers of a record
 
@@ -37,7 +41,7 @@ fn part(bytes: &[u8], k: usize, from: usize, count: usize) -> [u16; 32]
 
 // Lamp i with its own part of the deals taken.
 fn dealt(bytes: &[u8], n: u8, t: u8, i: u8) -> Lamp
-    requires { ⌜ Whole (now bytes) n t × (1 ≤ i) × (i ≤ n) ⌝ }
+    requires { ⌜ (reading (now bytes) ≡ Fine n t) × (1 ≤ i) × (i ≤ n) ⌝ }
     ensures { λ r. ⌜ r ≡ after modulus (made n t i) (dealCall (now (bytes .entry)) t i ∷ []) ⌝ }
 {
     let width = 2 * (t as usize + 1);
@@ -50,7 +54,7 @@ fn dealt(bytes: &[u8], n: u8, t: u8, i: u8) -> Lamp
 
 // Lamp i with its own part of round two heard.
 fn reported(bytes: &[u8], n: u8, t: u8, i: u8) -> Lamp
-    requires { ⌜ Whole (now bytes) n t × (1 ≤ i) × (i ≤ n) ⌝ }
+    requires { ⌜ (reading (now bytes) ≡ Fine n t) × (1 ≤ i) × (i ≤ n) ⌝ }
     ensures { λ r. ⌜ r ≡ after modulus (made n t i) (dealCall (now (bytes .entry)) t i ∷ pairsCall (now (bytes .entry)) n i ∷ []) ⌝ }
 {
     let width = 2 * n as usize;
@@ -62,42 +66,29 @@ fn reported(bytes: &[u8], n: u8, t: u8, i: u8) -> Lamp
 
 // What lamp i answers to settling on the reports.
 fn run(bytes: &[u8], reports: &[u16], n: u8, t: u8, i: u8) -> Reply
-    requires { ⌜ Whole (now bytes) n t × (now reports ≡ numbersOf (now bytes) 2) × (1 ≤ i) × (i ≤ n) ⌝ }
+    requires { ⌜ (reading (now bytes) ≡ Fine n t) × (now reports ≡ numbersOf (now bytes) 2) × (1 ≤ i) × (i ≤ n) ⌝ }
     ensures { λ r. ⌜ r ≡ run (now (bytes .entry)) n t i ⌝ }
 {
     let lamp = reported(bytes, n, t, i);
     lamp.settle(reports)
 }
 
-// Document 01's number of an answer, 0 where the call is accepted.
-fn number_of(answer: Answer) -> u8
-    ensures { λ r. ⌜ r ≡ orZero (numberOf answer) ⌝ }
-{
-    match answer {
-        Answer::Done => 0,
-        Answer::Pair(first, second) => 0,
-        Answer::Report(bits) => 0,
-        Answer::Accepted => 0,
-        Answer::Opened(secret) => 0,
-        Answer::Refused(why) => answers::refusal_number(why),
-    }
-}
-
 // Puts the line of lamp i: its share, or the number of its refusal.
 fn put_lamp(out: &mut [u8], at: usize, i: u8, reply: Reply) -> usize
     requires { ⌜ (i ≤ 16) × (at + 22 ≤ length (now out)) ⌝ }
-    ensures { λ r. ⌜ Added (now (out .entry)) at (lampLine i reply) (now (out .exit)) r ⌝ }
+    ensures { λ r. ⌜ Added (now (out .entry)) at (replyLine i reply) (now (out .exit)) r ⌝ }
     ensures short { λ r. ⌜ r ≤ at + 22 ⌝ }
 {
     let lamp = reply.lamp;
+    let sharing = lamp.sharing;
     let answer = reply.answer;
-    let refusal = number_of(answer);
-    lines::put_lamp(out, at, i, refusal, lamp.share)
+    let refusal = answer_number(answer);
+    lines::put_lamp(out, at, i, refusal, sharing.share)
 }
 
 // Puts the lines of all lamps, by the reports.
 fn put_lamps(out: &mut [u8], at: usize, bytes: &[u8], reports: &[u16], n: u8, t: u8) -> usize
-    requires { ⌜ Whole (now bytes) n t × (now reports ≡ numbersOf (now bytes) 2) × (n ≤ 16) × (at + 352 ≤ length (now out)) ⌝ }
+    requires { ⌜ (reading (now bytes) ≡ Fine n t) × (now reports ≡ numbersOf (now bytes) 2) × (n ≤ 16) × (at + 352 ≤ length (now out)) ⌝ }
     ensures { λ r. ⌜ Added (now (out .entry)) at (lampLines (now (bytes .entry)) n t n) (now (out .exit)) r ⌝ }
     ensures short { λ r. ⌜ r ≤ at + 352 ⌝ }
 {
@@ -113,29 +104,34 @@ fn put_lamps(out: &mut [u8], at: usize, bytes: &[u8], reports: &[u16], n: u8, t:
 
 // The polynomial that fits the published shares.
 fn fitted(bytes: &[u8], n: u8, t: u8) -> Fitted
-    requires { ⌜ Whole (now bytes) n t ⌝ }
-    ensures { λ r. ⌜ r ≡ answer (openingOf modulus n t (numbersOf (now (bytes .entry)) 3)) ⌝ }
+    requires { ⌜ reading (now bytes) ≡ Fine n t ⌝ }
+    ensures { λ r. ⌜ r ≡ decoded (openingOf modulus n t (numbersOf (now (bytes .entry)) 3)) ⌝ }
 {
     let count = n as usize;
     let list = part(bytes, 3, 0, count);
     recovery::published(n, t, &list[..count])
 }
 
-// Puts what the published shares open, or 8 after a rejected dealer.
+// Puts what the published shares open, or the refusal after a rejected dealer.
 fn put_last(out: &mut [u8], at: usize, accepted: bool, bytes: &[u8], n: u8, t: u8) -> usize
-    requires { ⌜ Whole (now bytes) n t × (at + 21 ≤ length (now out)) ⌝ }
+    requires { ⌜ (reading (now bytes) ≡ Fine n t) × (at + 21 ≤ length (now out)) ⌝ }
     ensures { λ r. ⌜ Added (now (out .entry)) at (lastLine accepted n t (numbersOf (now (bytes .entry)) 3)) (now (out .exit)) r ⌝ }
     ensures short { λ r. ⌜ r ≤ at + 21 ⌝ }
 {
     if !accepted {
-        return lines::put_opened(out, at, 8, 0);
+        return lines::put_opened(out, at, refusal_number(Refusal::DealerRejected), 0);
     }
     let opening = fitted(bytes, n, t);
-    if opening.found {
-        let f = opening.coefficients;
-        return lines::put_opened(out, at, 0, f[0]);
+    let outcome = opening.outcome;
+    match outcome {
+        Decoding::Found => {
+            let f = opening.coefficients;
+            lines::put_opened(out, at, 0, f[0])
+        }
+        Decoding::Nothing => lines::put_opened(out, at, refusal_number(Refusal::NoOpening), 0),
+        // It does not come to this: the record has legal sizes and a share for each lamp.
+        Decoding::Refused(why) => lines::put_opened(out, at, refusal_number(why), 0),
     }
-    lines::put_opened(out, at, 10, 0)
 }
 
 // ---- the text
@@ -150,7 +146,7 @@ fn accepted(set: u16, n: u8, t: u8) -> bool
 
 // Puts the text of a record that is not refused, by its reports.
 fn put_by_reports(out: &mut [u8], bytes: &[u8], reports: &[u16], n: u8, t: u8) -> usize
-    requires { ⌜ Whole (now bytes) n t × (now reports ≡ numbersOf (now bytes) 2) × (512 ≤ length (now out)) ⌝ }
+    requires { ⌜ (reading (now bytes) ≡ Fine n t) × (now reports ≡ numbersOf (now bytes) 2) × (512 ≤ length (now out)) ⌝ }
     ensures { λ r. ⌜ Added (now (out .entry)) 0 (textOf (now (bytes .entry)) n t) (now (out .exit)) r ⌝ }
     ensures short { λ r. ⌜ r ≤ 512 ⌝ }
 {
@@ -164,7 +160,7 @@ fn put_by_reports(out: &mut [u8], bytes: &[u8], reports: &[u16], n: u8, t: u8) -
 
 // The same with the reports of the record, which are read once for the verdict and all lamps.
 fn put_record(out: &mut [u8], bytes: &[u8], n: u8, t: u8) -> usize
-    requires { ⌜ Whole (now bytes) n t × (512 ≤ length (now out)) ⌝ }
+    requires { ⌜ (reading (now bytes) ≡ Fine n t) × (512 ≤ length (now out)) ⌝ }
     ensures { λ r. ⌜ Added (now (out .entry)) 0 (textOf (now (bytes .entry)) n t) (now (out .exit)) r ⌝ }
     ensures short { λ r. ⌜ r ≤ 512 ⌝ }
 {
@@ -173,7 +169,7 @@ fn put_record(out: &mut [u8], bytes: &[u8], n: u8, t: u8) -> usize
     put_by_reports(out, bytes, &list[..count], n, t)
 }
 
-// Puts the text by what the reader answers.
+// Puts the text by what the reader answers. The record is read here alone: its sections are then taken as they stand.
 fn put_text(out: &mut [u8], bytes: &[u8]) -> usize
     requires { ⌜ 512 ≤ length (now out) ⌝ }
     ensures { λ r. ⌜ Added (now (out .entry)) 0 (text (now (bytes .entry))) (now (out .exit)) r ⌝ }
@@ -181,21 +177,41 @@ fn put_text(out: &mut [u8], bytes: &[u8]) -> usize
 {
     let answer = record::read(bytes);
     match answer {
-        Reading::WrongSize => lines::put_refused(out, 0, 1),
-        Reading::WrongDirectory => lines::put_refused(out, 0, 6),
-        Reading::Fine => put_record(out, bytes, bytes[0], bytes[1]),
+        Reading::Fine(n, t) => put_record(out, bytes, n, t),
+        Reading::Refused(why) => lines::put_refused(out, 0, refusal_number(why)),
     }
 }
 
-// Writes the text of a record over the front of the lent buffer and answers its length. No text has more than 512 bytes:
-// a buffer of less is left alone, and the answer is 0.
-pub fn render(bytes: &[u8], out: &mut [u8]) -> usize
+// Writes the text of a record over the front of the lent buffer and answers its length. No text has more than 512 bytes: a buffer of less
+// is refused and left alone.
+pub fn render(bytes: &[u8], out: &mut [u8]) -> Writing
     ensures { λ r. ⌜ (now (out .exit), r) ≡ rendering (now (bytes .entry)) (now (out .entry)) ⌝ }
-    ensures short { λ r. ⌜ r ≤ 512 ⌝ }
-    ensures inside { λ r. ⌜ (r ≤ length (now (out .exit))) × (r ≡ length (take r (now (out .exit)))) ⌝ }
+    ensures short { λ r. ⌜ bytesWritten r ≤ 512 ⌝ }
 {
     if out.len() < 512 {
-        return 0;
+        return Writing::Refused(Refusal::WrongLength);
     }
-    put_text(out, bytes)
+    Writing::Written(put_text(out, bytes))
+}
+
+// How many bytes an answer says are written; none by a refusal.
+pub fn bytes_written(answer: Writing) -> usize
+    ensures { λ r. ⌜ r ≡ bytesWritten answer ⌝ }
+{
+    match answer {
+        Writing::Written(count) => count,
+        Writing::Refused(why) => 0,
+    }
+}
+
+// What an answer says is written: the front of the buffer.
+pub fn text_in(out: &[u8], answer: Writing) -> &[u8]
+    ensures { λ r. ⌜ now r ≡ take (bytesWritten answer) (now (out .entry)) ⌝ }
+{
+    let count = bytes_written(answer);
+    let room = out.len();
+    if room < count {
+        return &out[0..room];
+    }
+    &out[0..count]
 }

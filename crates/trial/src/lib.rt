@@ -6,33 +6,32 @@ ghost use Prim.Native.Nat.{_-_, _≤_};
 ghost use lib.Dec.{leb};
 ghost use lib.ListN.{length, take, drop, replicate};
 ghost use Rattle.field.specs.Modulus.{modulus};
-ghost use Rattle.interpolation.specs.Interpolation.{interpolate};
-ghost use Rattle.trial.specs.Trial.{hits, firstFitting};
-ghost use Rattle.trial.specs.Answer.{answer, given, triedIn, fourIn};
+ghost use Rattle.trial.specs.Trial.{hits, fittingThrough, tried};
+ghost use Rattle.trial.specs.Results.{Bounded, resultOf, given};
 ghost use Rattle.trial.specs.Search.{found, Searching};
 
 // Whether a polynomial was found, and its coefficients, the constant first, with 0 behind them.
-pub struct Fitted {
+pub struct Tried {
     pub found: bool,
     pub coefficients: [u16; 4],
 }
 
 // The answer where no polynomial is found.
-pub fn nothing() -> Fitted
-    ensures { λ r. ⌜ r ≡ answer none ⌝ }
+fn nothing() -> Tried
+    ensures { λ r. ⌜ r ≡ resultOf none ⌝ }
 {
-    Fitted {
+    Tried {
         found: false,
         coefficients: [0; 4],
     }
 }
 
 // What is found where the coefficients have passed.
-fn given(passed: bool, f: [u16; 4]) -> Fitted
+fn given(passed: bool, f: [u16; 4]) -> Tried
     ensures { λ r. ⌜ r ≡ given passed f ⌝ }
 {
     if passed {
-        return Fitted {
+        return Tried {
             found: true,
             coefficients: f,
         };
@@ -42,11 +41,11 @@ fn given(passed: bool, f: [u16; 4]) -> Fitted
 
 // The same, written anew. A call's answer that is returned as it is would be copied as a block that cuts across its two parts, and the
 // processor waits until both are in memory.
-pub fn copied(f: Fitted) -> Fitted
+fn copied(f: Tried) -> Tried
     ensures { λ r. ⌜ r ≡ f ⌝ }
 {
     let g = f.coefficients;
-    Fitted {
+    Tried {
         found: f.found,
         coefficients: g,
     }
@@ -65,7 +64,7 @@ fn enough(a: u16, b: u16, c: u16, d: u16, xs: &[u16], ys: &[u16], need: usize) -
     let mut slack = i - need;
     while 0 < i {
         i -= 1;
-        if !polynomial::is_cubic_value(a, b, c, d, xs[i], ys[i]) {
+        if !field::is_cubic_value(a, b, c, d, xs[i], ys[i]) {
             if slack == 0 {
                 return false;
             }
@@ -80,20 +79,18 @@ fn test(xs: &[u16], ys: &[u16], need: usize, c: usize, cx: &[u16], f: &mut [u16]
     requires { ⌜ length (now xs) ≡ length (now ys) ⌝ }
     requires { ⌜ (c ≤ 4) × (length (now cx) ≡ 4) × (length (now f) ≡ 4) ⌝ }
     requires { ⌜ drop c (now f) ≡ replicate (4 - c) 0 ⌝ }
-    ensures { λ r. ⌜ given r (now (f .exit)) ≡ answer (firstFitting modulus need (now (xs .entry)) (now (ys .entry)) (interpolate modulus (take c (now (cx .entry))) (take c (now (f .entry))) ∷ [])) ⌝ }
+    ensures { λ r. ⌜ given r (now (f .exit)) ≡ resultOf (fittingThrough modulus need (now (xs .entry)) (now (ys .entry))
+        (take c (now (cx .entry))) (take c (now (f .entry)))) ⌝ }
 {
     interpolation::interpolate(&cx[..c], &mut f[..c]);
     enough(f[0], f[1], f[2], f[3], xs, ys, need)
 }
 
 // The polynomial through the four points (cx[j], cy[j]), if it agrees with at least `need` of the points (xs[i], ys[i]).
-// With lists of two lengths none is found.
-pub fn four(xs: &[u16], ys: &[u16], need: usize, cx: [u16; 4], cy: [u16; 4]) -> Fitted
-    ensures { λ r. ⌜ r ≡ fourIn need (now (xs .entry)) (now (ys .entry)) cx cy ⌝ }
+pub fn four(xs: &[u16], ys: &[u16], need: usize, cx: [u16; 4], cy: [u16; 4]) -> Tried
+    requires { ⌜ Bounded (now xs) (now ys) ⌝ }
+    ensures { λ r. ⌜ r ≡ resultOf (fittingThrough modulus need (now (xs .entry)) (now (ys .entry)) cx cy) ⌝ }
 {
-    if xs.len() != ys.len() {
-        return nothing();
-    }
     let f = interpolation::cubic(cx, cy);
     let passed = enough(f[0], f[1], f[2], f[3], xs, ys, need);
     given(passed, f)
@@ -110,9 +107,9 @@ fn straight(
     c: usize,
     cx: [u16; 4],
     cy: [u16; 4],
-) -> Fitted
+) -> Tried
     requires { ⌜ Searching (now xs) (now ys) more c cy ⌝ }
-    ensures { λ r. ⌜ r ≡ answer (found modulus need (now (xs .entry)) (now (ys .entry)) more 0 (take c cx) (take c cy) i) ⌝ }
+    ensures { λ r. ⌜ r ≡ resultOf (found modulus need (now (xs .entry)) (now (ys .entry)) more 0 (take c cx) (take c cy) i) ⌝ }
 {
     let mut j = i;
     let mut left = more;
@@ -138,16 +135,10 @@ fn straight(
 }
 
 // The polynomial through the next k points sent from place i on, if it agrees with at least `need` of the points (xs[j], ys[j]).
-// For k above 4, or lists of two lengths, none is found.
-pub fn next(xs: &[u16], ys: &[u16], need: usize, i: usize, k: usize) -> Fitted
-    ensures { λ r. ⌜ r ≡ triedIn need (now (xs .entry)) (now (ys .entry)) i k 0 ⌝ }
+pub fn next(xs: &[u16], ys: &[u16], need: usize, i: usize, k: usize) -> Tried
+    requires { ⌜ Bounded (now xs) (now ys) × (k ≤ 4) ⌝ }
+    ensures { λ r. ⌜ r ≡ resultOf (tried modulus need (now (xs .entry)) (now (ys .entry)) i k 0) ⌝ }
 {
-    if 4 < k {
-        return nothing();
-    }
-    if xs.len() != ys.len() {
-        return nothing();
-    }
     copied(straight(xs, ys, need, i, k, 0, [0; 4], [0; 4]))
 }
 
@@ -164,9 +155,9 @@ fn search(
     c: usize,
     cx: [u16; 4],
     cy: [u16; 4],
-) -> Fitted
+) -> Tried
     requires { ⌜ Searching (now xs) (now ys) more c cy ⌝ }
-    ensures { λ r. ⌜ r ≡ answer (found modulus need (now (xs .entry)) (now (ys .entry)) more spare (take c cx) (take c cy) i) ⌝ }
+    ensures { λ r. ⌜ r ≡ resultOf (found modulus need (now (xs .entry)) (now (ys .entry)) more spare (take c cx) (take c cy) i) ⌝ }
 {
     if spare == 0 {
         return copied(straight(xs, ys, need, i, more, c, cx, cy));
@@ -195,15 +186,9 @@ fn search(
 }
 
 // The first polynomial that does, of those through k of the next k + spare points sent from place i on.
-// For k above 4, or lists of two lengths, none is found.
-pub fn choices(xs: &[u16], ys: &[u16], need: usize, i: usize, k: usize, spare: usize) -> Fitted
-    ensures { λ r. ⌜ r ≡ triedIn need (now (xs .entry)) (now (ys .entry)) i k spare ⌝ }
+pub fn choices(xs: &[u16], ys: &[u16], need: usize, i: usize, k: usize, spare: usize) -> Tried
+    requires { ⌜ Bounded (now xs) (now ys) × (k ≤ 4) ⌝ }
+    ensures { λ r. ⌜ r ≡ resultOf (tried modulus need (now (xs .entry)) (now (ys .entry)) i k spare) ⌝ }
 {
-    if 4 < k {
-        return nothing();
-    }
-    if xs.len() != ys.len() {
-        return nothing();
-    }
     copied(search(xs, ys, need, i, k, spare, 0, [0; 4], [0; 4]))
 }

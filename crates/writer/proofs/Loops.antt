@@ -37,8 +37,8 @@ module _ (front : List ℕ) (at : ℕ) (old new : List ℕ) (b : Begun front at 
   }
 
   -- A list of numbers more, as `put` leaves it.
-  pub begun-put : (xs : List ℕ) (r : ℕ) (end : List ℕ) → r ≤ length old → r ≡ at + 2 * length xs → end ≡ take at new ++ (bytesOf xs ++ drop r new)
-      → Begun (front ++ bytesOf xs) r old end
+  pub begun-put : (xs : List ℕ) (r : ℕ) (end : List ℕ) → r ≤ length old → r ≡ at + 2 * length xs
+      → end ≡ take at new ++ (bytesOf xs ++ drop r new) → Begun (front ++ bytesOf xs) r old end
   begun-put xs r end h e w =
       let before : take at new ≡ front = ap (take at) (b .holds) ∙ take-at front (drop at old) at (b .place) in
       let behind : drop at new ≡ drop at old = ap (drop at) (b .holds) ∙ drop-at front (drop at old) at (b .place) in

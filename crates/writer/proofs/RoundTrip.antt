@@ -8,16 +8,16 @@ use lib.ListN.{length, getD, take, drop, length-append, List·getD-append}
 use lib.Seq.{take-at, drop-at}
 use borrow.Author.Tests.{eq-eqb}
 use Rattle.lists.specs.All.{All}
+use Rattle.answers.specs.declared.Writing.{Writing}
+use Rattle.answers.specs.declared.Writing.the-variants.{Written}
 use Rattle.record.specs.declared.Reading.the-variants.{Fine}
 use Rattle.record.specs.Bytes.{numberAt, numbers, standAt, over}
-use Rattle.record.specs.Record.{sectionLength, sectionStart, directory, directoryRight, nOf, tOf, reading, sectionOf}
+use Rattle.record.specs.Record.{sectionLength, sectionStart, directory, directoryRight, reading, IsRecord, sectionOf, numbersOf}
 use Rattle.writer.specs.Writer.{bytesOf, recordOf, Contents, writable, writing}
-use Rattle.writer.specs.declared.Writing.{Writing}
-use Rattle.writer.specs.declared.Writing.the-variants.{Written}
 use Rattle.record.proofs.Bytes.{stand-true, over-front, over-rest}
 use Rattle.writer.proofs.Bytes.{length-bytes, bytes-append, bytes-place, numbers-bytes}
 use Rattle.record.proofs.Sections.{length-directory, directory-below, record-head}
-use Rattle.record.proofs.Answers.{reading-fine, section-at}
+use Rattle.record.proofs.Answers.{reading-fine, fine-record, section-at}
 use Rattle.writer.proofs.Buffer.{Writable, double, writable-facts, length-record, writing-written, only-writable}
 
 -- A number that stands in the front bytes.
@@ -37,7 +37,7 @@ middle : (before part behind : List ℕ) (a m : ℕ) → length before ≡ a →
 middle before part behind a m e f = ap (take m) (drop-at before (part ++ behind) a e) ∙ take-at part behind m f
 
 module _ (n t : ℕ) (deals pairs reports shares : List ℕ) (given : Contents n t deals pairs reports shares) where
-  fit : Writable n t (length deals) (length pairs) (length reports) (length shares) (sectionStart n t 4)
+  fit : Writable n t deals pairs reports shares (sectionStart n t 4)
   fit = record {
     size = given .size;
     first = ap (λ z. 2 * z) (given .first) ∙ double n (t + 1);
@@ -48,14 +48,15 @@ module _ (n t : ℕ) (deals pairs reports shares : List ℕ) (given : Contents n
   }
 
   -- ---- The reader takes it
-  pub reading-record : reading (recordOf n t deals pairs reports shares) ≡ Fine
+  pub reading-record : reading (recordOf n t deals pairs reports shares) ≡ Fine n t
   unfolding recordOf directoryRight
   reading-record =
       let rest : List ℕ = deals ++ pairs ++ reports ++ shares in
       let bytes : List ℕ = recordOf n t deals pairs reports shares in
       let end = length-record n t deals pairs reports shares fit in
       let eight = length-directory n t in
-      let split : bytesOf (directory n t ++ deals ++ pairs ++ reports ++ shares) ≡ bytesOf (directory n t) ++ bytesOf rest = simp (bytes-append, append-assoc) in
+      let split : bytesOf (directory n t ++ deals ++ pairs ++ reports ++ shares) ≡ bytesOf (directory n t) ++ bytesOf rest =
+      simp (bytes-append, append-assoc) in
       let stand : standAt bytes 2 (directory n t) ≡ true =
       stand-true bytes 2 (directory n t) (λ k h.
       behind-sizes n t (bytesOf (directory n t ++ deals ++ pairs ++ reports ++ shares)) (2 * k)
@@ -64,16 +65,21 @@ module _ (n t : ℕ) (deals pairs reports shares : List ℕ) (given : Contents n
       ∙ bytes-place (directory n t) (directory-below n t (given .size)) k h) in
       reading-fine bytes (omega (arith, record-head n t)) (given .size) (simp (eq-eqb _ _ end, stand))
 
+  is-record : IsRecord (recordOf n t deals pairs reports shares)
+  is-record = fine-record (recordOf n t deals pairs reports shares) n t reading-record
+
   -- ---- Each section is the bytes of its list
   cut : (k : ℕ) (before xs behind : List ℕ) → k ≤ 3 → recordOf n t deals pairs reports shares ≡ before ++ (bytesOf xs ++ behind)
-      → length before ≡ sectionStart n t k → 2 * length xs ≡ sectionLength n t k → sectionOf (recordOf n t deals pairs reports shares) k ≡ bytesOf xs
+      → length before ≡ sectionStart n t k → 2 * length xs ≡ sectionLength n t k
+      → sectionOf (recordOf n t deals pairs reports shares) k ≡ bytesOf xs
   unfolding recordOf
   cut k before xs behind h e a m =
-      section-at (recordOf n t deals pairs reports shares) k reading-record h
+      section-at (recordOf n t deals pairs reports shares) k is-record h
       ∙ ap (λ z. take (sectionLength n t k) (drop (sectionStart n t k) z)) e
       ∙ middle before (bytesOf xs) behind (sectionStart n t k) (sectionLength n t k) a (length-bytes xs ∙ m)
 
-  pub record-section : (k : ℕ) → k ≤ 3 → sectionOf (recordOf n t deals pairs reports shares) k ≡ bytesOf (getD (deals ∷ pairs ∷ reports ∷ shares ∷ []) k [])
+  pub record-section : (k : ℕ) → k ≤ 3
+      → sectionOf (recordOf n t deals pairs reports shares) k ≡ bytesOf (getD (deals ∷ pairs ∷ reports ∷ shares ∷ []) k [])
   unfolding recordOf
   record-section zero h =
       cut 0 (n ∷ t ∷ bytesOf (directory n t)) deals (bytesOf (pairs ++ reports ++ shares)) h (simp (bytes-append, append-assoc))
@@ -97,17 +103,18 @@ module _ (n t : ℕ) (deals pairs reports shares : List ℕ) (given : Contents n
   small (suc (suc (suc zero))) h = given .small .1 .1 .1 .0
   small (suc (suc (suc (suc k)))) h = absurd (omega arith)
 
-  pub round-trip : (k : ℕ) → k ≤ 3 → numbers (sectionOf (recordOf n t deals pairs reports shares) k) ≡ getD (deals ∷ pairs ∷ reports ∷ shares ∷ []) k []
+  pub round-trip : (k : ℕ) → k ≤ 3
+      → numbersOf (recordOf n t deals pairs reports shares) k ≡ getD (deals ∷ pairs ∷ reports ∷ shares ∷ []) k []
   round-trip k h = ap numbers (record-section k h) ∙ numbers-bytes (getD (deals ∷ pairs ∷ reports ∷ shares ∷ []) k []) (small k h)
 
 -- ---- What the code writes
 
 -- What is writable is legal contents.
 pub writable-contents : (n t : ℕ) (deals pairs reports shares : List ℕ) (room : ℕ)
-    → writable n t (length deals) (length pairs) (length reports) (length shares) room ≡ true
+    → writable n t deals pairs reports shares room ≡ true
     → All (All (λ x. x < 65536)) (deals ∷ pairs ∷ reports ∷ shares ∷ []) → Contents n t deals pairs reports shares
 writable-contents n t deals pairs reports shares room e small =
-    let f = writable-facts n t (length deals) (length pairs) (length reports) (length shares) room e in
+    let f = writable-facts n t deals pairs reports shares room e in
     record {
       size = f .size;
       first = omega (arith, f .first, double n (t + 1));
@@ -118,19 +125,21 @@ writable-contents n t deals pairs reports shares room e small =
     }
 
 -- The buffer `new` and the answer r, as the contract of `write` gives them.
-module _ (n t : ℕ) (deals pairs reports shares out new : List ℕ) (r : ℕ) (done : _≡_ {A = List ℕ × Writing} (new, Written r) (writing n t deals pairs reports shares out)) where
+module _ (n t : ℕ) (deals pairs reports shares out new : List ℕ) (r : ℕ)
+    (done : _≡_ {A = List ℕ × Writing} (new, Written r) (writing n t deals pairs reports shares out)) where
   abbrev all : List ℕ
   all = recordOf n t deals pairs reports shares
 
   -- All tests passed.
-  tested : (writable n t (length deals) (length pairs) (length reports) (length shares) (length out) ≡ true) × (r ≡ sectionStart n t 4)
+  tested : (writable n t deals pairs reports shares (length out) ≡ true) × (r ≡ sectionStart n t 4)
   tested = only-writable n t deals pairs reports shares out r (sym (ap (λ w. w .1) done))
 
   fits : (length all ≡ r) × (length all ≤ length out) × (new ≡ over all out)
   fits =
-      let f = writable-facts n t (length deals) (length pairs) (length reports) (length shares) (length out) (tested .0) in
+      let f = writable-facts n t deals pairs reports shares (length out) (tested .0) in
       let size = length-record n t deals pairs reports shares f in
-      (size ∙ sym (tested .1), omega (arith, f .whole), ap (λ w. w .0) (done ∙ writing-written n t deals pairs reports shares out (tested .0)))
+      let buffer = done ∙ writing-written n t deals pairs reports shares out (tested .0) in
+      (size ∙ sym (tested .1), omega (arith, f .whole), ap (λ w. w .0) buffer)
 
   -- The buffer's front is the record, and behind it the buffer is as it was.
   pub written : take r new ≡ recordOf n t deals pairs reports shares
@@ -141,14 +150,12 @@ module _ (n t : ℕ) (deals pairs reports shares out new : List ℕ) (r : ℕ) (
 
   -- What is written is read: the sizes, and in section k the numbers of the k-th list.
   pub written-read : All (All (λ x. x < 65536)) (deals ∷ pairs ∷ reports ∷ shares ∷ [])
-      → (r ≡ sectionStart n t 4) × (reading (take r new) ≡ Fine) × (nOf (take r new) ≡ n) × (tOf (take r new) ≡ t)
-      × ((k : ℕ) → k ≤ 3 → numbers (sectionOf (take r new) k) ≡ getD (deals ∷ pairs ∷ reports ∷ shares ∷ []) k [])
+      → (r ≡ sectionStart n t 4) × (reading (take r new) ≡ Fine n t)
+      × ((k : ℕ) → k ≤ 3 → numbersOf (take r new) k ≡ getD (deals ∷ pairs ∷ reports ∷ shares ∷ []) k [])
   unfolding recordOf
   written-read small =
       let given = writable-contents n t deals pairs reports shares (length out) (tested .0) small in (
         tested .1,
         ap reading written ∙ reading-record n t deals pairs reports shares given,
-        ap nOf written,
-        ap tOf written,
-        λ k h. ap (λ z. numbers (sectionOf z k)) written ∙ round-trip n t deals pairs reports shares given k h,
+        λ k h. ap (λ z. numbersOf z k) written ∙ round-trip n t deals pairs reports shares given k h,
       )

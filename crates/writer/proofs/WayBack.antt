@@ -1,4 +1,4 @@
--- The way back: a fine record is the record of its own sizes and of the numbers of its own sections, which are legal contents.
+-- The way back: a record is the record of its own sizes and of the numbers of its own sections, which are legal contents.
 use mathlib.Core.Path.{_≡_, refl, sym, ap, ap₂, subst, _∙_}
 use mathlib.Core.List.{List, [], _∷_, _++_, append-assoc, append-nil}
 use Prim.Native.Nat.{ℕ, zero, suc, _+_, _*_, _/_, _%_, _≤_, _<_}
@@ -9,14 +9,13 @@ use lib.Seq.{ext-getD, getD-take, getD-drop, drop-drop, length-take-le}
 use Rattle.lists.specs.All.{All}
 use Rattle.lists.proofs.All.{all-take, all-drop}
 use Rattle.lists.proofs.InPlace.{drop-end}
-use Rattle.record.specs.declared.Reading.the-variants.{Fine}
 use Rattle.record.specs.Bytes.{numberAt, numbers}
-use Rattle.record.specs.Record.{sectionLength, sectionStart, directory, nOf, tOf, reading, sectionOf}
+use Rattle.record.specs.Record.{sectionLength, sectionStart, directory, nOf, tOf, IsRecord, sectionOf, numbersOf}
 use Rattle.writer.specs.Writer.{bytesOf, recordOf, Contents}
 use Rattle.record.proofs.Bytes.{length-numbers, number-place, numbers-below}
 use Rattle.writer.proofs.Bytes.{bytes-append, bytes-numbers}
 use Rattle.record.proofs.Sections.{length-directory, record-head}
-use Rattle.record.proofs.Answers.{fine-passed, section-at, length-section}
+use Rattle.record.proofs.Answers.{record-directory, section-at, length-section}
 use Rattle.writer.proofs.Buffer.{double}
 
 two-first : (bytes : List ℕ) → 2 ≤ length bytes → nOf bytes ∷ tOf bytes ∷ drop 2 bytes ≡ bytes
@@ -38,43 +37,47 @@ even n t (suc (suc zero)) = mul-mod-right 2 n
 even n t (suc (suc (suc zero))) = mul-mod-right 2 n
 even n t (suc (suc (suc (suc k)))) = refl
 
-module _ (bytes : List ℕ) (small : All (λ b. b < 256) bytes) (fine : reading bytes ≡ Fine) where
+module _ (bytes : List ℕ) (small : All (λ b. b < 256) bytes) (is : IsRecord bytes) where
   -- The directory's bytes.
   directory-back : take 16 (drop 2 bytes) ≡ bytesOf (directory (nOf bytes) (tOf bytes))
   directory-back =
-      let (two, size, end, at) = fine-passed bytes fine in
       let part : List ℕ = take 16 (drop 2 bytes) in
-      let long : length part ≡ 16 = length-take-le 16 (drop 2 bytes) (omega (arith, length-drop 2 bytes, record-head (nOf bytes) (tOf bytes))) in
-      let eight : length (numbers part) ≡ 8 = length-numbers part ∙ omega arith in
-      let same : numbers part ≡ directory (nOf bytes) (tOf bytes) =
-      ext-getD 0 (numbers part) (directory (nOf bytes) (tOf bytes)) (eight ∙ sym (length-directory (nOf bytes) (tOf bytes))) (λ k h.
-      number-place part k (omega arith) ∙ part-place bytes k (omega arith) ∙ at k (omega arith)) in
-      sym (bytes-numbers part (all-take (λ b. b < 256) 16 (drop 2 bytes) (all-drop (λ b. b < 256) 2 bytes small)) (omega arith)) ∙ ap bytesOf same
+      let list : List ℕ = directory (nOf bytes) (tOf bytes) in
+      let head = record-head (nOf bytes) (tOf bytes) in
+      let long : length part ≡ 16 = length-take-le 16 (drop 2 bytes) (omega (arith, length-drop 2 bytes, is .end)) in
+      let eight = length-directory (nOf bytes) (tOf bytes) in
+      let same : numbers part ≡ list =
+      ext-getD 0 (numbers part) list (length-numbers part ∙ omega arith) (λ k h.
+      let place : k < 8 = omega (arith, length-numbers part) in
+      number-place part k (omega arith) ∙ part-place bytes k place ∙ record-directory bytes is k (omega arith)) in
+      let bits : All (λ b. b < 256) part = all-take (λ b. b < 256) 16 (drop 2 bytes) (all-drop (λ b. b < 256) 2 bytes small) in
+      sym (bytes-numbers part bits (omega arith)) ∙ ap bytesOf same
 
   section-small : (k : ℕ) → k ≤ 3 → All (λ b. b < 256) (sectionOf bytes k)
   section-small k h =
       let start : ℕ = sectionStart (nOf bytes) (tOf bytes) k in
       let size : ℕ = sectionLength (nOf bytes) (tOf bytes) k in
-      subst (All (λ b. b < 256)) (sym (section-at bytes k fine h)) (all-take (λ b. b < 256) size (drop start bytes) (all-drop (λ b. b < 256) start bytes small))
+      subst (All (λ b. b < 256)) (sym (section-at bytes k is h))
+      (all-take (λ b. b < 256) size (drop start bytes) (all-drop (λ b. b < 256) start bytes small))
 
   -- A section's bytes are those of its numbers.
-  section-back : (k : ℕ) → k ≤ 3 → sectionOf bytes k ≡ bytesOf (numbers (sectionOf bytes k))
+  section-back : (k : ℕ) → k ≤ 3 → sectionOf bytes k ≡ bytesOf (numbersOf bytes k)
   section-back k h =
       sym (bytes-numbers (sectionOf bytes k) (section-small k h)
-      (ap (λ z. z % 2) (length-section bytes k fine h) ∙ even (nOf bytes) (tOf bytes) k))
+      (ap (λ z. z % 2) (length-section bytes k is h) ∙ even (nOf bytes) (tOf bytes) k))
 
   -- Half as many numbers as bytes, and each of 16 bits.
-  part-length : (k m : ℕ) → k ≤ 3 → sectionLength (nOf bytes) (tOf bytes) k ≡ 2 * m → length (numbers (sectionOf bytes k)) ≡ m
+  part-length : (k m : ℕ) → k ≤ 3 → sectionLength (nOf bytes) (tOf bytes) k ≡ 2 * m → length (numbersOf bytes k) ≡ m
   part-length k m h e =
-      length-numbers (sectionOf bytes k) ∙ ap (λ z. z / 2) (length-section bytes k fine h ∙ e) ∙ mul-div-right m (omega arith)
+      length-numbers (sectionOf bytes k) ∙ ap (λ z. z / 2) (length-section bytes k is h ∙ e) ∙ mul-div-right m (omega arith)
 
-  part-small : (k : ℕ) → k ≤ 3 → All (λ x. x < 65536) (numbers (sectionOf bytes k))
+  part-small : (k : ℕ) → k ≤ 3 → All (λ x. x < 65536) (numbersOf bytes k)
   part-small k h = numbers-below (sectionOf bytes k) (section-small k h)
 
   -- What is read can be written.
-  pub fine-contents : Contents (nOf bytes) (tOf bytes) (numbers (sectionOf bytes 0)) (numbers (sectionOf bytes 1)) (numbers (sectionOf bytes 2)) (numbers (sectionOf bytes 3))
-  fine-contents = record {
-    size = fine-passed bytes fine .1;
+  pub record-contents : Contents (nOf bytes) (tOf bytes) (numbersOf bytes 0) (numbersOf bytes 1) (numbersOf bytes 2) (numbersOf bytes 3)
+  record-contents = record {
+    size = is .size;
     first = part-length 0 (2 * nOf bytes * (tOf bytes + 1)) (omega arith) (sym (double (nOf bytes) (tOf bytes + 1)));
     second = part-length 1 (2 * nOf bytes * nOf bytes) (omega arith) (sym (double (nOf bytes) (nOf bytes)));
     third = part-length 2 (nOf bytes) (omega arith) refl;
@@ -84,25 +87,20 @@ module _ (bytes : List ℕ) (small : All (λ b. b < 256) bytes) (fine : reading 
 
   -- From a section's start on there is the section and what stands behind it.
   onward : (k : ℕ) → k ≤ 3 → (rest : List ℕ) → drop (sectionStart (nOf bytes) (tOf bytes) (suc k)) bytes ≡ rest
-      → drop (sectionStart (nOf bytes) (tOf bytes) k) bytes ≡ bytesOf (numbers (sectionOf bytes k)) ++ rest
+      → drop (sectionStart (nOf bytes) (tOf bytes) k) bytes ≡ bytesOf (numbersOf bytes k) ++ rest
   onward k h rest e =
       let start : ℕ = sectionStart (nOf bytes) (tOf bytes) k in
       let size : ℕ = sectionLength (nOf bytes) (tOf bytes) k in
       sym (take-append-drop size (drop start bytes))
-      ∙ ap₂ _++_ (sym (section-at bytes k fine h) ∙ section-back k h) (drop-drop size start bytes ∙ e)
+      ∙ ap₂ _++_ (sym (section-at bytes k is h) ∙ section-back k h) (drop-drop size start bytes ∙ e)
 
-  -- The numbers of section k.
-  abbrev part : ℕ → List ℕ
-  part k = numbers (sectionOf bytes k)
-
-  pub way-back : recordOf (nOf bytes) (tOf bytes) (numbers (sectionOf bytes 0)) (numbers (sectionOf bytes 1)) (numbers (sectionOf bytes 2)) (numbers (sectionOf bytes 3)) ≡ bytes
+  pub way-back : recordOf (nOf bytes) (tOf bytes) (numbersOf bytes 0) (numbersOf bytes 1) (numbersOf bytes 2) (numbersOf bytes 3) ≡ bytes
   unfolding recordOf
   way-back =
-      let (two, size, end, at) = fine-passed bytes fine in
-      let none = drop-end bytes (sectionStart (nOf bytes) (tOf bytes) 4) (omega arith) in
+      let none = drop-end bytes (sectionStart (nOf bytes) (tOf bytes) 4) (omega (arith, is .end)) in
       let sections = onward 0 (omega arith) _ (onward 1 (omega arith) _ (onward 2 (omega arith) _ (onward 3 (omega arith) [] none))) in
-      let all : drop 2 bytes ≡ bytesOf (directory (nOf bytes) (tOf bytes)) ++ (bytesOf (part 0) ++ (bytesOf (part 1) ++ (bytesOf (part 2) ++ (bytesOf (part 3) ++ [])))) =
-      sym (take-append-drop 16 (drop 2 bytes)) ∙ ap₂ _++_ directory-back (drop-drop 16 2 bytes ∙ sections) in
-      let flat : bytesOf (directory (nOf bytes) (tOf bytes) ++ part 0 ++ part 1 ++ part 2 ++ part 3) ≡ drop 2 bytes =
+      let all = sym (take-append-drop 16 (drop 2 bytes)) ∙ ap₂ _++_ directory-back (drop-drop 16 2 bytes ∙ sections) in
+      let list : List ℕ = directory (nOf bytes) (tOf bytes) in
+      let flat : bytesOf (list ++ numbersOf bytes 0 ++ numbersOf bytes 1 ++ numbersOf bytes 2 ++ numbersOf bytes 3) ≡ drop 2 bytes =
       rw all (simp (bytes-append, append-assoc, append-nil)) in
-      ap (λ z. nOf bytes ∷ tOf bytes ∷ z) flat ∙ two-first bytes two
+      ap (λ z. nOf bytes ∷ tOf bytes ∷ z) flat ∙ two-first bytes (is .two)

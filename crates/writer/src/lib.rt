@@ -6,15 +6,10 @@ ghost use Prim.Native.Nat.{_+_, _*_, _/_, _%_, _≤_};
 ghost use lib.ListN.{length, take, drop};
 ghost use Rattle.parties.specs.Parties.{sizes};
 ghost use Rattle.record.specs.Bytes.{over};
-ghost use Rattle.record.specs.Record.{sectionStart};
-ghost use Rattle.writer.specs.Writer.{bytesOf, directoryBy, recordOf, lengthsFit, writable, writing};
-
-// What the writer answers: the record's length, or why nothing is written. Document 01's number of each refusal is `writingNumber` in the definitions.
-pub enum Writing {
-    Written(usize),
-    WrongSize,
-    WrongLength,
-}
+ghost use Rattle.record.specs.Record.{sectionStart, directory};
+ghost use Rattle.writer.specs.Writer.{bytesOf, recordOf, listsFit, writable, writing};
+use answers::Refusal;
+use answers::Writing;
 
 // A number's high byte.
 fn high(x: u16) -> u8
@@ -49,7 +44,7 @@ fn put(list: &[u16], at: usize, out: &mut [u8]) -> usize
 }
 
 // Whether the four lists have a record's lengths and the buffer has room for it.
-fn lengths_fit(
+fn lists_fit(
     n: u8,
     t: u8,
     deals: usize,
@@ -59,7 +54,7 @@ fn lengths_fit(
     room: usize,
 ) -> bool
     requires { ⌜ sizes n t ≡ true ⌝ }
-    ensures { λ r. ⌜ r ≡ lengthsFit n t deals pairs reports shares room ⌝ }
+    ensures { λ r. ⌜ r ≡ listsFit n t deals pairs reports shares room ⌝ }
 {
     let size = n as usize;
     if deals != 2 * size * (t as usize + 1) {
@@ -77,36 +72,15 @@ fn lengths_fit(
     18 + 2 * (deals + pairs + size + size) <= room
 }
 
-// The directory, by how many numbers the deals, round two and each of the last two sections have.
-fn directory(deals: usize, pairs: usize, each: usize) -> [u16; 8]
-    requires { ⌜ 18 + 2 * deals + 2 * pairs + 2 * each ≤ 65535 ⌝ }
-    ensures { λ r. ⌜ r ≡ directoryBy (2 * deals) (2 * pairs) (2 * each) ⌝ }
-{
-    let first = (2 * deals) as u16;
-    let second = (2 * pairs) as u16;
-    let third = (2 * each) as u16;
-    let end = 18 + first + second;
-    [
-        18,
-        first,
-        18 + first,
-        second,
-        end,
-        third,
-        end + third,
-        third,
-    ]
-}
-
 // Writes the sizes and the directory over the front of the buffer and answers the place behind them.
-fn put_head(n: u8, t: u8, deals: usize, pairs: usize, out: &mut [u8]) -> usize
-    requires { ⌜ (18 ≤ length (now out)) × (18 + 2 * deals + 2 * pairs + 2 * n ≤ 65535) ⌝ }
+fn put_head(n: u8, t: u8, out: &mut [u8]) -> usize
+    requires { ⌜ (sizes n t ≡ true) × (18 ≤ length (now out)) ⌝ }
     ensures end { λ r. ⌜ r ≡ 18 ⌝ }
-    ensures written { λ r. ⌜ now (out .exit) ≡ (n ∷ t ∷ bytesOf (directoryBy (2 * deals) (2 * pairs) (2 * n))) ++ drop 18 (now (out .entry)) ⌝ }
+    ensures written { λ r. ⌜ now (out .exit) ≡ (n ∷ t ∷ bytesOf (directory n t)) ++ drop 18 (now (out .entry)) ⌝ }
 {
     out[0] = n;
     out[1] = t;
-    let numbers = directory(deals, pairs, n as usize);
+    let numbers = record::directory(n, t);
     put(&numbers[..8], 2, out)
 }
 
@@ -120,11 +94,12 @@ fn fill(
     shares: &[u16],
     out: &mut [u8],
 ) -> usize
-    requires { ⌜ writable n t (length (now deals)) (length (now pairs)) (length (now reports)) (length (now shares)) (length (now out)) ≡ true ⌝ }
+    requires { ⌜ writable n t (now deals) (now pairs) (now reports) (now shares) (length (now out)) ≡ true ⌝ }
     ensures end { λ r. ⌜ r ≡ sectionStart n t 4 ⌝ }
-    ensures written { λ r. ⌜ now (out .exit) ≡ over (recordOf n t (now (deals .entry)) (now (pairs .entry)) (now (reports .entry)) (now (shares .entry))) (now (out .entry)) ⌝ }
+    ensures written { λ r. ⌜ now (out .exit)
+        ≡ over (recordOf n t (now (deals .entry)) (now (pairs .entry)) (now (reports .entry)) (now (shares .entry))) (now (out .entry)) ⌝ }
 {
-    let first = put_head(n, t, deals.len(), pairs.len(), out);
+    let first = put_head(n, t, out);
     let second = put(deals, first, out);
     let third = put(pairs, second, out);
     let fourth = put(reports, third, out);
@@ -141,12 +116,13 @@ pub fn write(
     shares: &[u16],
     out: &mut [u8],
 ) -> Writing
-    ensures { λ r. ⌜ (now (out .exit), r) ≡ writing n t (now (deals .entry)) (now (pairs .entry)) (now (reports .entry)) (now (shares .entry)) (now (out .entry)) ⌝ }
+    ensures { λ r. ⌜ (now (out .exit), r)
+        ≡ writing n t (now (deals .entry)) (now (pairs .entry)) (now (reports .entry)) (now (shares .entry)) (now (out .entry)) ⌝ }
 {
     if !parties::sizes(n, t) {
-        return Writing::WrongSize;
+        return Writing::Refused(Refusal::WrongSize);
     }
-    if !lengths_fit(
+    if !lists_fit(
         n,
         t,
         deals.len(),
@@ -155,7 +131,7 @@ pub fn write(
         shares.len(),
         out.len(),
     ) {
-        return Writing::WrongLength;
+        return Writing::Refused(Refusal::WrongLength);
     }
     Writing::Written(fill(n, t, deals, pairs, reports, shares, out))
 }

@@ -51,7 +51,8 @@ plus-times-requires c κs =
 loop-holds : tie.Need-loop-holds Inv-loop μ-loop
 loop-holds c =
     let s = c .before .before .before .before .before in
-    column-start modulus _ _ _ (s .before .before .before .before .args .out .now) _ refl (square s) (c .before .before .plus-times .ensures)
+    column-start modulus _ _ _ (s .before .before .before .before .args .out .now) _ refl (square s)
+    (c .before .before .plus-times .ensures)
 
 sub-start : tie.Need-sub-start Inv-loop μ-loop
 sub-start c = omega (arith, column-bounds modulus _ _ _ _ _ (c .before .loop .inv) (omega arith))

@@ -17,7 +17,8 @@ abbrev μ-loop : tie.MeasureT-loop
 μ-loop n i row column pairs bits₀ k₀ bits k = n - k
 
 loop-holds : tie.Need-loop-holds Inv-loop μ-loop
-loop-holds c = let a = c .before .before .before .args in (search needs, report-start modulus (a .i) (a .row .now) (a .column .now) (a .pairs .now))
+loop-holds c = let a = c .before .before .before .args in
+    (search needs, report-start modulus (a .i) (a .row .now) (a .column .now) (a .pairs .now))
 
 add-j : tie.Need-add-j Inv-loop μ-loop
 add-j c = search needs
@@ -36,7 +37,10 @@ add-bits : tie.Need-add-bits Inv-loop μ-loop
 add-bits c =
     let k = c .before .before .before in
     let a = k .before .before .before .before .args in
-    record { fits = report-room modulus (a .i) (a .row .now) (a .column .now) (a .pairs .now) (k .loop .bits) (k .loop .k) (k .loop .inv .1) (omega arith) }
+    record {
+      fits = report-room modulus (a .i) (a .row .now) (a .column .now) (a .pairs .now) (k .loop .bits) (k .loop .k)
+          (k .loop .inv .1) (omega arith);
+    }
 
 add-k : tie.Need-add-k Inv-loop μ-loop
 add-k c = search needs
@@ -52,8 +56,10 @@ loop-again c =
     let l = k .loop in (
       search needs,
       ⊎-elim
-          (λ w. w .1 ∙ report-one modulus (a .i) (a .row .now) (a .column .now) (a .pairs .now) (l .bits) (l .k) (f .confirms .result) (l .inv .1) (f .confirms .ensures) (omega arith) (w .0 .taken))
-          (λ w. w .1 ∙ report-zero modulus (a .i) (a .row .now) (a .column .now) (a .pairs .now) (l .bits) (l .k) (f .confirms .result) (l .inv .1) (f .confirms .ensures) (w .0 .left))
+          (λ w. w .1 ∙ report-one modulus (a .i) (a .row .now) (a .column .now) (a .pairs .now) (l .bits) (l .k) (f .confirms .result)
+          (l .inv .1) (f .confirms .ensures) (omega arith) (w .0 .taken))
+          (λ w. w .1 ∙ report-zero modulus (a .i) (a .row .now) (a .column .now) (a .pairs .now) (l .bits) (l .k) (f .confirms .result)
+          (l .inv .1) (f .confirms .ensures) (w .0 .left))
           (c .if1 .came),
     )
 

@@ -31,7 +31,8 @@ returns-2 : tie.Need-returns-2
 returns-2 c =
     let s = c .before .before .before .before .before .before .before .before in
     let v = c .before in
-    confirms-not modulus _ _ _ _ _ (v .before .before .before .if1 .left) (s .pre .2) (λ e. c .if2 .taken (e ∙ sym (rw (v .before .before .point .ensures) at (v .value .ensures))))
+    confirms-not modulus _ _ _ _ _ (v .before .before .before .if1 .left) (s .pre .2)
+    (λ e. c .if2 .taken (e ∙ sym (rw (v .before .before .point .ensures) at (v .value .ensures))))
 
 add-result : tie.Need-add-result
 add-result c = search needs
@@ -51,7 +52,8 @@ returns-3 c =
     let point = v .before .before in
     let s = point .before .before .before .before .before in
     rw (c .value2 .ensures, point .point .ensures)
-    (confirms-by modulus _ _ _ _ _ (point .before .if1 .left) (s .pre .2) (c .before .before .if2 .left ∙ rw (point .point .ensures) at (v .value .ensures)))
+    (confirms-by modulus _ _ _ _ _ (point .before .if1 .left) (s .pre .2)
+    (c .before .before .if2 .left ∙ rw (point .point .ensures) at (v .value .ensures)))
 
 pub confirms-spec : {M : Type 1} → statement M
 confirms-spec =

@@ -22,7 +22,8 @@ unfolding notSent
 returns-2 c =
     let s = c .before in
     ap said
-    (pair-unsound modulus _ _ _ _ (λ e. s .before .if1 .left (sym e)) (sym (s .sound .ensures) ∙ not-true (s .sound .result) (c .if2 .taken)))
+    (pair-unsound modulus _ _ _ _ (λ e. s .before .if1 .left (sym e))
+    (sym (s .sound .ensures) ∙ not-true (s .sound .result) (c .if2 .taken)))
 
 point-requires : tie.Need-point-requires
 point-requires c κs = search needs
@@ -38,9 +39,11 @@ returns-3 c =
     let point = c .before .before in
     let s = point .before .before in
     let a = s .before .before .before .before .args in
-    ap₂ (λ (a b : ℕ). said (a, b)) (rw (point .point .ensures) at (c .before .value .ensures)) (rw (point .point .ensures) at (c .value2 .ensures))
+    ap₂ (λ (a b : ℕ). said (a, b)) (rw (point .point .ensures) at (c .before .value .ensures))
+    (rw (point .point .ensures) at (c .value2 .ensures))
     ∙ ap said
-    (pair-sound modulus (a .i) (a .row .now) (a .column .now) (a .j) (λ e. s .before .if1 .left (sym e)) (sym (s .sound .ensures) ∙ not-false (s .sound .result) (point .before .if2 .left)))
+    (pair-sound modulus (a .i) (a .row .now) (a .column .now) (a .j) (λ e. s .before .if1 .left (sym e))
+    (sym (s .sound .ensures) ∙ not-false (s .sound .result) (point .before .if2 .left)))
 
 pub pair-for-spec : {M : Type 1} → statement M
 pair-for-spec =

@@ -18,7 +18,8 @@ loop-holds : tie.Need-loop-holds Inv-loop μ-loop
 loop-holds c = deals-start modulus _ _ _ _ (search needs) (search needs)
 
 -- There is room for one more deal.
-room : (c : tie.In-loop Inv-loop μ-loop) → c .before .loop .start + 2 * c .before .before .before .before .args .width ≤ length (c .before .loop .out)
+room : (c : tie.In-loop Inv-loop μ-loop)
+    → c .before .loop .start + 2 * c .before .before .before .before .args .width ≤ length (c .before .loop .out)
 room c = deals-room modulus _ _ _ _ _ _ (c .before .loop .inv) (omega arith)
 
 mul-end : tie.Need-mul-end Inv-loop μ-loop

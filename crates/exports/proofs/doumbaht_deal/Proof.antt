@@ -1,20 +1,20 @@
 -- `exports::doumbaht_deal` meets its contract: the desk's list, and the number of its answer.
-use borrow.Author.Needs.{needs}
 use mathlib.Core.Path.{ap, _∙_}
 use mathlib.Core.List.{List}
 use Prim.Native.Nat.{ℕ}
 use Rattle.lists.specs.Options.{orZero}
 use Rattle.dealer.specs.declared.Dealing.{Dealing}
-use Rattle.dealer.specs.Desk.{numberOf}
+use Rattle.dealer.specs.Desk.{dealingNumber}
 use Rattle.exports.specs.Exports.{dealing}
+use borrow.Author.Needs.{needs}
 use Rattle.exports.proofs.doumbaht_deal.Statement.{statement}
 use Rattle.exports.proofs.doumbaht_deal.Tie as tie
 
 deal-requires : tie.Need-deal-requires
 deal-requires c κs = search needs
 
-refusal-number-requires : tie.Need-refusal-number-requires
-refusal-number-requires c κs = search needs
+dealing-number-requires : tie.Need-dealing-number-requires
+dealing-number-requires c κs = search needs
 
 same-length : tie.Need-same-length
 same-length c = search needs
@@ -23,8 +23,14 @@ returns : tie.Need-returns
 unfolding dealing
 returns c =
     let d = c .before .before .before .deal in
-    ap (λ (k : ℕ). (d .last .1 .1 .1 .0, k)) (c .refusal-number .ensures)
-    ∙ ap (λ (a : List ℕ × Dealing). (a .0, orZero (numberOf (a .1)))) (d .ensures)
+    ap (λ (k : ℕ). (d .last .1 .1 .1 .0, k)) (c .dealing-number .ensures)
+    ∙ ap (λ (a : List ℕ × Dealing). (a .0, orZero (dealingNumber (a .1)))) (d .ensures)
 
 pub doumbaht-deal-spec : {M : Type 1} → statement M
-doumbaht-deal-spec = tie.close (tie.spec deal-requires refusal-number-requires same-length returns)
+doumbaht-deal-spec =
+    tie.close
+    (tie.spec
+    deal-requires
+    dealing-number-requires
+    same-length
+    returns)

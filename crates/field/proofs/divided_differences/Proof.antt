@@ -12,8 +12,9 @@ use Rattle.field.proofs.divided_differences.Lts as lts
 use Rattle.field.proofs.slope_of.Reads as slope-of-reads
 
 -- The arrays hold four numbers each.
-sizes : (s : lts.Start (slope-of-reads.Asked, slope-of-reads.Learnt) reads.Pre reads.Post) → (length (s .args .t1) ≡ 4) × (length (s .args .t2) ≡ 4)
-sizes s = (omega arith, omega arith)
+widths : (s : lts.Start (slope-of-reads.Asked, slope-of-reads.Learnt) reads.Pre reads.Post)
+    → (length (s .args .t1) ≡ 4) × (length (s .args .t2) ≡ 4)
+widths s = (omega arith, omega arith)
 
 array-read-x0 : tie.Need-array-read-x0
 array-read-x0 c = search needs
@@ -101,7 +102,7 @@ returns c =
     let c₁ = c₀ .before in
     let b = c₁ .before in
     let s = b .before in
-    let l = sizes s in
+    let l = widths s in
     newton-four modulus (s .args .t1) (s .args .t2) (l .0) (l .1) _ _ _ _ _ _ (b .slope-of .ensures .0) (c₁ .slope-of2 .ensures .0)
     (c₀ .slope-of3 .ensures .0) (d₁ .slope-of4 .ensures .0) (d₂ .slope-of5 .ensures .0) (c .slope-of6 .ensures .0)
 

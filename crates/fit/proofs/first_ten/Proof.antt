@@ -14,6 +14,10 @@ Inv-loop xs ys px₀ py₀ d₀ i₀ px py d i = Gathering modulus xs ys px py d
 abbrev μ-loop : tie.MeasureT-loop
 μ-loop xs ys px₀ py₀ d₀ i₀ px py d i = length xs - i
 
+-- The loop's turn in which a point is read.
+abbrev turn : tie.After-shared-slice-known2 Inv-loop μ-loop → tie.At-loop Inv-loop μ-loop
+turn read = read .before .before .before .before
+
 loop-holds : tie.Need-loop-holds Inv-loop μ-loop
 loop-holds c = gathering-start modulus _ _ _ _ (c .pre .1 .0) (c .pre .1 .1)
 
@@ -63,7 +67,7 @@ loop-less c = search needs
 
 loop-again : tie.Need-loop-again Inv-loop μ-loop
 loop-again c =
-    let k = c .before .before .before .before .before .loop in
+    let k = turn (c .before) .loop in
     gathering-sent modulus _ _ _ _ (k .d) (k .i) (k .inv) (omega arith) (omega arith) (omega arith) (c .if2 .taken)
 
 loop-less-2 : tie.Need-loop-less-2 Inv-loop μ-loop
@@ -71,7 +75,7 @@ loop-less-2 c = search needs
 
 loop-again-2 : tie.Need-loop-again-2 Inv-loop μ-loop
 loop-again-2 c =
-    let k = c .before .before .before .before .before .loop in
+    let k = turn (c .before) .loop in
     gathering-unsent modulus _ _ _ _ (k .d) (k .i) (k .inv) (omega arith) (omega arith) (c .if2 .left)
 
 same-length-3 : tie.Need-same-length-3 Inv-loop μ-loop

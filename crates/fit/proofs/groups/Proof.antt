@@ -1,14 +1,11 @@
 -- `fit::groups` meets its contract. The loop keeps `Grouping`; each answer is one law of proofs/Grouping.
-use mathlib.Core.Path.{_≡_, sym, _∙_}
+use mathlib.Core.Path.{_≡_, _∙_}
 use mathlib.Core.Bool.{false}
 use Prim.Native.Nat.{_+_, _-_, _<_}
 use native.Mathlib.Omega.{arith}
 use borrow.Author.Needs.{needs}
 use Rattle.field.specs.Modulus.{modulus}
 use Rattle.field.proofs.Primes.{prime}
-use Rattle.trial.specs.Trial.{tried}
-use Rattle.trial.specs.Answer.{answer}
-use Rattle.trial.proofs.Answers.{tried-within}
 use Rattle.fit.specs.Grouping.{Grouping}
 use Rattle.fit.proofs.Grouping.{groups-found, groups-none, groups-next, groups-last}
 use Rattle.fit.proofs.groups.Statement.{statement}
@@ -20,23 +17,22 @@ Inv-loop t need xs ys sent spare i₀ left₀ wrong₀ i left wrong = Grouping m
 abbrev μ-loop : tie.MeasureT-loop
 μ-loop t need xs ys sent spare i₀ left₀ wrong₀ i left wrong = left
 
--- What the next group gives.
-group : (g : tie.After-next Inv-loop μ-loop)
-    → let s = g .before .before .before .before .before .before .args in
-    g .next .result ≡ answer (tried modulus (s .need) (s .xs .now) (s .ys .now) (g .before .behind .result) (s .t + 1) 0)
-group g =
-    let k = g .before .before .before .loop .inv .0 in
-    g .next .ensures ∙ sym (tried-within _ _ _ (g .before .behind .result) _ 0 (omega (arith, k .degree)) (k .sizes))
+-- The places that the proof names: the loop's turn, the start.
+abbrev turn : tie.After-next Inv-loop μ-loop → tie.At-loop Inv-loop μ-loop
+turn g = g .before .before .before
+
+abbrev start : tie.At-loop Inv-loop μ-loop → tie.Start Inv-loop μ-loop
+start k = k .before .before .before
 
 -- A group has failed: behind it one point fewer is wrong.
 failed : (g : tie.After-next Inv-loop μ-loop) → g .next .result .found ≡ false
-    → let k = g .before .before .before .loop in
-    let s = g .before .before .before .before .before .before .args in
+    → let k = turn g .loop in
+    let s = start (turn g) .args in
     Grouping modulus (s .t) (s .need) (s .xs .now) (s .ys .now) (g .before .behind .result) (k .left - (s .t + 1)) (k .wrong - 1)
 failed g lost =
-    let k = g .before .before .before .loop in
+    let k = turn g .loop in
     groups-next modulus prime _ _ _ _ (k .i) (k .left) (k .wrong) (k .inv .0) _ _ (λ z. omega arith) (omega arith)
-    (g .before .behind .ensures) (group g) lost
+    (g .before .behind .ensures) (g .next .ensures) lost
 
 loop-holds : tie.Need-loop-holds Inv-loop μ-loop
 loop-holds c = c .before .before .pre
@@ -71,15 +67,15 @@ add-next c = search needs
 next-requires : tie.Need-next-requires Inv-loop μ-loop
 next-requires c κs = search needs
 
-copied-requires : tie.Need-copied-requires Inv-loop μ-loop
-copied-requires c κs = search needs
+decoded-requires : tie.Need-decoded-requires Inv-loop μ-loop
+decoded-requires c κs = search needs
 
 returns : tie.Need-returns Inv-loop μ-loop
 returns c =
     let g = c .before .before in
-    let k = g .before .before .before .loop in
-    c .copied .ensures
-    ∙ groups-found modulus prime _ _ _ _ (k .i) (k .left) (k .wrong) (k .inv .0) 0 (g .before .behind .result) _ (group g)
+    let k = turn g .loop in
+    c .decoded .ensures
+    ∙ groups-found modulus prime _ _ _ _ (k .i) (k .left) (k .wrong) (k .inv .0) 0 (g .before .behind .result) _ (g .next .ensures)
     (c .before .if1 .taken)
 
 nothing-requires : tie.Need-nothing-requires Inv-loop μ-loop
@@ -102,16 +98,14 @@ add-choices c = search needs
 choices-requires : tie.Need-choices-requires Inv-loop μ-loop
 choices-requires c κs = search needs
 
-copied-requires-2 : tie.Need-copied-requires-2 Inv-loop μ-loop
-copied-requires-2 c κs = search needs
+decoded-requires-2 : tie.Need-decoded-requires-2 Inv-loop μ-loop
+decoded-requires-2 c κs = search needs
 
 returns-3 : tie.Need-returns-3 Inv-loop μ-loop
 returns-3 c =
     let k = c .before .before .before .loop in
-    c .copied2 .ensures
-    ∙ c .before .choices .ensures
-    ∙ sym (tried-within _ _ _ (k .i) _ (k .wrong) (omega (arith, k .inv .0 .degree)) (k .inv .0 .sizes))
-    ∙ groups-last modulus prime _ _ _ _ (k .i) (k .left) (k .wrong) (k .inv .0)
+    c .decoded2 .ensures
+    ∙ groups-last modulus prime _ _ _ _ (k .i) (k .left) (k .wrong) (k .inv .0) _ (c .before .choices .ensures)
 
 pub groups-spec : {M : Type 1} → statement M
 groups-spec =
@@ -130,7 +124,7 @@ groups-spec =
     sub-wrong
     add-next
     next-requires
-    copied-requires
+    decoded-requires
     returns
     nothing-requires
     returns-2
@@ -138,5 +132,5 @@ groups-spec =
     loop-again
     add-choices
     choices-requires
-    copied-requires-2
+    decoded-requires-2
     returns-3)

@@ -1,5 +1,5 @@
--- `fit::later` meets its contract: nothing where none may be wrong, what the pairs or the groups give where at most one polynomial fits, and
--- elsewhere what the search finds from the first point on.
+-- `fit::later` meets its contract: nothing where none may be wrong, what the pairs or the groups give where at most one polynomial
+-- fits, and elsewhere what the search finds from the first point on.
 use mathlib.Core.Path.{_≡_, refl, sym, ap, subst, _∙_}
 use mathlib.Core.Bool.{true, _&&_, and-eq-true-iff}
 use Prim.Native.Nat.{ℕ, _-_}
@@ -7,8 +7,8 @@ use native.Mathlib.Omega.{arith}
 use borrow.Author.Tests.{eqb-true}
 use lib.Dec.{ltb, eqb}
 use Rattle.field.specs.Modulus.{modulus}
-use Rattle.trial.specs.Answer.{answer}
-use Rattle.trial.proofs.Answers.{tried-within}
+use Rattle.polynomial.proofs.Below.{distinct-residues-true}
+use Rattle.answers.specs.Fits.{decoded}
 use Rattle.fit.specs.Fit.{fit}
 use Rattle.fit.specs.Grouping.{Grouping}
 use Rattle.fit.proofs.Rule.{sent-length}
@@ -18,15 +18,22 @@ use borrow.Author.Needs.{needs}
 use Rattle.fit.proofs.later.Statement.{statement}
 use Rattle.fit.proofs.later.Tie as tie
 
+-- The places that the proof names: where the values sent are counted, the start.
+abbrev counting : tie.Then2 → tie.After-sent
+counting unique = unique .before .before
+
+abbrev start : tie.After-sent → tie.Start
+start counted = counted .before .before .before
+
 -- At most one polynomial fits, and the first t + 1 points have failed.
-grouping : (c : tie.Then3) → let s = c .before .before .before .before .before .before .before in
-    let n = c .before .before .before .before .sent .result in
-    Grouping modulus (s .args .t) (s .args .need) (s .args .xs .now) (s .args .ys .now) 0 n (n - s .args .need)
+grouping : (c : tie.Then2) → let s = start (counting c) .args in
+    let n = counting c .sent .result in
+    Grouping modulus (s .t) (s .need) (s .xs .now) (s .ys .now) 0 n (n - s .need)
 grouping c =
-    let counted = c .before .before .before .before in
-    let s = counted .before .before .before in
-    groups-start modulus (omega arith) _ _ _ _ _ (s .pre .1) (s .pre .0) (counted .sent .ensures) (c .before .before .before .if1 .left)
-    (c .before .before .if2 .taken) (sym (c .before .points .ensures) ∙ c .if3 .taken) (s .pre .2)
+    let counted = counting c in
+    let s = start counted in
+    groups-start modulus (omega arith) _ _ _ _ _ (s .pre .1) (s .pre .0) (counted .sent .ensures) (c .before .if1 .left)
+    (c .if2 .taken) (distinct-residues-true modulus (s .args .xs .now) (s .pre .3)) (s .pre .2)
 
 -- Cubics, with three wrong points.
 cubics : (t wrong n : ℕ) → eqb t 3 && eqb wrong 3 && ltb n 16 ≡ true → (t ≡ 3) × (wrong ≡ 3)
@@ -43,7 +50,7 @@ nothing-requires c κs = search needs
 returns : tie.Need-returns
 returns c =
     let counted = c .before .before in
-    c .nothing .ensures ∙ fit-first-none _ _ _ _ _ (counted .sent .ensures) (c .before .if1 .taken) (counted .before .before .before .pre .2)
+    c .nothing .ensures ∙ fit-first-none _ _ _ _ _ (counted .sent .ensures) (c .before .if1 .taken) (start counted .pre .2)
 
 sub-spare : tie.Need-sub-spare
 sub-spare c = search needs
@@ -51,10 +58,7 @@ sub-spare c = search needs
 add-if2 : tie.Need-add-if2
 add-if2 c =
     let counted = c .before in
-    omega (arith, counted .sent .ensures, sent-length modulus (counted .before .before .before .args .ys .now))
-
-points-requires : tie.Need-points-requires
-points-requires c κs = search needs
+    omega (arith, counted .sent .ensures, sent-length modulus (start counted .args .ys .now))
 
 short-of-groups-requires : tie.Need-short-of-groups-requires
 short-of-groups-requires c κs = search needs
@@ -62,11 +66,11 @@ short-of-groups-requires c κs = search needs
 by-pairs-requires : tie.Need-by-pairs-requires
 by-pairs-requires c κs =
     let unique = c .before .before in
-    let n = unique .before .before .before .before .sent .result in
-    let s = unique .before .before .before .before .before .before .before in
-    let three = cubics (s .args .t) (n - s .args .need) n (sym (c .before .short-of-groups .ensures) ∙ c .if4 .taken) in (
-      subst (λ t. Grouping modulus t (s .args .need) (s .args .xs .now) (s .args .ys .now) 0 n 3) (three .0)
-          (subst (λ e. Grouping modulus (s .args .t) (s .args .need) (s .args .xs .now) (s .args .ys .now) 0 n e) (three .1) (grouping unique)),
+    let n = counting unique .sent .result in
+    let s = start (counting unique) .args in
+    let three = cubics (s .t) (n - s .need) n (sym (c .before .short-of-groups .ensures) ∙ c .if3 .taken) in (
+      subst (λ t. Grouping modulus t (s .need) (s .xs .now) (s .ys .now) 0 n 3) (three .0)
+          (subst (λ e. Grouping modulus (s .t) (s .need) (s .xs .now) (s .ys .now) 0 n e) (three .1) (grouping unique)),
       omega (arith, three .0, three .1),
     )
 
@@ -76,11 +80,12 @@ copied-requires c κs = search needs
 returns-2 : tie.Need-returns-2
 returns-2 c =
     let taken = c .before .before in
-    let n = taken .before .before .before .before .before .before .sent .result in
-    let s = taken .before .before .before .before .before .before .before .before .before in
-    let three = cubics (s .args .t) (n - s .args .need) n (sym (taken .before .short-of-groups .ensures) ∙ taken .if4 .taken) in
+    let counted = counting (taken .before .before) in
+    let n = counted .sent .result in
+    let s = start counted .args in
+    let three = cubics (s .t) (n - s .need) n (sym (taken .before .short-of-groups .ensures) ∙ taken .if3 .taken) in
     c .copied .ensures ∙ c .before .by-pairs .ensures
-    ∙ ap (λ t. answer (fit modulus t (s .args .need) (s .args .xs .now) (s .args .ys .now))) (sym (three .0))
+    ∙ ap (λ t. decoded (fit modulus t (s .need) (s .xs .now) (s .ys .now))) (sym (three .0))
 
 groups-requires : tie.Need-groups-requires
 groups-requires c κs = (grouping (c .before .before), omega arith)
@@ -97,17 +102,13 @@ add-choices c = search needs
 choices-requires : tie.Need-choices-requires
 choices-requires c κs = search needs
 
-copied-requires-3 : tie.Need-copied-requires-3
-copied-requires-3 c κs = search needs
+decoded-requires : tie.Need-decoded-requires
+decoded-requires c κs = search needs
 
 returns-4 : tie.Need-returns-4
 returns-4 c =
     let counted = c .before .before .before .before in
-    let s = counted .before .before .before in
-    c .copied3 .ensures
-    ∙ c .before .choices .ensures
-    ∙ sym (tried-within _ _ _ 0 _ _ (omega (arith, s .pre .0)) (s .pre .1))
-    ∙ fit-search _ _ _ _ _ _ (counted .sent .ensures) refl
+    c .decoded .ensures ∙ fit-search _ _ _ _ _ _ _ (counted .sent .ensures) refl (c .before .choices .ensures)
 
 pub later-spec : {M : Type 1} → statement M
 later-spec =
@@ -118,7 +119,6 @@ later-spec =
     returns
     sub-spare
     add-if2
-    points-requires
     short-of-groups-requires
     by-pairs-requires
     copied-requires
@@ -128,5 +128,5 @@ later-spec =
     returns-3
     add-choices
     choices-requires
-    copied-requires-3
+    decoded-requires
     returns-4)

@@ -13,10 +13,14 @@ use Rattle.interpolation.proofs.cubic.Lts as lts
 use Rattle.field.proofs.divided_differences.Reads as differences-reads
 use Rattle.field.proofs.mul_sub.Reads as mul-sub-reads
 
+-- What the callees are known by.
+abbrev claims : lts.Claims
+claims = (differences-reads.Asked, differences-reads.Learnt, mul-sub-reads.Asked, mul-sub-reads.Learnt)
+
 -- The arrays hold four numbers each.
-sizes : (f : lts.After-divided-differences (differences-reads.Asked, differences-reads.Learnt, mul-sub-reads.Asked, mul-sub-reads.Learnt) reads.Pre reads.Post)
+widths : (f : lts.After-divided-differences claims reads.Pre reads.Post)
     → (length (f .before .args .t1) ≡ 4) × (length (f .divided-differences .result) ≡ 4)
-sizes f = (omega arith, omega arith)
+widths f = (omega arith, omega arith)
 
 divided-differences-requires : tie.Need-divided-differences-requires
 divided-differences-requires c κs = search needs
@@ -79,7 +83,7 @@ returns c =
     let c₀ = b .before in
     let f = c₀ .before in
     let xs = f .before .args .t1 in
-    let l = sizes f in
+    let l = widths f in
     expand-four modulus xs (f .divided-differences .result) (l .0) (l .1) _ _ _ _ _ _ (c₀ .mul-sub .ensures)
     (b .mul-sub2 .ensures) (e .mul-sub3 .ensures) (r .mul-sub4 .ensures) (s .mul-sub5 .ensures) (c .mul-sub6 .ensures)
     ∙ ap (expand modulus xs) (f .divided-differences .ensures)

@@ -16,7 +16,7 @@ abbrev μ-loop : tie.MeasureT-loop
 μ-loop xs ys₀ i₀ ys i = length xs - i
 
 loop-holds : tie.Need-loop-holds Inv-loop μ-loop
-loop-holds c = record { within = omega arith; sizes = omega arith; kept = refl; goal = refl }
+loop-holds c = record { within = omega arith; lengths = omega arith; kept = refl; goal = refl }
 
 mul-x : tie.Need-mul-x Inv-loop μ-loop
 mul-x c = search needs

@@ -27,7 +27,8 @@ returns c =
     let m = c .before .before .before .before .before .before .before in
     let p = m .before .before .before .before .put in
     let q = c .before .before .put2 in
-    puts-then _ _ _ _ _ _ _ _ (puts-then _ _ _ _ _ _ _ _ (puts-one _ _ _ _ _ (p .ensures)) (m .put-names .ensures)) (puts-one _ _ _ _ _ (q .ensures))
+    let front = puts-then _ _ _ _ _ _ _ _ (puts-one _ _ _ _ _ (p .ensures)) (m .put-names .ensures) in
+    puts-then _ _ _ _ _ _ _ _ front (puts-one _ _ _ _ _ (q .ensures))
 
 pub put-happy-spec : {M : Type 1} → statement M
 put-happy-spec =

@@ -33,9 +33,11 @@ loop-less c = search needs
 loop-again : tie.Need-loop-again Inv-loop μ-loop
 loop-again c =
     let p = c .before .before .put-name in
-    let l = c .before .before .before .before .before .loop in
-    let a = c .before .before .before .before .before .before .before .args in
-    (search needs, p .kept .0 ∙ l .inv .1, puts-then _ _ _ _ _ _ _ _ (l .inv .2) (p .ensures) ∙ ap (puts (a .out .now) (a .at)) (names-more (a .set) (l .k)))
+    let turn = c .before .before .before .before .before in
+    let l = turn .loop in
+    let a = turn .before .before .args in
+    let more = puts-then _ _ _ _ _ _ _ _ (l .inv .2) (p .ensures) ∙ ap (puts (a .out .now) (a .at)) (names-more (a .set) (l .k)) in
+    (search needs, p .kept .0 ∙ l .inv .1, more)
 
 same-length : tie.Need-same-length Inv-loop μ-loop
 same-length c = search needs

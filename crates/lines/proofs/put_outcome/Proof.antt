@@ -16,7 +16,8 @@ returns : tie.Need-returns
 returns c =
     let p = c .before .before in
     let a = p .before .before .before .before .before .args in
-    p .put-line .ensures ∙ ap (puts (a .out .now) (a .at)) (outcome-value (a .word .now) (a .refusal) (a .value) (p .before .before .if1 .taken))
+    p .put-line .ensures
+    ∙ ap (puts (a .out .now) (a .at)) (outcome-value (a .word .now) (a .refusal) (a .value) (p .before .before .if1 .taken))
 
 slice-aggregate-put-line : tie.Need-slice-aggregate-put-line
 slice-aggregate-put-line c = search needs
@@ -31,7 +32,8 @@ returns-2 : tie.Need-returns-2
 returns-2 c =
     let p = c .before .before in
     let a = p .before .before .before .before .before .before .args in
-    p .put-line2 .ensures ∙ ap (puts (a .out .now) (a .at)) (outcome-refused (a .word .now) (a .refusal) (a .value) (p .before .before .before .if1 .left))
+    p .put-line2 .ensures
+    ∙ ap (puts (a .out .now) (a .at)) (outcome-refused (a .word .now) (a .refusal) (a .value) (p .before .before .before .if1 .left))
 
 pub put-outcome-spec : {M : Type 1} → statement M
 put-outcome-spec =

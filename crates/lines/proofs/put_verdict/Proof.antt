@@ -20,7 +20,8 @@ returns : tie.Need-returns
 returns c =
     let p = c .before .before in
     let a = p .before .before .before .before .before .args in
-    puts-one _ _ _ _ _ (p .put .ensures) ∙ ap (puts (a .out .now) (a .at)) (verdict-rejected (a .accepted) (a .set) (a .n) (p .before .before .before .if1 .taken))
+    puts-one _ _ _ _ _ (p .put .ensures)
+    ∙ ap (puts (a .out .now) (a .at)) (verdict-rejected (a .accepted) (a .set) (a .n) (p .before .before .before .if1 .taken))
 
 slice-aggregate-put-2 : tie.Need-slice-aggregate-put-2
 slice-aggregate-put-2 c = search needs

@@ -38,8 +38,8 @@ shared-slice-read-if1 c = search needs
 returns : tie.Need-returns Inv-loop μ-loop
 returns c =
     let k = c .before .before .before .loop in
-    passed-not fine (residues modulus) refl (λ a xs. refl) (c .before .before .before .before .args .list .now) (k .i) (omega arith) (k .inv .within)
-    (le-ltb _ _ (c .if1 .taken))
+    let list = c .before .before .before .before .args .list .now in
+    passed-not fine (residues modulus) refl (λ a xs. refl) list (k .i) (omega arith) (k .inv .within) (le-ltb _ _ (c .if1 .taken))
 
 loop-less : tie.Need-loop-less Inv-loop μ-loop
 loop-less c = search needs
@@ -47,7 +47,8 @@ loop-less c = search needs
 loop-again : tie.Need-loop-again Inv-loop μ-loop
 loop-again c =
     let k = c .before .before .before .loop in
-    passed-next fine (residues modulus) refl (λ a xs. refl) _ (k .i) (omega arith) (k .inv .within) (k .inv .rest) (lt-ltb _ _ (c .if1 .left))
+    passed-next fine (residues modulus) refl (λ a xs. refl) _ (k .i) (omega arith) (k .inv .within) (k .inv .rest)
+    (lt-ltb _ _ (c .if1 .left))
 
 returns-2 : tie.Need-returns-2 Inv-loop μ-loop
 returns-2 c = let k = c .before .loop in passed-end fine (residues modulus) refl (λ a xs. refl) _ (k .i) (omega arith) (k .inv)

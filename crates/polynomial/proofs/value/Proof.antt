@@ -2,7 +2,7 @@
 use borrow.Author.Needs.{needs}
 use native.Mathlib.Omega.{arith}
 use Rattle.field.specs.Modulus.{modulus}
-use mathlib.Core.Path.{_≡_, sym, ap}
+use mathlib.Core.Path.{_≡_, sym, ap, _∙_}
 use Prim.Native.Nat.{_≤_}
 use lib.ListN.{length, drop}
 use Rattle.lists.proofs.InPlace.{drop-end}
@@ -25,14 +25,19 @@ returns c =
 sub-i : tie.Need-sub-i Inv-loop μ-loop
 sub-i c = search needs
 
-mul-v : tie.Need-mul-v Inv-loop μ-loop
-mul-v c = search needs
+mul-reduced : tie.Need-mul-reduced Inv-loop μ-loop
+mul-reduced c = search needs
 
-shared-slice-read-v : tie.Need-shared-slice-read-v Inv-loop μ-loop
-shared-slice-read-v c = search needs
+shared-slice-read-reduced : tie.Need-shared-slice-read-reduced Inv-loop μ-loop
+shared-slice-read-reduced c = search needs
+
+reduced-requires : tie.Need-reduced-requires Inv-loop μ-loop
+reduced-requires c κs = search needs
 
 loop-holds : tie.Need-loop-holds Inv-loop μ-loop
-loop-holds c = (omega arith, horner-top modulus (c .before .before .before .args .f .now) _ (omega arith))
+loop-holds c =
+    let f = c .before .before .before .before .args .f .now in
+    (omega arith, c .reduced .ensures ∙ horner-top modulus f _ (omega arith))
 
 sub-i-2 : tie.Need-sub-i-2 Inv-loop μ-loop
 sub-i-2 c = search needs
@@ -65,8 +70,9 @@ value-spec =
     μ-loop
     returns
     sub-i
-    mul-v
-    shared-slice-read-v
+    mul-reduced
+    shared-slice-read-reduced
+    reduced-requires
     loop-holds
     sub-i-2
     mul-mul-add

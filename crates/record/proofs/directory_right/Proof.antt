@@ -3,16 +3,21 @@ use mathlib.Core.Path.{_≡_, sym, ap, _∙_}
 use Prim.Native.Nat.{_+_, _≤_}
 use native.Mathlib.Omega.{arith}
 use lib.ListN.{length, getD}
-use Rattle.record.specs.Record.{sectionStart}
+use Rattle.record.specs.Record.{sectionStart, directory}
 use Rattle.record.proofs.Answers.{directory-no, directory-by}
-use Rattle.record.proofs.Sections.{sections-small, directory-end, record-head, length-directory}
+use Rattle.record.proofs.Sections.{sections-small, directory-legal, directory-end, record-head, length-directory}
 use borrow.Author.Needs.{needs}
 use Rattle.record.proofs.directory_right.Statement.{statement}
 use Rattle.record.proofs.directory_right.Tie as tie
 
+-- The directory is that of legal sizes.
+whole : (c : tie.After-directory) → c .directory .result ≡ directory (c .before .before .args .n) (c .before .before .args .t)
+whole c = c .directory .ensures ∙ directory-legal _ _ (c .before .before .pre)
+
 -- Where the last section ends.
-ends : (c : tie.After-directory) → getD (c .directory .result) 6 0 + getD (c .directory .result) 7 0 ≡ sectionStart (c .before .before .args .n) (c .before .before .args .t) 4
-ends c = directory-end _ _ _ (c .directory .ensures)
+ends : (c : tie.After-directory) → let a = c .before .before .args in
+    getD (c .directory .result) 6 0 + getD (c .directory .result) 7 0 ≡ sectionStart (a .n) (a .t) 4
+ends c = directory-end _ _ _ (whole c)
 
 small : (c : tie.After-directory) → sectionStart (c .before .before .args .n) (c .before .before .args .t) 4 ≤ 2000
 small c = omega (arith, sections-small _ _ (c .before .before .pre))
@@ -42,10 +47,15 @@ slice-aggregate-stand-at : tie.Need-slice-aggregate-stand-at
 slice-aggregate-stand-at c = search needs
 
 stand-at-requires : tie.Need-stand-at-requires
-stand-at-requires c κs = omega (arith, ends (c .before .before), record-head (c .before .before .before .before .args .n) (c .before .before .before .before .args .t), ap length (c .before .before .directory .ensures), length-directory (c .before .before .before .before .args .n) (c .before .before .before .before .args .t))
+stand-at-requires c κs =
+    let d = c .before .before in
+    let a = d .before .before .args in
+    omega (arith, ends d, record-head (a .n) (a .t), ap length (whole d), length-directory (a .n) (a .t))
 
 returns-2 : tie.Need-returns-2
-returns-2 c = c .stand-at .ensures ∙ directory-by _ _ _ _ (c .before .before .before .directory .ensures) (c .before .before .if1 .left ∙ ends (c .before .before .before))
+returns-2 c =
+    let d = c .before .before .before in
+    c .stand-at .ensures ∙ directory-by _ _ _ _ (whole d) (c .before .before .if1 .left ∙ ends d)
 
 pub directory-right-spec : {M : Type 1} → statement M
 directory-right-spec =

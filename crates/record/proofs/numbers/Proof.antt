@@ -23,7 +23,9 @@ same-length : tie.Need-same-length Inv-loop μ-loop
 same-length c = search needs
 
 returns : tie.Need-returns Inv-loop μ-loop
-returns c = let k = c .before .before .loop in over-end _ _ (k .out) (k .i) (k .inv) (omega (arith, length-numbers (c .before .before .before .before .before .args .part .now)))
+returns c =
+    let k = c .before .before in
+    over-end _ _ (k .loop .out) (k .loop .i) (k .loop .inv) (omega (arith, length-numbers (k .before .before .before .args .part .now)))
 
 mul-number-at : tie.Need-mul-number-at Inv-loop μ-loop
 mul-number-at c = search needs
@@ -44,7 +46,11 @@ loop-less : tie.Need-loop-less Inv-loop μ-loop
 loop-less c = simp length-set (omega arith)
 
 loop-again : tie.Need-loop-again Inv-loop μ-loop
-loop-again c = let k = c .before .before .before .loop in over-next _ _ (k .out) (k .i) (k .inv) _ (omega (arith, length-numbers (c .before .before .before .before .before .before .args .part .now))) (omega arith) (c .number-at .ensures ∙ sym (number-place _ _ (omega arith)))
+loop-again c =
+    let k = c .before .before .before in
+    let long = length-numbers (k .before .before .before .args .part .now) in
+    over-next _ _ (k .loop .out) (k .loop .i) (k .loop .inv) _ (omega (arith, long)) (omega arith)
+    (c .number-at .ensures ∙ sym (number-place _ _ (omega arith)))
 
 same-length-2 : tie.Need-same-length-2 Inv-loop μ-loop
 same-length-2 c = search needs

@@ -1,6 +1,9 @@
 -- `record::read` meets its contract: each test that fails settles the answer.
 use mathlib.Core.Path.{_≡_, sym, _∙_}
 use mathlib.Core.Bool.{true}
+use mathlib.Core.List.{List}
+use Prim.Native.Nat.{ℕ, _≤_}
+use lib.ListN.{length}
 use Rattle.record.specs.Record.{nOf, tOf}
 use borrow.Author.Tests.{not-true, not-false}
 use Rattle.parties.specs.Parties.{sizes}
@@ -9,8 +12,15 @@ use borrow.Author.Needs.{needs}
 use Rattle.record.proofs.read.Statement.{statement}
 use Rattle.record.proofs.read.Tie as tie
 
--- The sizes have passed.
-passed : (c : tie.Else2) → sizes (nOf (c .before .before .before .before .before .before .args .bytes .now)) (tOf (c .before .before .before .before .before .before .args .bytes .now)) ≡ true
+-- The bytes that are read, where the sizes have passed.
+abbrev given : tie.Else2 → List ℕ
+given c = c .before .before .before .before .before .before .args .bytes .now
+
+-- There are two, and the sizes have passed.
+long : (c : tie.Else2) → 2 ≤ length (given c)
+long c = c .before .before .before .before .if1 .left
+
+passed : (c : tie.Else2) → sizes (nOf (given c)) (tOf (given c)) ≡ true
 passed c = sym (c .before .sizes .ensures) ∙ not-false _ (c .if2 .left)
 
 returns : tie.Need-returns
@@ -26,16 +36,21 @@ sizes-requires : tie.Need-sizes-requires
 sizes-requires c κs = search needs
 
 returns-2 : tie.Need-returns-2
-returns-2 c = sym (reading-size _ (c .before .before .before .before .if1 .left) (sym (c .before .sizes .ensures) ∙ not-true _ (c .if2 .taken)))
+returns-2 c =
+    sym (reading-size _ (c .before .before .before .before .if1 .left) (sym (c .before .sizes .ensures) ∙ not-true _ (c .if2 .taken)))
 
 directory-right-requires : tie.Need-directory-right-requires
 directory-right-requires c κs = passed c
 
 returns-3 : tie.Need-returns-3
-returns-3 c = sym (reading-wrong _ (c .before .before .before .before .before .before .if1 .left) (passed (c .before .before)) (sym (c .before .directory-right .ensures) ∙ not-true _ (c .if3 .taken)))
+returns-3 c =
+    let s = c .before .before in
+    sym (reading-wrong _ (long s) (passed s) (sym (c .before .directory-right .ensures) ∙ not-true _ (c .if3 .taken)))
 
 returns-4 : tie.Need-returns-4
-returns-4 c = sym (reading-fine _ (c .before .before .before .before .before .before .if1 .left) (passed (c .before .before)) (sym (c .before .directory-right .ensures) ∙ not-false _ (c .if3 .left)))
+returns-4 c =
+    let s = c .before .before in
+    sym (reading-fine _ (long s) (passed s) (sym (c .before .directory-right .ensures) ∙ not-false _ (c .if3 .left)))
 
 pub read-spec : {M : Type 1} → statement M
 read-spec =

@@ -27,7 +27,9 @@ shared-slice-read-if1 : tie.Need-shared-slice-read-if1 Inv-loop μ-loop
 shared-slice-read-if1 c = search needs
 
 returns : tie.Need-returns Inv-loop μ-loop
-returns c = let k = c .before .before .before .before .loop in stand-no _ _ _ (k .i) (k .place) (k .inv) (omega arith) (λ e. c .if1 .taken (c .before .before .number-at .ensures ∙ e))
+returns c =
+    let k = c .before .before .before .before .loop in
+    stand-no _ _ _ (k .i) (k .place) (k .inv) (omega arith) (λ e. c .if1 .taken (c .before .before .number-at .ensures ∙ e))
 
 add-place : tie.Need-add-place Inv-loop μ-loop
 add-place c = search needs
@@ -39,7 +41,9 @@ loop-less : tie.Need-loop-less Inv-loop μ-loop
 loop-less c = search needs
 
 loop-again : tie.Need-loop-again Inv-loop μ-loop
-loop-again c = let k = c .before .before .before .before .loop in stand-next _ _ _ (k .i) (k .place) (k .inv) (omega arith) (sym (c .before .before .number-at .ensures) ∙ c .if1 .left)
+loop-again c =
+    let k = c .before .before .before .before .loop in
+    stand-next _ _ _ (k .i) (k .place) (k .inv) (omega arith) (sym (c .before .before .number-at .ensures) ∙ c .if1 .left)
 
 returns-2 : tie.Need-returns-2 Inv-loop μ-loop
 returns-2 c = let k = c .before .loop in stand-end _ _ _ (k .i) (k .place) (k .inv) (omega arith)

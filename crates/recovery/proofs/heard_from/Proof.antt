@@ -62,8 +62,9 @@ unfolding notSent
 loop-again c =
     let k = c .before .before .loop in
     let a = c .before .before .before .args in
-    let turn : (v : ℕ) → v ≡ heardAt (notSent modulus) (a .set) (a .t3) (k .k) → set (k .list) (k .k) v ≡ filled (heardAt (notSent modulus) (a .set) (a .t3)) 0 16 (k .k + 1) =
-    λ v e. fill-next (heardAt (notSent modulus) (a .set) (a .t3)) 16 (k .list) (k .k) v (k .inv .1) (omega arith) e in (
+    let told : ℕ → ℕ = heardAt (notSent modulus) (a .set) (a .t3) in
+    let turn : (v : ℕ) → v ≡ told (k .k) → set (k .list) (k .k) v ≡ filled told 0 16 (k .k + 1) =
+    λ v e. fill-next told 16 (k .list) (k .k) v (k .inv .1) (omega arith) e in (
       search needs,
       ⊎-elim
           (λ w. w .1 ∙ turn _ (heard-member (notSent modulus) (a .set) (a .t3) (k .k) (w .0 .taken)))
@@ -76,7 +77,9 @@ returns c =
     let a = c .before .before .args in
     let k = c .before .loop in
     let inside : a .n ≤ length (a .t3) = omega arith in
-    fill-front (heardAt (notSent modulus) (a .set) (a .t3)) 16 (k .list) (k .k) (a .n) (hide (notSent modulus) (tabulate (bit (a .set)) (a .n)) (take (a .n) (a .t3))) (k .inv .1) (omega arith)
+    let told : ℕ → ℕ = heardAt (notSent modulus) (a .set) (a .t3) in
+    fill-front told 16 (k .list) (k .k) (a .n) (hide (notSent modulus) (tabulate (bit (a .set)) (a .n)) (take (a .n) (a .t3))) (k .inv .1)
+    (omega arith)
     (length-heard (notSent modulus) (a .set) (a .n) (a .t3) inside) (getD-heard (notSent modulus) (a .set) (a .n) (a .t3) inside)
 
 pub heard-from-spec : {M : Type 1} → statement M

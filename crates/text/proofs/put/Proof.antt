@@ -12,7 +12,10 @@ use Rattle.text.proofs.put.Statement.{statement}
 use Rattle.text.proofs.put.Tie as tie
 
 abbrev Inv-loop : tie.InvT-loop
-Inv-loop out₀ at word i₀ out i = (i ≤ length word) × (length out ≡ length out₀) × (take (at + i) out ≡ take at out₀ ++ take i word) × (drop (at + i) out ≡ drop (at + i) out₀)
+Inv-loop out₀ at word i₀ out i =
+    (i ≤ length word) × (length out ≡ length out₀)
+    × (take (at + i) out ≡ take at out₀ ++ take i word)
+    × (drop (at + i) out ≡ drop (at + i) out₀)
 
 abbrev μ-loop : tie.MeasureT-loop
 μ-loop out₀ at word i₀ out i = length word - i
@@ -46,11 +49,12 @@ loop-less c = search needs
 
 loop-again : tie.Need-loop-again Inv-loop μ-loop
 loop-again c =
-    let k = c .before .before in (
+    let k = c .before .before .loop in
+    let a = c .before .before .before .before .before .args in (
       search needs,
       simp length-set (search needs),
-      put-more (k .loop .out) (k .before .before .before .args .out .now) (k .before .before .before .args .word .now) (k .before .before .before .args .at) (k .loop .i) (search needs) (search needs) (k .loop .inv .2),
-      put-rest (k .loop .out) (k .before .before .before .args .out .now) (k .before .before .before .args .at + k .loop .i) (k .before .before .before .args .at + (k .loop .i + 1)) _ (omega arith) (k .loop .inv .3),
+      put-more (k .out) (a .out .now) (a .word .now) (a .at) (k .i) (search needs) (search needs) (k .inv .2),
+      put-rest (k .out) (a .out .now) (a .at + k .i) (a .at + (k .i + 1)) _ (omega arith) (k .inv .3),
     )
 
 add-result : tie.Need-add-result Inv-loop μ-loop

@@ -19,11 +19,17 @@ returns-3 c = (simp (le-ltb _ _ (c .before .before .if1 .left), le-ltb _ _ (c .b
 
 returns-4 : tie.Need-returns-4
 unfolding zeros
-returns-4 c = (simp (le-ltb _ _ (c .before .before .before .if1 .left), le-ltb _ _ (c .before .before .if2 .left), le-ltb _ _ (c .before .if3 .left), lt-ltb _ _ (c .if4 .taken)), omega arith)
+returns-4 c =
+    let b = c .before .before in
+    let small = c .if4 .taken in
+    (simp (le-ltb _ _ (b .before .if1 .left), le-ltb _ _ (b .if2 .left), le-ltb _ _ (c .before .if3 .left), lt-ltb _ _ small), omega arith)
 
 returns-5 : tie.Need-returns-5
 unfolding zeros
-returns-5 c = (simp (le-ltb _ _ (c .before .before .before .if1 .left), le-ltb _ _ (c .before .before .if2 .left), le-ltb _ _ (c .before .if3 .left), le-ltb _ _ (c .if4 .left)), omega arith)
+returns-5 c =
+    let b = c .before .before in
+    let large = c .if4 .left in
+    (simp (le-ltb _ _ (b .before .if1 .left), le-ltb _ _ (b .if2 .left), le-ltb _ _ (c .before .if3 .left), le-ltb _ _ large), omega arith)
 
 pub zeros-spec : {M : Type 1} → statement M
 zeros-spec = tie.close (tie.spec returns returns-2 returns-3 returns-4 returns-5)

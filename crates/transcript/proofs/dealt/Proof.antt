@@ -7,18 +7,20 @@ use lib.Seq.{length-take-le}
 use Rattle.field.specs.Modulus.{modulus}
 use Rattle.lamp.specs.declared.Reply.{Reply}
 use Rattle.lamp.specs.Lamp.{takeDeal, step}
-use Rattle.transcript.specs.Transcript.{numbersOf}
-use Rattle.transcript.proofs.Runs.{whole-facts, deals-count, part-room, make-lamp}
+use Rattle.record.specs.Record.{numbersOf}
+use Rattle.lamp.proofs.Calls.{make-lamp}
+use Rattle.transcript.proofs.Runs.{fine-facts, deals-count, part-room}
 use borrow.Author.Needs.{needs}
 use Rattle.transcript.proofs.dealt.Statement.{statement}
 use Rattle.transcript.proofs.dealt.Tie as tie
 
 -- The lamp's own part lies within the section, and an array holds it.
 room : (s : tie.Start) → let a = s .args in
-    ((a .i - 1) * (2 * (a .t + 1)) + 2 * (a .t + 1) ≤ length (numbersOf (a .bytes .now) 0)) × ((a .i - 1) * (2 * (a .t + 1)) ≤ 512) × (2 * (a .t + 1) ≤ 32)
+    ((a .i - 1) * (2 * (a .t + 1)) + 2 * (a .t + 1) ≤ length (numbersOf (a .bytes .now) 0))
+    × ((a .i - 1) * (2 * (a .t + 1)) ≤ 512) × (2 * (a .t + 1) ≤ 32)
 room s =
     let a = s .args in
-    let f = whole-facts (a .bytes .now) (a .n) (a .t) (s .pre .0) in
+    let f = fine-facts (a .bytes .now) (a .n) (a .t) (s .pre .0) in
     let r = part-room (a .n) (a .t + 1) (a .i) (f .3) (omega arith) (s .pre .1) (s .pre .2) in
     let e = deals-count (a .bytes .now) (a .n) (a .t) (s .pre .0) in
     (omega arith, omega arith, omega arith)
@@ -52,9 +54,11 @@ take-deal-requires c κs = search needs
 
 returns : tie.Need-returns
 returns c =
-    let a = c .before .before .before .before .before .before .before .args in
+    let m = c .before .before .before .before in
+    let a = m .before .before .before .args in
+    let fresh = ap (λ (r : Reply). r .lamp) (m .make .ensures) ∙ make-lamp (a .n) (a .t) (a .i) in
     ap (λ (r : Reply). r .lamp) (c .before .take-deal .ensures)
-    ∙ ap₂ (λ l d. step modulus l (takeDeal d) .lamp) (ap (λ (r : Reply). r .lamp) (c .before .before .before .before .make .ensures) ∙ make-lamp (a .n) (a .t) (a .i)) (c .before .before .before .before .before .part .ensures)
+    ∙ ap₂ (λ l d. step modulus l (takeDeal d) .lamp) fresh (m .before .part .ensures)
 
 pub dealt-spec : {M : Type 1} → statement M
 dealt-spec =

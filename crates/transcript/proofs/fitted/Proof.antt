@@ -5,9 +5,9 @@ use native.Mathlib.Omega.{arith}
 use lib.ListN.{length}
 use lib.Seq.{length-take-le}
 use Rattle.recovery.specs.Recovery.{publishedIn}
-use Rattle.recovery.proofs.Fitting.{published-within}
-use Rattle.transcript.specs.Transcript.{numbersOf}
-use Rattle.transcript.proofs.Runs.{whole-facts, whole-sizes, shares-count, part-all}
+use Rattle.recovery.proofs.Fitting.{published-admitted}
+use Rattle.record.specs.Record.{numbersOf}
+use Rattle.transcript.proofs.Runs.{fine-facts, fine-legal, shares-count, part-all}
 use borrow.Author.Needs.{needs}
 use Rattle.transcript.proofs.fitted.Statement.{statement}
 use Rattle.transcript.proofs.fitted.Tie as tie
@@ -16,7 +16,7 @@ use Rattle.transcript.proofs.fitted.Tie as tie
 facts : (s : tie.Start) → (s .args .n ≤ 16) × (length (numbersOf (s .args .bytes .now) 3) ≡ s .args .n)
 facts s =
     let a = s .args in
-    (whole-facts (a .bytes .now) (a .n) (a .t) (s .pre) .3, shares-count (a .bytes .now) (a .n) (a .t) (s .pre))
+    (fine-facts (a .bytes .now) (a .n) (a .t) (s .pre) .3, shares-count (a .bytes .now) (a .n) (a .t) (s .pre))
 
 part-requires : tie.Need-part-requires
 part-requires c κs = let f = facts (c .before) in (omega arith, omega arith, omega arith)
@@ -38,7 +38,7 @@ returns c =
     let shares = numbersOf (a .bytes .now) 3 in
     c .published .ensures
     ∙ ap (publishedIn (a .n) (a .t)) (part-all (p .part .result) shares (a .n) (p .part .ensures) (facts s .1))
-    ∙ sym (published-within (a .n) (a .t) shares (whole-sizes (a .bytes .now) (a .n) (a .t) (s .pre)) (facts s .1))
+    ∙ published-admitted (a .n) (a .t) shares (fine-legal (a .bytes .now) (a .n) (a .t) (s .pre)) (facts s .1)
 
 pub fitted-spec : {M : Type 1} → statement M
 fitted-spec = tie.close (tie.spec part-requires array-share-prefix-list slice-aggregate-published published-requires returns)

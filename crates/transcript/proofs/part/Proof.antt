@@ -44,9 +44,10 @@ returns : tie.Need-returns
 returns c =
     let s = c .before .before .before .before .before .before in
     let a = s .args in
+    let whole = c .before .before .before .before .section .ensures in
     ap (take (a .count))
     (c .before .numbers .ensures
-    ∙ ap (λ p. over (numbers (take (2 * a .from + 2 * a .count - 2 * a .from) (drop (2 * a .from) p))) (replicate 32 0)) (c .before .before .before .before .section .ensures))
+    ∙ ap (λ p. over (numbers (take (2 * a .from + 2 * a .count - 2 * a .from) (drop (2 * a .from) p))) (replicate 32 0)) whole)
     ∙ part-read (sectionOf (a .bytes .now) (a .k)) (replicate 32 0) (a .from) (a .count) (s .pre .0) (omega (arith, s .pre .2))
 
 pub part-spec : {M : Type 1} → statement M

@@ -4,11 +4,11 @@ use Prim.Native.Nat.{_≤_}
 use native.Mathlib.Omega.{arith}
 use lib.ListN.{length}
 use Rattle.happy.specs.Happy.{happySet}
-use Rattle.text.specs.Letters.{Added, joined}
+use Rattle.text.specs.Letters.{Added}
 use Rattle.text.proofs.Letters.{then, puts-within}
 use Rattle.lines.specs.Lines.{sizeWords, sizeLine, verdictWords, verdictLines}
 use Rattle.lines.proofs.Lines.{size-short, verdict-short}
-use Rattle.transcript.proofs.Runs.{whole-facts}
+use Rattle.transcript.proofs.Runs.{fine-facts}
 use Rattle.transcript.proofs.Texts.{text-pieces}
 use borrow.Author.Needs.{needs}
 use Rattle.transcript.proofs.put_by_reports.Statement.{statement}
@@ -16,26 +16,31 @@ use Rattle.transcript.proofs.put_by_reports.Tie as tie
 
 -- The record's sizes.
 facts : (s : tie.Start) → (s .args .t ≤ s .args .n) × (s .args .n ≤ 16)
-facts s = let f = whole-facts (s .args .bytes .now) (s .args .n) (s .args .t) (s .pre .0) in (omega arith, f .3)
+facts s = let f = fine-facts (s .args .bytes .now) (s .args .n) (s .args .t) (s .pre .0) in (omega arith, f .3)
+
+-- The way back to the start.
+abbrev start : tie.After-put-size → tie.Start
+start c = c .before .before .before .before .before .before .before
 
 -- The size line is put.
-sized : (c : tie.After-put-size) → let a = c .before .before .before .before .before .before .before .args in
+sized : (c : tie.After-put-size) → let a = start c .args in
     Added (a .out .now) 0 (sizeLine (a .n) (a .t)) (c .put-size .last .0) (c .put-size .result) × (c .put-size .result ≤ 17)
 sized c =
-    let a = c .before .before .before .before .before .before .before .args in
+    let a = start c .args in
     puts-within (sizeWords (a .n) (a .t)) _ _ _ _ 17 (c .put-size .ensures) (size-short (a .n) (a .t)) (omega arith)
 
 -- And the verdict behind it.
-judged : (c : tie.After-put-verdict) → let z = c .before .before .before .before in let a = z .before .before .before .before .before .before .before .args in
-    Added (z .put-size .last .0) (z .put-size .result) (verdictLines (z .before .before .accepted .result) (z .before .before .before .happy-set .result) (a .n)) (c .put-verdict .last .0) (c .put-verdict .result)
+judged : (c : tie.After-put-verdict) → let z = c .before .before .before .before in let v = z .before .before in
+    let words = verdictLines (v .accepted .result) (v .before .happy-set .result) (start z .args .n) in
+    Added (z .put-size .last .0) (z .put-size .result) words (c .put-verdict .last .0) (c .put-verdict .result)
     × (c .put-verdict .result ≤ 87)
 judged c =
     let z = c .before .before .before .before in
-    let s = z .before .before .before .before .before .before .before in
+    let s = start z in
     let good = z .before .before .accepted .result in
     let set = z .before .before .before .happy-set .result in
     let f = facts s in
-    let short : length (joined (verdictWords good set (s .args .n))) ≤ 70 = omega (arith, verdict-short good set (s .args .n) (omega arith)) in
+    let short : length (verdictLines good set (s .args .n)) ≤ 70 = omega (arith, verdict-short good set (s .args .n) (omega arith)) in
     let put = puts-within (verdictWords good set (s .args .n)) _ _ _ _ 70 (c .put-verdict .ensures) short (omega (arith, sized z .1)) in
     (put .0, omega (arith, put .1, sized z .1))
 
@@ -54,13 +59,13 @@ put-verdict-requires c κs = search needs
 put-lamps-requires : tie.Need-put-lamps-requires
 put-lamps-requires c κs =
     let v = c .before .before .before in
-    let s = v .before .before .before .before .before .before .before .before .before .before .before in
+    let s = start (v .before .before .before .before) in
     (s .pre .0, s .pre .1, facts s .1, omega (arith, judged v .1))
 
 put-last-requires : tie.Need-put-last-requires
 put-last-requires c κs =
     let v = c .before .before .before .before .before .before .before in
-    let s = v .before .before .before .before .before .before .before .before .before .before .before in
+    let s = start (v .before .before .before .before) in
     (s .pre .0, omega (arith, judged v .1))
 
 same-length : tie.Need-same-length
@@ -72,7 +77,7 @@ returns c =
     let l = c .before .before .before .before .before .before .put-lamps in
     let v = c .before .before .before .before .before .before .before .before .before .before in
     let z = v .before .before .before .before in
-    let s = z .before .before .before .before .before .before .before in
+    let s = start z in
     let a = s .args in
     let good = z .before .before .accepted in
     let set = z .before .before .before .happy-set in (

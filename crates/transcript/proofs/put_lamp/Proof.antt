@@ -5,13 +5,13 @@ use Rattle.text.specs.Letters.{Added}
 use Rattle.text.proofs.Letters.{puts-within}
 use Rattle.lines.specs.Lines.{lampWords}
 use Rattle.lines.proofs.Lines.{lamp-short}
-use Rattle.transcript.proofs.Outcomes.{lamp-by}
+use Rattle.transcript.proofs.Outcomes.{reply-by}
 use borrow.Author.Needs.{needs}
 use Rattle.transcript.proofs.put_lamp.Statement.{statement}
 use Rattle.transcript.proofs.put_lamp.Tie as tie
 
-number-of-requires : tie.Need-number-of-requires
-number-of-requires c κs = search needs
+answer-number-requires : tie.Need-answer-number-requires
+answer-number-requires c κs = search needs
 
 put-lamp-requires : tie.Need-put-lamp-requires
 put-lamp-requires c κs = search needs
@@ -22,11 +22,14 @@ same-length c = search needs
 returns : tie.Need-returns
 returns c =
     let p = c .before .before .put-lamp in
-    let k = c .before .before .before .before .number-of in
-    let a = c .before .before .before .before .before .before .before .args in
-    let share = a .reply .lamp .share in
-    let put = puts-within (lampWords (a .i) (k .result) share) _ _ _ _ 22 (p .ensures) (lamp-short (a .i) (k .result) share (omega arith)) (omega arith) in
-    (subst (λ w. Added (a .out .now) (a .at) w (p .last .0) (p .result)) (lamp-by (a .i) (k .result) (a .reply) (k .ensures)) (put .0), put .1)
+    let k = c .before .before .before .before in
+    let a = k .before .before .before .before .args in
+    let number = k .answer-number in
+    let share = a .reply .lamp .sharing .share in
+    let short = lamp-short (a .i) (number .result) share (omega arith) in
+    let put = puts-within (lampWords (a .i) (number .result) share) _ _ _ _ 22 (p .ensures) short (omega arith) in
+    let line = reply-by (a .i) (number .result) (a .reply) (number .ensures) in
+    (subst (λ w. Added (a .out .now) (a .at) w (p .last .0) (p .result)) line (put .0), put .1)
 
 pub put-lamp-spec : {M : Type 1} → statement M
-put-lamp-spec = tie.close (tie.spec number-of-requires put-lamp-requires same-length returns)
+put-lamp-spec = tie.close (tie.spec answer-number-requires put-lamp-requires same-length returns)

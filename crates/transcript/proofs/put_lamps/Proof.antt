@@ -6,7 +6,7 @@ use Prim.Native.Nat.{_+_, _*_, _-_, _≤_}
 use native.Mathlib.Omega.{arith}
 use lib.ListN.{length}
 use Rattle.text.specs.Letters.{Added}
-use Rattle.transcript.specs.Outcomes.{lampLine}
+use Rattle.transcript.specs.Outcomes.{replyLine}
 use Rattle.transcript.specs.Transcript.{lampLines}
 use Rattle.text.proofs.Letters.{then, nothing}
 use Rattle.transcript.proofs.Runs.{lamps-more}
@@ -46,13 +46,15 @@ loop-again : tie.Need-loop-again Inv-loop μ-loop
 loop-again c =
     let p = c .before .before .put-lamp in
     let r = c .before .before .before .before .run in
-    let l = c .before .before .before .before .before .before .loop in
-    let a = c .before .before .before .before .before .before .before .before .before .before .args in (
+    let turn = c .before .before .before .before .before .before in
+    let l = turn .loop in
+    let a = turn .before .before .before .before .args in
+    let bytes = a .bytes .now in (
       search needs,
       search needs,
       p .kept .0 ∙ l .inv .2,
       subst (λ w. Added (a .out .now) (a .at) w (p .last .0) (p .result))
-          (ap (λ z. lampLines (a .bytes .now) (a .n) (a .t) (l .k) ++ lampLine (l .k + 1) z) (r .ensures) ∙ lamps-more (a .bytes .now) (a .n) (a .t) (l .k))
+          (ap (λ z. lampLines bytes (a .n) (a .t) (l .k) ++ replyLine (l .k + 1) z) (r .ensures) ∙ lamps-more bytes (a .n) (a .t) (l .k))
           (then _ _ _ _ _ _ _ _ (l .inv .3) (p .ensures .0)),
     )
 
@@ -62,8 +64,9 @@ same-length c = search needs
 returns : tie.Need-returns Inv-loop μ-loop
 returns c =
     let a = c .before .before .before .before .before .args in
-    let e : c .before .loop .k ≡ a .n = omega arith in
-    (subst (λ m. Added (a .out .now) (a .at) (lampLines (a .bytes .now) (a .n) (a .t) m) (c .before .loop .out) (c .before .loop .next)) e (c .before .loop .inv .3), search needs)
+    let l = c .before .loop in
+    let e : l .k ≡ a .n = omega arith in
+    (subst (λ m. Added (a .out .now) (a .at) (lampLines (a .bytes .now) (a .n) (a .t) m) (l .out) (l .next)) e (l .inv .3), search needs)
 
 pub put-lamps-spec : {M : Type 1} → statement M
 put-lamps-spec =

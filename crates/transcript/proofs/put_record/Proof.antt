@@ -4,15 +4,17 @@ use Prim.Native.Nat.{_≤_}
 use native.Mathlib.Omega.{arith}
 use lib.ListN.{length}
 use lib.Seq.{length-take-le}
-use Rattle.transcript.specs.Transcript.{numbersOf}
-use Rattle.transcript.proofs.Runs.{whole-facts, reports-count, part-all}
+use Rattle.record.specs.Record.{numbersOf}
+use Rattle.transcript.proofs.Runs.{fine-facts, reports-count, part-all}
 use borrow.Author.Needs.{needs}
 use Rattle.transcript.proofs.put_record.Statement.{statement}
 use Rattle.transcript.proofs.put_record.Tie as tie
 
 -- At most sixteen parties, and as many reports.
 facts : (s : tie.Start) → (s .args .n ≤ 16) × (length (numbersOf (s .args .bytes .now) 2) ≡ s .args .n)
-facts s = let a = s .args in (whole-facts (a .bytes .now) (a .n) (a .t) (s .pre .0) .3, reports-count (a .bytes .now) (a .n) (a .t) (s .pre .0))
+facts s =
+    let a = s .args in
+    (fine-facts (a .bytes .now) (a .n) (a .t) (s .pre .0) .3, reports-count (a .bytes .now) (a .n) (a .t) (s .pre .0))
 
 part-requires : tie.Need-part-requires
 part-requires c κs = let f = facts (c .before .before) in (omega arith, omega arith, omega arith)

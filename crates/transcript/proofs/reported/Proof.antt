@@ -7,8 +7,8 @@ use lib.Seq.{length-take-le}
 use Rattle.field.specs.Modulus.{modulus}
 use Rattle.lamp.specs.declared.Reply.{Reply}
 use Rattle.lamp.specs.Lamp.{hearPairs, step}
-use Rattle.transcript.specs.Transcript.{numbersOf}
-use Rattle.transcript.proofs.Runs.{whole-facts, pairs-count, part-room}
+use Rattle.record.specs.Record.{numbersOf}
+use Rattle.transcript.proofs.Runs.{fine-facts, pairs-count, part-room}
 use borrow.Author.Needs.{needs}
 use Rattle.transcript.proofs.reported.Statement.{statement}
 use Rattle.transcript.proofs.reported.Tie as tie
@@ -18,7 +18,7 @@ room : (s : tie.Start) → let a = s .args in
     ((a .i - 1) * (2 * a .n) + 2 * a .n ≤ length (numbersOf (a .bytes .now) 1)) × ((a .i - 1) * (2 * a .n) ≤ 512) × (2 * a .n ≤ 32)
 room s =
     let a = s .args in
-    let f = whole-facts (a .bytes .now) (a .n) (a .t) (s .pre .0) in
+    let f = fine-facts (a .bytes .now) (a .n) (a .t) (s .pre .0) in
     let r = part-room (a .n) (a .n) (a .i) (f .3) (omega arith) (s .pre .1) (s .pre .2) in
     let e = pairs-count (a .bytes .now) (a .n) (a .t) (s .pre .0) in
     (omega arith, omega arith, omega arith)
@@ -49,8 +49,9 @@ hear-pairs-requires c κs = search needs
 
 returns : tie.Need-returns
 returns c =
+    let d = c .before .before .before in
     ap (λ (r : Reply). r .lamp) (c .before .hear-pairs .ensures)
-    ∙ ap₂ (λ l d. step modulus l (hearPairs d) .lamp) (c .before .before .before .dealt .ensures) (c .before .before .before .before .part .ensures)
+    ∙ ap₂ (λ l d. step modulus l (hearPairs d) .lamp) (d .dealt .ensures) (d .before .part .ensures)
 
 pub reported-spec : {M : Type 1} → statement M
 reported-spec =

@@ -7,7 +7,7 @@ use native.Mathlib.Omega.{arith}
 use borrow.Author.Needs.{needs}
 use lib.ListN.{length, take}
 use Rattle.field.specs.Modulus.{modulus}
-use Rattle.trial.specs.Answer.{answer}
+use Rattle.trial.specs.Results.{resultOf}
 use Rattle.trial.specs.Search.{found}
 use Rattle.trial.proofs.Arrays.{found-one, found-none, found-unsent, Branches, branches, zeros-next}
 use borrow.Fn.Kinds.{In}
@@ -34,25 +34,46 @@ search-below t = and 2 search-kinds.ps (falls 2 search-kinds.ps _<_ μ-search t)
 
 -- What the callees are known by.
 abbrev claims : ℕ → search-lts.Claims
-claims t =
-    (straight-reads.Asked, straight-reads.Learnt, copied-reads.Asked, copied-reads.Learnt, test-reads.Asked, test-reads.Learnt, given-reads.Asked, given-reads.Learnt, nothing-reads.Asked, nothing-reads.Learnt, search-below t, search′.Post)
+claims t = (
+  straight-reads.Asked,
+  straight-reads.Learnt,
+  copied-reads.Asked,
+  copied-reads.Learnt,
+  test-reads.Asked,
+  test-reads.Learnt,
+  given-reads.Asked,
+  given-reads.Learnt,
+  nothing-reads.Asked,
+  nothing-reads.Learnt,
+  search-below t,
+  search′.Post,
+)
+
+-- The places that the proof names: the start behind the test whether points are left, and that test before the call that takes the point.
+abbrev start : (t : ℕ) → search-lts.Else3 (claims t) (search-at t) search′.Post → search-lts.Start (claims t) (search-at t) search′.Post
+start t e = e .before .before .before .before .before
+
+abbrev left : (t : ℕ) → search-lts.After-search2 (claims t) (search-at t) search′.Post
+    → search-lts.Else3 (claims t) (search-at t) search′.Post
+left t a = a .before .before .before .before
 
 -- The arrays hold four numbers each.
-sizes : (t : ℕ) (s : search-lts.Start (claims t) (search-at t) search′.Post) → (length (s .args .t8) ≡ 4) × (length (s .args .cy) ≡ 4)
-sizes t s = (omega arith, omega arith)
+widths : (t : ℕ) (s : search-lts.Start (claims t) (search-at t) search′.Post) → (length (s .args .t8) ≡ 4) × (length (s .args .cy) ≡ 4)
+widths t s = (omega arith, omega arith)
 
 -- The call that takes the point has answered.
 taken : (t : ℕ) (a : search-lts.After-search2 (claims t) (search-at t) search′.Post)
-    → let s = a .before .before .before .before .before .before .before .before .before .args in
+    → let s = start t (left t a) .args in
     Branches modulus (s .need) (s .xs .now) (s .ys .now) (s .i) (s .c) (s .t8) (s .cy) (s .more) (s .spare) (a .search2 .result)
 taken t a =
-    let tested = a .before .before .before .before in
-    let s = tested .before .before .before .before .before in
-    let l = sizes t s in
+    let tested = left t a in
+    let s = start t tested in
+    let l = widths t s in
     let more = tested .before .if2 .left in
     branches modulus (s .args .need) (s .args .xs .now) (s .args .ys .now) (s .args .i) (s .args .c) (s .args .t8) (s .args .cy)
-    (s .args .more) (s .args .spare) _ (s .pre .1 .sizes) (tested .if3 .left) (omega (arith, s .pre .1 .room, pos-of-ne-zero more))
-    (l .0) (l .1) more (tested .before .before .if1 .left) (a .before .before .if4 .left) (a .search2 .ensures)
+    (s .args .more) (s .args .spare) _ (s .pre .1 .bounded .lengths) (tested .if3 .left)
+    (omega (arith, s .pre .1 .room, pos-of-ne-zero more)) (l .0) (l .1) more (tested .before .before .if1 .left)
+    (a .before .before .if4 .left) (a .search2 .ensures)
 
 module _ (t : ℕ) where
   straight-requires : search-lts.Need-straight-requires (claims t) (search-at t) search′.Post
@@ -66,7 +87,8 @@ module _ (t : ℕ) where
       let s = c .before .before .before .before .before .args in
       c .copied .ensures
       ∙ c .before .straight .ensures
-      ∙ ap (λ n. answer (found modulus (s .need) (s .xs .now) (s .ys .now) (s .more) n (take (s .c) (s .t8)) (take (s .c) (s .cy)) (s .i)))
+      ∙ ap
+      (λ n. resultOf (found modulus (s .need) (s .xs .now) (s .ys .now) (s .more) n (take (s .c) (s .t8)) (take (s .c) (s .cy)) (s .i)))
       (sym (c .before .before .if1 .taken))
 
   slice-aggregate-test : search-lts.Need-slice-aggregate-test (claims t) (search-at t) search′.Post
@@ -79,8 +101,8 @@ module _ (t : ℕ) where
   test-requires c κs =
       let s = c .before .before .before .before .before .before in
       let k = s .pre .1 in
-      let l = sizes t s in
-      (k .sizes, ((omega (arith, k .room), l .0, l .1), k .zeros))
+      let l = widths t s in
+      (k .bounded .lengths, ((omega (arith, k .room), l .0, l .1), k .zeros))
 
   given-requires : search-lts.Need-given-requires (claims t) (search-at t) search′.Post
   given-requires c κs = search needs
@@ -89,7 +111,8 @@ module _ (t : ℕ) where
   returns-2 c =
       let tested = c .before .before in
       let last = tested .before .before .before in
-      c .given .ensures ∙ tested .test .ensures ∙ ap answer (found-one modulus _ _ _ _ _ _ _ (last .before .before .before .before .args .i) (last .if2 .taken))
+      let s = last .before .before .before .before in
+      c .given .ensures ∙ tested .test .ensures ∙ ap resultOf (found-one modulus _ _ _ _ _ _ _ (s .args .i) (last .if2 .taken))
 
   nothing-requires : search-lts.Need-nothing-requires (claims t) (search-at t) search′.Post
   nothing-requires c κs = search needs
@@ -97,7 +120,8 @@ module _ (t : ℕ) where
   returns-3 : search-lts.Need-returns-3 (claims t) (search-at t) search′.Post
   returns-3 c =
       let s = c .before .before .before .before .before .before in
-      c .nothing .ensures ∙ ap answer (found-none modulus _ _ _ _ _ _ _ (s .args .i) (c .before .before .if2 .left) (c .before .if3 .taken))
+      c .nothing .ensures
+      ∙ ap resultOf (found-none modulus _ _ _ _ _ _ _ (s .args .i) (c .before .before .if2 .left) (c .before .if3 .taken))
 
   mul-y : search-lts.Need-mul-y (claims t) (search-at t) search′.Post
   mul-y c = search needs
@@ -110,18 +134,18 @@ module _ (t : ℕ) where
 
   search-requires : search-lts.Need-search-requires (claims t) (search-at t) search′.Post
   search-requires c κs =
-      let s = c .before .before .before .before .before .before .before in
-      (omega arith, record { sizes = s .pre .1 .sizes; room = omega arith; zeros = s .pre .1 .zeros })
+      let s = start t (c .before .before) in
+      (omega arith, record { bounded = s .pre .1 .bounded; room = omega arith; zeros = s .pre .1 .zeros })
 
   copied-requires-2 : search-lts.Need-copied-requires-2 (claims t) (search-at t) search′.Post
   copied-requires-2 c κs = search needs
 
   returns-4 : search-lts.Need-returns-4 (claims t) (search-at t) search′.Post
   returns-4 c =
-      let s = c .before .before .before .before .before .before .before .before .before in
+      let s = start t (c .before .before .before .before) in
       c .copied2 .ensures
       ∙ c .before .search .ensures
-      ∙ ap answer (found-unsent modulus _ _ _ (omega arith) (s .args .i) (omega arith) _ _ _ _ (c .before .before .if4 .taken))
+      ∙ ap resultOf (found-unsent modulus _ _ _ (omega arith) (s .args .i) (omega arith) _ _ _ _ (c .before .before .if4 .taken))
 
   mul-dx : search-lts.Need-mul-dx (claims t) (search-at t) search′.Post
   mul-dx c = search needs
@@ -152,9 +176,9 @@ module _ (t : ℕ) where
 
   search-requires-2 : search-lts.Need-search-requires-2 (claims t) (search-at t) search′.Post
   search-requires-2 c κs =
-      let s = c .before .before .before .before .before .before .before .before in
-      let zeros = zeros-next (s .args .c) _ (s .args .cy) (omega arith) (sizes t s .1) (s .pre .1 .zeros) in
-      (omega arith, record { sizes = s .pre .1 .sizes; room = omega arith; zeros = zeros })
+      let s = start t (c .before .before .before) in
+      let zeros = zeros-next (s .args .c) _ (s .args .cy) (omega arith) (widths t s .1) (s .pre .1 .zeros) in
+      (omega arith, record { bounded = s .pre .1 .bounded; room = omega arith; zeros = zeros })
 
   copied-requires-3 : search-lts.Need-copied-requires-3 (claims t) (search-at t) search′.Post
   copied-requires-3 c κs = search needs
@@ -170,8 +194,8 @@ module _ (t : ℕ) where
 
   search-requires-3 : search-lts.Need-search-requires-3 (claims t) (search-at t) search′.Post
   search-requires-3 c κs =
-      let s = c .before .before .before .before .before .before .before .before .before .before in
-      (omega arith, record { sizes = s .pre .1 .sizes; room = omega arith; zeros = s .pre .1 .zeros })
+      let s = start t (left t (c .before)) in
+      (omega arith, record { bounded = s .pre .1 .bounded; room = omega arith; zeros = s .pre .1 .zeros })
 
   copied-requires-4 : search-lts.Need-copied-requires-4 (claims t) (search-at t) search′.Post
   copied-requires-4 c κs = search needs

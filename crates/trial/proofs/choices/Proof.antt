@@ -1,40 +1,26 @@
--- `trial::choices` meets its contract: nothing is found outside the sizes, and otherwise what the search finds with no point taken yet.
-use mathlib.Core.Path.{ap, _∙_}
+-- `trial::choices` meets its contract: what the search finds with no point taken yet.
+use mathlib.Core.Path.{refl, ap, _∙_}
+use native.Mathlib.Omega.{arith}
 use borrow.Author.Needs.{needs}
 use Rattle.field.specs.Modulus.{modulus}
-use Rattle.trial.specs.Answer.{answer}
-use Rattle.trial.proofs.Answers.{tried-wide, tried-uneven, tried-within}
+use Rattle.trial.specs.Results.{resultOf}
 use Rattle.trial.proofs.Arrays.{found-tried}
 use Rattle.trial.proofs.choices.Statement.{statement}
 use Rattle.trial.proofs.choices.Tie as tie
 
-nothing-requires : tie.Need-nothing-requires
-nothing-requires c κs = search needs
-
-returns : tie.Need-returns
-returns c = c .nothing .ensures ∙ tried-wide _ _ _ _ _ _ (c .before .if1 .taken)
-
-nothing-requires-2 : tie.Need-nothing-requires-2
-nothing-requires-2 c κs = search needs
-
-returns-2 : tie.Need-returns-2
-returns-2 c = c .nothing2 .ensures ∙ tried-uneven _ _ _ _ _ _ (c .before .before .if1 .left) (c .before .if2 .taken)
-
 search-requires : tie.Need-search-requires
-search-requires c κs = search needs
+search-requires c κs = record { bounded = c .before .before .pre .0; room = omega arith; zeros = refl }
 
 copied-requires : tie.Need-copied-requires
 copied-requires c κs = search needs
 
-returns-3 : tie.Need-returns-3
-returns-3 c =
+returns : tie.Need-returns
+returns c =
     let called = c .before in
-    let s = called .before .before .before .before .before .args in
+    let s = called .before .before .before .args in
     c .copied .ensures
     ∙ called .search .ensures
-    ∙ ap answer (found-tried modulus (s .need) (s .xs .now) (s .ys .now) (s .i) (s .k) (s .spare))
-    ∙ tried-within _ _ _ (s .i) (s .k) (s .spare) (called .before .before .if1 .left) (called .before .if2 .left)
+    ∙ ap resultOf (found-tried modulus (s .need) (s .xs .now) (s .ys .now) (s .i) (s .k) (s .spare))
 
 pub choices-spec : {M : Type 1} → statement M
-choices-spec =
-    tie.close (tie.spec nothing-requires returns nothing-requires-2 returns-2 search-requires copied-requires returns-3)
+choices-spec = tie.close (tie.spec search-requires copied-requires returns)

@@ -1,10 +1,15 @@
 -- `trial::enough` meets its contract. The loop goes from the end and keeps `Slack`.
-use mathlib.Core.Path.{sym, _∙_}
+use mathlib.Core.Path.{_≡_, sym, ap, _∙_}
 use mathlib.Core.List.{[], _∷_}
+use Prim.Native.Nat.{_-_}
 use native.Mathlib.Omega.{arith}
 use borrow.Author.Needs.{needs}
 use borrow.Author.Tests.{not-true, not-false}
+use lib.Dec.{eqb}
+use lib.ListN.{getD}
 use Rattle.field.specs.Modulus.{modulus}
+use Rattle.polynomial.specs.Polynomial.{value}
+use Rattle.polynomial.proofs.Division.{value-cubic}
 use Rattle.trial.proofs.Counting.{Slack, too-few, slack-start, slack-hit, slack-miss, slack-few, slack-end}
 use Rattle.trial.proofs.enough.Statement.{statement}
 use Rattle.trial.proofs.enough.Tie as tie
@@ -14,6 +19,20 @@ Inv-loop a b c d xs ys need i₀ slack₀ i slack = Slack modulus (a ∷ b ∷ c
 
 abbrev μ-loop : tie.MeasureT-loop
 μ-loop a b c d xs ys need i₀ slack₀ i slack = i
+
+-- Whether the point at place i − 1 agrees.
+agrees : (v : tie.After-is-cubic-value Inv-loop μ-loop)
+    → let turn = v .before .before .before .before in
+    let s = turn .before .before .before .before .args in
+    let j = turn .loop .i - 1 in
+    eqb (value modulus (s .a ∷ s .b ∷ s .c ∷ s .d ∷ []) (getD (s .xs .now) j 0)) (getD (s .ys .now) j 0) ≡ v .is-cubic-value .result
+agrees v =
+    let turn = v .before .before .before .before in
+    let s = turn .before .before .before .before .args in
+    let j = turn .loop .i - 1 in
+    sym
+    (v .is-cubic-value .ensures
+    ∙ ap (λ w. eqb w (getD (s .ys .now) j 0)) (value-cubic modulus (s .a) (s .b) (s .c) (s .d) (getD (s .xs .now) j 0)))
 
 returns : tie.Need-returns Inv-loop μ-loop
 returns c = too-few modulus _ _ _ _ (c .if1 .taken)
@@ -44,7 +63,7 @@ returns-2 c =
     let v = c .before .before in
     let k = v .before .before .before .before .loop in
     slack-few modulus _ _ _ _ (k .i) (k .slack) (omega arith) (omega arith) (k .inv)
-    (sym (v .is-cubic-value .ensures) ∙ not-true _ (c .before .if2 .taken)) (c .if3 .taken)
+    (agrees v ∙ not-true _ (c .before .if2 .taken)) (c .if3 .taken)
 
 sub-slack : tie.Need-sub-slack Inv-loop μ-loop
 sub-slack c = search needs
@@ -57,7 +76,7 @@ loop-again c =
     let v = c .before .before in
     let k = v .before .before .before .before .loop in
     slack-miss modulus _ _ _ _ (k .i) (k .slack) (omega arith) (omega arith) (k .inv)
-    (sym (v .is-cubic-value .ensures) ∙ not-true _ (c .before .if2 .taken)) (c .if3 .left)
+    (agrees v ∙ not-true _ (c .before .if2 .taken)) (c .if3 .left)
 
 loop-less-2 : tie.Need-loop-less-2 Inv-loop μ-loop
 loop-less-2 c = search needs
@@ -66,7 +85,7 @@ loop-again-2 : tie.Need-loop-again-2 Inv-loop μ-loop
 loop-again-2 c =
     let v = c .before in
     let k = v .before .before .before .before .loop in
-    slack-hit modulus _ _ _ _ (k .i) (k .slack) (omega arith) (omega arith) (k .inv) (sym (v .is-cubic-value .ensures) ∙ not-false _ (c .if2 .left))
+    slack-hit modulus _ _ _ _ (k .i) (k .slack) (omega arith) (omega arith) (k .inv) (agrees v ∙ not-false _ (c .if2 .left))
 
 returns-3 : tie.Need-returns-3 Inv-loop μ-loop
 returns-3 c = slack-end modulus _ _ _ _ _ _ (omega arith) (c .before .loop .inv)

@@ -2,17 +2,10 @@
 use mathlib.Core.Path.{_∙_}
 use native.Mathlib.Omega.{arith}
 use Rattle.field.specs.Modulus.{modulus}
-use Rattle.trial.proofs.Answers.{four-uneven, four-within}
 use Rattle.trial.proofs.Arrays.{four-given}
 use borrow.Author.Needs.{needs}
 use Rattle.trial.proofs.four.Statement.{statement}
 use Rattle.trial.proofs.four.Tie as tie
-
-nothing-requires : tie.Need-nothing-requires
-nothing-requires c κs = search needs
-
-returns : tie.Need-returns
-returns c = c .nothing .ensures ∙ four-uneven _ _ _ _ _ (c .before .if1 .taken)
 
 cubic-requires : tie.Need-cubic-requires
 cubic-requires c κs = search needs
@@ -35,21 +28,19 @@ enough-requires c κs = search needs
 given-requires : tie.Need-given-requires
 given-requires c κs = search needs
 
-returns-2 : tie.Need-returns-2
-returns-2 c =
+returns : tie.Need-returns
+returns c =
     let counted = c .before in
     let f = counted .before in
-    let s = f .before .before .before .before .args in
+    let s = f .before .before .before .args in
     c .given .ensures
-    ∙ four-given modulus (s .need) (s .xs .now) (s .ys .now) (s .cx) (s .cy) (f .cubic .result) (omega arith) (f .cubic .ensures) _ (counted .enough .ensures)
-    ∙ four-within _ _ _ _ _ (f .before .if1 .left)
+    ∙ four-given modulus (s .need) (s .xs .now) (s .ys .now) (s .cx) (s .cy) (f .cubic .result) (omega arith) (f .cubic .ensures) _
+    (counted .enough .ensures)
 
 pub four-spec : {M : Type 1} → statement M
 four-spec =
     tie.close
     (tie.spec
-    nothing-requires
-    returns
     cubic-requires
     array-read-enough
     array-read-enough-2
@@ -57,4 +48,4 @@ four-spec =
     array-read-enough-4
     enough-requires
     given-requires
-    returns-2)
+    returns)

@@ -8,9 +8,13 @@ use borrow.Author.Needs.{needs}
 use Rattle.trial.proofs.test.Statement.{statement}
 use Rattle.trial.proofs.test.Tie as tie
 
+-- The start before the points taken are lent.
+abbrev start : tie.After-interpolate-arg → tie.Start
+start lent = lent .before .before .before .before .before
+
 slice-aggregate-interpolate : tie.Need-slice-aggregate-interpolate
 slice-aggregate-interpolate c =
-    let s = c .before .before .before .before .before in
+    let s = start c in
     sym (length-take-le (s .args .c) (s .args .cx .now) (omega arith))
 
 slice-relend-prefix-interpolate : tie.Need-slice-relend-prefix-interpolate
@@ -18,7 +22,7 @@ slice-relend-prefix-interpolate c = search needs
 
 slice-aggregate-interpolate-2 : tie.Need-slice-aggregate-interpolate-2
 slice-aggregate-interpolate-2 c =
-    let s = c .before .before .before .before .before .before in
+    let s = start (c .before) in
     sym (length-take-le (s .args .c) (s .args .f .now) (omega arith))
 
 interpolate-requires : tie.Need-interpolate-requires
@@ -45,8 +49,9 @@ same-length c = search needs
 returns : tie.Need-returns
 returns c =
     let i = c .before .before .before .before .before .before .before in
-    let s = i .before .before .before .before .before .before .before in
-    test-given modulus (s .args .need) _ _ (s .args .c) (s .args .cx .now) (s .args .f .now) _ (s .pre .1 .0 .0) (s .pre .1 .0 .1) (s .pre .1 .0 .2)
+    let s = start (i .before .before) in
+    let widths = s .pre .1 .0 in
+    test-given modulus (s .args .need) _ _ (s .args .c) (s .args .cx .now) (s .args .f .now) _ (widths .0) (widths .1) (widths .2)
     (i .interpolate .ensures) (s .pre .1 .1) _ (c .enough .ensures)
 
 pub test-spec : {M : Type 1} → statement M

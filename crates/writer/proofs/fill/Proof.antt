@@ -4,8 +4,8 @@ use Prim.Native.Nat.{ℕ, _≤_}
 use native.Mathlib.Omega.{arith}
 use lib.ListN.{length}
 use Rattle.writer.specs.Writer.{bytesOf}
-use Rattle.record.specs.Record.{sectionStart, directory}
-use Rattle.record.proofs.Sections.{sections-small, record-head}
+use Rattle.record.specs.Record.{directory}
+use Rattle.record.proofs.Sections.{record-head}
 use Rattle.writer.proofs.Loops.{begun-length}
 use Rattle.writer.proofs.Buffer.{Writable, writable-facts, Stage, stage-head, stage-room, stage-next, stage-end}
 use Rattle.writer.proofs.fill.Statement.{statement}
@@ -31,15 +31,12 @@ abbrev fitted₅ : tie.After-put4 → tie.After-slice-known
 fitted₅ c = fitted₄ (c .before .before .before .before)
 
 -- ---- All is writable
-fit : (c : tie.After-slice-known) → let s = start c in Writable (s .args .n) (s .args .t) (length (s .args .deals .now)) (length (s .args .pairs .now)) (length (s .args .reports .now)) (length (s .args .shares .now)) (length (s .args .out .now))
+fit : (c : tie.After-slice-known) → let a = start c .args in
+    Writable (a .n) (a .t) (a .deals .now) (a .pairs .now) (a .reports .now) (a .shares .now) (length (a .out .now))
 fit c = writable-facts _ _ _ _ _ _ _ (start c .pre)
 
 room : (c : tie.After-slice-known) → 18 ≤ length (start c .args .out .now)
 room c = let s = start c in omega (arith, fit c .whole, record-head (s .args .n) (s .args .t))
-
--- Every offset has 16 bits.
-small : (c : tie.After-slice-known) → sectionStart (start c .args .n) (start c .args .t) 4 ≤ 2000
-small c = omega (arith, sections-small (start c .args .n) (start c .args .t) (fit c .size))
 
 -- ---- The buffer after the directory, and after each section
 abbrev At : tie.Start → List ℕ → ℕ → ℕ → List ℕ → Type 0
@@ -60,24 +57,36 @@ upto-reports s = upto-pairs s ++ bytesOf (s .args .reports .now)
 abbrev upto-shares : tie.Start → List ℕ
 upto-shares s = upto-reports s ++ bytesOf (s .args .shares .now)
 
-stage₁ : (c : tie.After-put-head) → At (start (fitted₁ c)) (head (start (fitted₁ c))) 0 (c .put-head .result) (c .put-head .last .1 .1 .1 .1 .0)
-stage₁ c = stage-head _ _ _ (fit (fitted₁ c) .whole) _ _ _ _ (fit (fitted₁ c) .first) (fit (fitted₁ c) .second) (c .put-head .ensures .0) (c .put-head .ensures .1)
+stage₁ : (c : tie.After-put-head) → At (start (fitted₁ c)) (head (start (fitted₁ c))) 0 (c .put-head .result) (c .put-head .last .1 .1 .0)
+stage₁ c = stage-head _ _ _ (fit (fitted₁ c) .whole) _ _ (c .put-head .ensures .0) (c .put-head .ensures .1)
 
 stage₂ : (c : tie.After-put) → At (start (fitted₂ c)) (upto-deals (start (fitted₂ c))) 1 (c .put .result) (c .put .last .1 .1 .0)
-stage₂ c = stage-next _ _ _ (fit (fitted₂ c) .whole) _ 0 _ _ (stage₁ (c .before .before .before .before)) (omega arith) _ (fit (fitted₂ c) .first) _ _ (c .put .ensures .0) (c .put .ensures .1)
+stage₂ c =
+    let f = fit (fitted₂ c) in
+    let e = c .put .ensures in
+    stage-next _ _ _ (f .whole) _ 0 _ _ (stage₁ (c .before .before .before .before)) (omega arith) _ (f .first) _ _ (e .0) (e .1)
 
 stage₃ : (c : tie.After-put2) → At (start (fitted₃ c)) (upto-pairs (start (fitted₃ c))) 2 (c .put2 .result) (c .put2 .last .1 .1 .0)
-stage₃ c = stage-next _ _ _ (fit (fitted₃ c) .whole) _ 1 _ _ (stage₂ (c .before .before .before .before)) (omega arith) _ (fit (fitted₃ c) .second) _ _ (c .put2 .ensures .0) (c .put2 .ensures .1)
+stage₃ c =
+    let f = fit (fitted₃ c) in
+    let e = c .put2 .ensures in
+    stage-next _ _ _ (f .whole) _ 1 _ _ (stage₂ (c .before .before .before .before)) (omega arith) _ (f .second) _ _ (e .0) (e .1)
 
 stage₄ : (c : tie.After-put3) → At (start (fitted₄ c)) (upto-reports (start (fitted₄ c))) 3 (c .put3 .result) (c .put3 .last .1 .1 .0)
-stage₄ c = stage-next _ _ _ (fit (fitted₄ c) .whole) _ 2 _ _ (stage₃ (c .before .before .before .before)) (omega arith) _ (fit (fitted₄ c) .third) _ _ (c .put3 .ensures .0) (c .put3 .ensures .1)
+stage₄ c =
+    let f = fit (fitted₄ c) in
+    let e = c .put3 .ensures in
+    stage-next _ _ _ (f .whole) _ 2 _ _ (stage₃ (c .before .before .before .before)) (omega arith) _ (f .third) _ _ (e .0) (e .1)
 
 stage₅ : (c : tie.After-put4) → At (start (fitted₅ c)) (upto-shares (start (fitted₅ c))) 4 (c .put4 .result) (c .put4 .last .1 .1 .0)
-stage₅ c = stage-next _ _ _ (fit (fitted₅ c) .whole) _ 3 _ _ (stage₄ (c .before .before .before .before)) (omega arith) _ (fit (fitted₅ c) .fourth) _ _ (c .put4 .ensures .0) (c .put4 .ensures .1)
+stage₅ c =
+    let f = fit (fitted₅ c) in
+    let e = c .put4 .ensures in
+    stage-next _ _ _ (f .whole) _ 3 _ _ (stage₄ (c .before .before .before .before)) (omega arith) _ (f .fourth) _ _ (e .0) (e .1)
 
 -- ---- The needs
 put-head-requires : tie.Need-put-head-requires
-put-head-requires c κs = let e = c .before in (room e, omega (arith, fit e .first, fit e .second, small e))
+put-head-requires c κs = let e = c .before in (fit e .size, room e)
 
 put-requires : tie.Need-put-requires
 put-requires c κs =

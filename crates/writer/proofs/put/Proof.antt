@@ -47,7 +47,9 @@ loop-less : tie.Need-loop-less Inv-loop μ-loop
 loop-less c = search needs
 
 loop-again : tie.Need-loop-again Inv-loop μ-loop
-loop-again c = let k = c .before .before .before .before .loop in put-next _ _ _ (k .out) (k .i) (k .place) (k .inv) _ _ (omega arith) (c .before .high .ensures) (c .low .ensures)
+loop-again c =
+    let k = c .before .before .before .before .loop in
+    put-next _ _ _ (k .out) (k .i) (k .place) (k .inv) _ _ (omega arith) (c .before .high .ensures) (c .low .ensures)
 
 same-length : tie.Need-same-length Inv-loop μ-loop
 same-length c = search needs

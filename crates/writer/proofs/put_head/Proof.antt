@@ -1,15 +1,20 @@
 -- `writer::put_head` meets its contract: two bytes are stored, and the directory is put behind them.
-use mathlib.Core.Path.{_≡_, ap}
+use mathlib.Core.Path.{_≡_, ap, _∙_}
 use native.Mathlib.Omega.{arith}
 use lib.ListN.{length, length-set}
 use borrow.Author.Needs.{needs}
-use Rattle.writer.proofs.Buffer.{head-put}
+use Rattle.record.specs.Record.{directory}
+use Rattle.record.proofs.Sections.{length-directory, directory-legal}
+use Rattle.writer.proofs.Buffer.{Headed, head-put}
 use Rattle.writer.proofs.put_head.Statement.{statement}
 use Rattle.writer.proofs.put_head.Tie as tie
 
--- The directory has eight numbers.
+-- The sizes are legal, and the directory has eight numbers.
+whole : (c : tie.After-directory) → let a = c .before .before .args in c .directory .result ≡ directory (a .n) (a .t)
+whole c = c .directory .ensures ∙ directory-legal _ _ (c .before .before .pre .0)
+
 eight : (c : tie.After-directory) → length (c .directory .result) ≡ 8
-eight c = ap length (c .directory .ensures)
+eight c = let a = c .before .before .args in ap length (whole c) ∙ length-directory (a .n) (a .t)
 
 slice-write-out : tie.Need-slice-write-out
 slice-write-out c = search needs
@@ -26,17 +31,19 @@ slice-aggregate-put c = search needs
 put-requires : tie.Need-put-requires
 put-requires c κs = simp length-set (omega (arith, eight (c .before .before)))
 
-same-length : tie.Need-same-length
-same-length c =
-    let d = c .before .before .before .before .before in
+-- What the two stores and the directory leave.
+left : (c : tie.After-put) → let a = c .before .before .before .before .before .args in
+    Headed (a .n) (a .t) (a .out .now) (c .put .result) (c .put .last .1 .1 .0)
+left c =
+    let d = c .before .before .before in
     let s = d .before .before in
-    head-put (s .args .n) (s .args .t) (s .args .out .now) (s .pre .0) _ _ _ _ _ _ (d .directory .ensures) (c .before .before .put .ensures .0) (c .before .before .put .ensures .1) .0
+    head-put (s .args .n) (s .args .t) (s .args .out .now) (s .pre .1) _ _ _ (whole d) (c .put .ensures .0) (c .put .ensures .1)
+
+same-length : tie.Need-same-length
+same-length c = left (c .before .before) .0
 
 returns : tie.Need-returns
-returns c =
-    let d = c .before .before .before .before .before in
-    let s = d .before .before in
-    head-put (s .args .n) (s .args .t) (s .args .out .now) (s .pre .0) _ _ _ _ _ _ (d .directory .ensures) (c .before .before .put .ensures .0) (c .before .before .put .ensures .1) .1
+returns c = left (c .before .before) .1
 
 pub put-head-spec : {M : Type 1} → statement M
 put-head-spec =

@@ -7,21 +7,26 @@ use lib.ListN.{length}
 use borrow.Author.Needs.{needs}
 use borrow.Author.Tests.{not-true, not-false}
 use Rattle.parties.specs.Parties.{sizes}
+use Rattle.answers.specs.declared.Writing.{Writing}
+use Rattle.answers.specs.declared.Writing.the-variants.{Written}
 use Rattle.writer.specs.Writer.{writable}
-use Rattle.writer.specs.declared.Writing.{Writing}
-use Rattle.writer.specs.declared.Writing.the-variants.{Written}
 use Rattle.writer.proofs.Buffer.{writing-size, writing-length, writing-written}
 use Rattle.writer.proofs.write.Statement.{statement}
 use Rattle.writer.proofs.write.Tie as tie
 
+-- The way back to the start.
+abbrev start : tie.After-sizes → tie.Start
+start c = c .before .before .before .before .before .before
+
 -- The sizes have passed.
-sized : (c : tie.Else1) → let s = c .before .before .before .before .before .before .before in sizes (s .args .n) (s .args .t) ≡ true
+sized : (c : tie.Else1) → let a = start (c .before) .args in sizes (a .n) (a .t) ≡ true
 sized c = sym (c .before .sizes .ensures) ∙ not-false _ (c .if1 .left)
 
 -- The lengths have passed, too.
-fit : (c : tie.Else2) → let s = c .before .before .before .before .before .before .before .before .before in writable (s .args .n) (s .args .t) (length (s .args .deals .now)) (length (s .args .pairs .now)) (length (s .args .reports .now)) (length (s .args .shares .now)) (length (s .args .out .now)) ≡ true
+fit : (c : tie.Else2) → let a = start (c .before .before .before) .args in
+    writable (a .n) (a .t) (a .deals .now) (a .pairs .now) (a .reports .now) (a .shares .now) (length (a .out .now)) ≡ true
 unfolding writable
-fit c = simp (sized (c .before .before), sym (c .before .lengths-fit .ensures) ∙ not-false _ (c .if2 .left))
+fit c = simp (sized (c .before .before), sym (c .before .lists-fit .ensures) ∙ not-false _ (c .if2 .left))
 
 sizes-requires : tie.Need-sizes-requires
 sizes-requires c κs = search needs
@@ -29,11 +34,12 @@ sizes-requires c κs = search needs
 returns : tie.Need-returns
 returns c = sym (writing-size _ _ _ _ _ _ _ (sym (c .before .sizes .ensures) ∙ not-true _ (c .if1 .taken)))
 
-lengths-fit-requires : tie.Need-lengths-fit-requires
-lengths-fit-requires c κs = sized c
+lists-fit-requires : tie.Need-lists-fit-requires
+lists-fit-requires c κs = sized c
 
 returns-2 : tie.Need-returns-2
-returns-2 c = sym (writing-length _ _ _ _ _ _ _ (sized (c .before .before)) (sym (c .before .lengths-fit .ensures) ∙ not-true _ (c .if2 .taken)))
+returns-2 c =
+    sym (writing-length _ _ _ _ _ _ _ (sized (c .before .before)) (sym (c .before .lists-fit .ensures) ∙ not-true _ (c .if2 .taken)))
 
 fill-requires : tie.Need-fill-requires
 fill-requires c κs = fit (c .before)
@@ -52,7 +58,7 @@ write-spec =
     (tie.spec
     sizes-requires
     returns
-    lengths-fit-requires
+    lists-fit-requires
     returns-2
     fill-requires
     same-length

@@ -1,0 +1,47 @@
+-- The lowest refusal that applies.
+--   alsoAll       tests asked one after the other, as code asks them; in-order: that is the lowest refusal
+--   AllPass       every test passes; lowest-pass: where none is refused they do
+--   also-failed, also-fails   the two ways to fail
+use mathlib.Core.Path.{_≡_, refl}
+use mathlib.Core.Bool.{Bool, true, false}
+use mathlib.Core.List.{List, [], _∷_}
+use Prim.Native.Nat.{ℕ}
+use native.Mathlib.Omega.{arith}
+use Rattle.answers.specs.declared.Refusal.{Refusal}
+use Rattle.answers.specs.declared.Admission.{Admission}
+use Rattle.answers.specs.declared.Admission.the-variants.{Pass, Fail}
+use Rattle.answers.specs.Refusals.{Test, lowest, also}
+
+-- Tests asked one after the other, behind what was found before.
+abbrev pub alsoAll : Admission → List Test → Admission
+alsoAll a [] = a
+alsoAll a ((pass, why) ∷ tests) = alsoAll (also a pass why) tests
+
+all-failed : (why : Refusal) (tests : List Test) → alsoAll (Fail why) tests ≡ Fail why
+all-failed why [] = refl
+all-failed why ((pass, w) ∷ tests) = all-failed why tests
+
+pub in-order : (tests : List Test) → alsoAll Pass tests ≡ lowest tests
+in-order [] = refl
+in-order ((true, why) ∷ tests) = in-order tests
+in-order ((false, why) ∷ tests) = all-failed why tests
+
+module _ (earlier : Admission) (pass : Bool) (why : Refusal) where
+  pub also-failed : (first : Refusal) → earlier ≡ Fail first → Fail first ≡ also earlier pass why
+  also-failed first e = rw e
+
+  pub also-fails : earlier ≡ Pass → pass ≡ false → Fail why ≡ also earlier pass why
+  also-fails e f = rw (e, f)
+
+-- Every test passes.
+abbrev pub AllPass : List Test → Type 0
+AllPass [] = Unit
+AllPass ((pass, why) ∷ tests) = (pass ≡ true) × AllPass tests
+
+pub fail-pass : {A : Type 0} {why : Refusal} → Fail why ≡ Pass → A
+fail-pass e = absurd (let z : _≡_ {A = ℕ} 0 1 = cc in omega arith)
+
+pub lowest-pass : (tests : List Test) → lowest tests ≡ Pass → AllPass tests
+lowest-pass [] e = tt
+lowest-pass ((true, w) ∷ tests) e = (refl, lowest-pass tests e)
+lowest-pass ((false, w) ∷ tests) e = fail-pass e

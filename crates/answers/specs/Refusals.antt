@@ -1,0 +1,40 @@
+-- Why a call is refused (document 01, "Who can cause a no").
+--   refusalNumber        the number of a refusal
+--   lowest tests         the refusal of the first test that fails: tests stand in the order of their numbers
+--   also earlier b why   what is found with one test more
+-- Laws: proofs/Tests.
+use mathlib.Core.Bool.{Bool, cond}
+use mathlib.Core.List.{List, [], _∷_}
+use Prim.Native.Nat.{ℕ}
+use Rattle.answers.specs.declared.Refusal.{Refusal}
+use Rattle.answers.specs.declared.Refusal.the-variants.{WrongSize, WrongNumber, WrongLength, WrongStage, NotResidue, WrongDirectory}
+use Rattle.answers.specs.declared.Refusal.the-variants.{AlteredReport, DealerRejected, NoColumn, NoOpening}
+use Rattle.answers.specs.declared.Admission.{Admission}
+use Rattle.answers.specs.declared.Admission.the-variants.{Pass, Fail}
+
+-- The one place that says a refusal's number.
+abbrev pub refusalNumber : Refusal → ℕ
+refusalNumber WrongSize = 1
+refusalNumber WrongNumber = 2
+refusalNumber WrongLength = 3
+refusalNumber WrongStage = 4
+refusalNumber NotResidue = 5
+refusalNumber WrongDirectory = 6
+refusalNumber AlteredReport = 7
+refusalNumber DealerRejected = 8
+refusalNumber NoColumn = 9
+refusalNumber NoOpening = 10
+
+-- Whether a test passes, and the refusal where it does not.
+abbrev pub Test : Type 0
+Test = Bool × Refusal
+
+-- "The lowest number that applies is given, and none otherwise": the tests in the order in which they are looked at.
+abbrev pub lowest : List Test → Admission
+lowest [] = Pass
+lowest ((pass, why) ∷ tests) = cond pass (lowest tests) (Fail why)
+
+-- One test more, looked at where those before it pass.
+abbrev pub also : Admission → Bool → Refusal → Admission
+also Pass pass why = cond pass Pass (Fail why)
+also (Fail first) pass why = Fail first

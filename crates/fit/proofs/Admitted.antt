@@ -1,0 +1,81 @@
+-- What `fit` answers: why it refuses, and what an admitted call says of the points.
+--   fitted-result   what is answered for what was found by trial
+--   fit-degree, fit-lengths, fit-many, fit-few   the four refusals
+--   fit-admitted    an admitted call answers what fits
+--   fit-nothing-iff, fit-found-fits   nothing exactly if nothing fits; what is found fits
+use mathlib.Core.Path.{_≡_, refl, sym, ap, _∙_}
+use mathlib.Core.Bool.{true, false}
+use mathlib.Core.Logic.{_↔_}
+use mathlib.Core.Option.{Option, none, some}
+use mathlib.Core.List.{List}
+use Prim.Native.Nat.{ℕ, _≤_, _<_}
+use borrow.Author.Tests.{le-leb, lt-leb, lt-ltb, le-ltb, eq-eqb, ne-eqb}
+use lib.ListN.{length}
+use Rattle.lists.specs.Tabulate.{pad}
+use Rattle.answers.specs.declared.Refusal.the-variants.{WrongSize, WrongLength}
+use Rattle.answers.specs.declared.Decoding.the-variants.{Found, Nothing}
+use Rattle.answers.specs.Fits.{decoded, refusedFit}
+use Rattle.answers.proofs.Fits.{found-is, nothing-is}
+use Rattle.field.specs.Modulus.{modulus}
+use Rattle.field.proofs.Primes.{prime}
+use Rattle.polynomial.specs.Polynomial.{Points}
+use Rattle.trial.specs.declared.Tried.{Tried}
+use Rattle.trial.specs.Results.{resultOf}
+use Rattle.fit.specs.Fit.{Fits, fit}
+use Rattle.fit.specs.Admitted.{Admitted, fittedOf, fitIn}
+use Rattle.fit.proofs.Decoding.{fit-sound, fit-none-iff}
+
+pub fitted-result : (r : Tried) (o : Option (List ℕ)) → r ≡ resultOf o → fittedOf r ≡ decoded o
+fitted-result r o e = ap fittedOf e ∙ cases o
+  where
+    cases : (o : Option (List ℕ)) → fittedOf (resultOf o) ≡ decoded o
+    cases none = refl
+    cases (some f) = refl
+
+module _ (t need : ℕ) (xs ys : List ℕ) where
+  -- ---- refused
+  pub fit-degree : 3 < t → refusedFit WrongSize ≡ fitIn t need xs ys
+  unfolding fitIn
+  fit-degree h = rw (lt-leb t 3 h)
+
+  module _ (degree : t ≤ 3) where
+    pub fit-lengths : (length xs ≡ length ys → ⊥) → refusedFit WrongLength ≡ fitIn t need xs ys
+    unfolding fitIn
+    fit-lengths l = rw (le-leb t 3 degree, ne-eqb (length xs) (length ys) l)
+
+    pub fit-many : length xs ≡ length ys → 16 < length xs → refusedFit WrongLength ≡ fitIn t need xs ys
+    unfolding fitIn
+    fit-many l m = rw (le-leb t 3 degree, eq-eqb (length xs) (length ys) l, lt-leb (length xs) 16 m)
+
+    pub fit-few : length xs ≡ length ys → length xs ≤ 16 → need ≤ t → refusedFit WrongLength ≡ fitIn t need xs ys
+    unfolding fitIn
+    fit-few l m n =
+        rw (le-leb t 3 degree, eq-eqb (length xs) (length ys) l, le-leb (length xs) 16 m, le-ltb t need n)
+
+  -- ---- admitted
+  module _ (a : Admitted t need xs ys) where
+    pub fit-admitted : fitIn t need xs ys ≡ decoded (fit modulus t need xs ys)
+    unfolding fitIn
+    fit-admitted =
+        let lengths = eq-eqb (length xs) (length ys) (a .bounded .lengths) in
+        let most = le-leb (length xs) 16 (a .bounded .most) in
+        rw (le-leb t 3 (a .degree), lengths, most, lt-ltb t need (a .above))
+
+    -- Nothing exactly if nothing fits.
+    pub fit-nothing-iff : Points modulus xs → (fitIn t need xs ys .outcome ≡ Nothing) ↔ ((f : List ℕ) → Fits modulus t need xs ys f → ⊥)
+    fit-nothing-iff ps =
+        let iff = fit-none-iff modulus prime t need xs ys ps (a .above) in
+        let same = ap (λ w. w .outcome) fit-admitted in (
+          λ e. iff .0 (nothing-is (fit modulus t need xs ys) (sym same ∙ e)),
+          λ h. same ∙ ap (λ o. decoded o .outcome) (iff .1 h),
+        )
+
+    -- What is found fits.
+    pub fit-found-fits : fitIn t need xs ys .outcome ≡ Found
+        → (f : List ℕ) × Fits modulus t need xs ys f × (fitIn t need xs ys .coefficients ≡ pad 4 f)
+    fit-found-fits e =
+        let found = found-is (fit modulus t need xs ys) (sym (ap (λ w. w .outcome) fit-admitted) ∙ e) in (
+          found .found,
+          fit-sound modulus prime t need xs ys (found .found) (found .is),
+          ap (λ w. w .coefficients) (fit-admitted ∙ ap decoded (found .is)),
+        )

@@ -1,0 +1,52 @@
+-- What `fit` answers for every input.
+--   Admitted t need xs ys   what is decoded; fitTests t need xs ys are the tests for it, in the order of their numbers
+--   decodedIf a o           what is answered where the tests gave a: the refusal, or else what was decoded
+--   fittedOf r              what is answered for what was found by trial
+--   fitIn t need xs ys      what `fit` answers
+-- Laws: proofs/Admitted.
+use mathlib.Core.Bool.{cond}
+use mathlib.Core.Option.{Option}
+use mathlib.Core.List.{List, [], _∷_}
+use Prim.Native.Nat.{ℕ, _≤_, _<_}
+use lib.Dec.{leb, ltb, eqb}
+use lib.ListN.{length}
+use Rattle.answers.specs.declared.Refusal.the-variants.{WrongSize, WrongLength}
+use Rattle.answers.specs.declared.Admission.{Admission}
+use Rattle.answers.specs.declared.Admission.the-variants.{Pass, Fail}
+use Rattle.answers.specs.declared.Decoding.the-variants.{Found, Nothing}
+use Rattle.answers.specs.declared.Fitted.{Fitted}
+use Rattle.answers.specs.Refusals.{Test, lowest}
+use Rattle.answers.specs.Fits.{decoded, refusedFit}
+use Rattle.field.specs.Modulus.{modulus}
+use Rattle.trial.specs.declared.Tried.{Tried}
+use Rattle.trial.specs.Results.{Bounded}
+use Rattle.fit.specs.Fit.{fit}
+
+-- A degree of at most 3, a value for each of at most 16 points, and more points that must agree than t: through t points there is
+-- always a polynomial, and the search would not look for it where fewer than t + 1 were sent.
+pub record Admitted (t need : ℕ) (xs ys : List ℕ) : Type 0 where
+  pub degree : t ≤ 3
+  pub bounded : Bounded xs ys
+  pub above : t < need
+
+-- The tests, in the order of their numbers.
+abbrev pub fitTests : ℕ → ℕ → List ℕ → List ℕ → List Test
+fitTests t need xs ys =
+    (leb t 3, WrongSize)
+    ∷ (eqb (length xs) (length ys), WrongLength)
+    ∷ (leb (length xs) 16, WrongLength)
+    ∷ (ltb t need, WrongLength)
+    ∷ []
+
+-- The refusal where there is one, and otherwise what was decoded.
+abbrev pub decodedIf : Admission → Option (List ℕ) → Fitted
+decodedIf Pass o = decoded o
+decodedIf (Fail why) o = refusedFit why
+
+-- Found or nothing, with the coefficients as they are.
+abbrev pub fittedOf : Tried → Fitted
+fittedOf r = record { outcome = cond (r .found) Found Nothing; coefficients = r .coefficients }
+
+-- Refused, or what fits.
+unfoldable pub fitIn : ℕ → ℕ → List ℕ → List ℕ → Fitted
+fitIn t need xs ys = decodedIf (lowest (fitTests t need xs ys)) (fit modulus t need xs ys)

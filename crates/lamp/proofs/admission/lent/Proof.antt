@@ -1,0 +1,32 @@
+-- `lamp::admission::lent` meets its contract: two tests more behind those of the party.
+use mathlib.Core.Path.{sym, _∙_}
+use Rattle.answers.proofs.Tests.{in-order}
+use Rattle.lamp.specs.Lamp.{partyTests, lentTests}
+use borrow.Author.Needs.{needs}
+use Rattle.lamp.proofs.admission.lent.Statement.{statement}
+use Rattle.lamp.proofs.admission.lent.Tie as tie
+
+legal-requires : tie.Need-legal-requires
+legal-requires c κs = search needs
+
+also-requires : tie.Need-also-requires
+also-requires c κs = search needs
+
+also-requires-2 : tie.Need-also-requires-2
+also-requires-2 c κs = search needs
+
+returns : tie.Need-returns
+returns c =
+    let legal = c .before .before in
+    let a = legal .before .args in
+    rw (c .also2 .ensures, c .before .also .ensures, legal .legal .ensures ∙ sym (in-order (partyTests (a .party))))
+    (in-order (lentTests (a .party) (a .fits) (a .takes)))
+
+pub lent-spec : {M : Type 1} → statement M
+lent-spec =
+    tie.close
+    (tie.spec
+    legal-requires
+    also-requires
+    also-requires-2
+    returns)

@@ -1,0 +1,65 @@
+//! Stories: whole runs told as calls, by name and always the same. For each
+//! party in turn there is its making, then its calls one after the other; the
+//! desk is called where a dealing is asked for.
+
+use crate::calls::{line, step, Call, Step};
+use crate::party::Party;
+use crate::story_refusals as refusals;
+use crate::story_runs as runs;
+use crate::wire;
+
+/// A story's name and its calls.
+pub type Story = (&'static str, Vec<Call>);
+
+/// All of them, in the order in which they are shown and sent.
+pub fn all() -> Vec<Story> {
+    vec![
+        ("honest", runs::honest()),
+        ("liar", runs::liar()),
+        ("unsound", runs::unsound()),
+        ("unsound-two-liars", runs::unsound_two_liars()),
+        ("sixteen", runs::sixteen()),
+        ("rejected", runs::rejected()),
+        ("refused-desk", refusals::desk()),
+        ("refused-made", refusals::badly_made()),
+        ("refused-stages", refusals::stages()),
+        ("refused-closed", refusals::closed()),
+        ("trap", runs::trap()),
+        ("trap-liar", runs::trap_liar()),
+    ]
+}
+
+/// What comes of each story. The first starts without a make, and each other
+/// one with the party that the story before left.
+pub fn told() -> Vec<(&'static str, Vec<Step>)> {
+    let mut party = Party::make(0, 0, 0).0;
+    let mut tell = |call| step(&mut party, call);
+    all()
+        .into_iter()
+        .map(|(name, calls)| (name, calls.into_iter().map(&mut tell).collect()))
+        .collect()
+}
+
+/// Each story's name, then its lines.
+pub fn text() -> String {
+    told()
+        .into_iter()
+        .map(|(name, steps)| {
+            let lines: String = steps.iter().map(line).collect();
+            format!("# {name}\n{lines}")
+        })
+        .collect()
+}
+
+/// The calls of all stories as bytes.
+pub fn stream() -> Vec<u8> {
+    all()
+        .iter()
+        .flat_map(|(_, calls)| calls.iter().flat_map(wire::write))
+        .collect()
+}
+
+/// What is kept: the stories, then the lists of `calls SEED COUNT`.
+pub fn stored_stream(seed: u64, count: usize) -> Vec<u8> {
+    [stream(), wire::stream(seed, count)].concat()
+}

@@ -1,0 +1,149 @@
+//! All stories together, and what the tests of single ones share.
+
+use crate::calls::{answer_text, call_name, call_text, line, random_lists, Call, Step, LENT_LIMIT};
+use crate::cross_calls::{count_answers, never_met, Counts};
+use crate::stories::{all, stored_stream, stream, text, told};
+use crate::wire;
+use std::collections::BTreeSet;
+use std::sync::OnceLock;
+
+/// The tests share one telling.
+pub fn stories() -> &'static [(&'static str, Vec<Step>)] {
+    static TOLD: OnceLock<Vec<(&'static str, Vec<Step>)>> = OnceLock::new();
+    TOLD.get_or_init(told)
+}
+
+pub fn story(name: &str) -> &'static [Step] {
+    let found = stories().iter().find(|story| story.0 == name);
+    &found.unwrap_or_else(|| panic!("no story {name}")).1
+}
+
+pub fn is_make(step: &Step) -> bool {
+    matches!(step.call, Call::Make(..))
+}
+
+/// The parties that are made, in their order.
+pub fn parties(name: &str) -> Vec<usize> {
+    let made = story(name).iter().filter_map(|step| match step.call {
+        Call::Make(_, _, i) => Some(i),
+        _ => None,
+    });
+    made.collect()
+}
+
+/// The steps of party i, its making first.
+pub fn party(name: &str, i: usize) -> &'static [Step] {
+    let steps = story(name);
+    let of_i = |step: &Step| matches!(step.call, Call::Make(_, _, number) if number == i);
+    let start = steps.iter().position(of_i).expect("made");
+    let behind = &steps[start + 1..];
+    let length = behind.iter().position(is_make).unwrap_or(behind.len());
+    &steps[start..start + 1 + length]
+}
+
+/// What was answered and left by one sort of call to party i.
+pub fn answers(name: &str, i: usize, sort: &str) -> Vec<String> {
+    party(name, i)
+        .iter()
+        .filter(|step| call_name(&step.call) == sort)
+        .map(|step| answer_text(&step.answer, &step.after))
+        .collect()
+}
+
+pub fn only_answer(name: &str, i: usize, sort: &str) -> String {
+    let all = answers(name, i, sort);
+    assert_eq!(all.len(), 1, "{name} {i} {sort}");
+    all[0].clone()
+}
+
+/// The calls of one sort to party i, as text.
+pub fn asked(name: &str, i: usize, sort: &str) -> Vec<String> {
+    party(name, i)
+        .iter()
+        .filter(|step| call_name(&step.call) == sort)
+        .map(|step| call_text(&step.call))
+        .collect()
+}
+
+/// What the desk was asked and answered before any party was made.
+pub fn desk_lines(name: &str) -> Vec<String> {
+    let steps = story(name).iter().take_while(|step| !is_make(step));
+    steps
+        .map(|step| line(step).split_once(" ; ").unwrap().0.to_string())
+        .collect()
+}
+
+pub const F_DEALT: &str =
+    "desk 5 1 20 7 2 3 4 = ok 9 7 10 6 11 11 13 10 13 15 16 14 15 19 19 18 17 23 22 22";
+
+// ---- all together ----
+
+fn all_calls() -> Vec<Call> {
+    all().into_iter().flat_map(|story| story.1).collect()
+}
+
+#[test]
+fn names_are_those_of_the_readme() {
+    let readme = include_str!("../README.md");
+    let names: BTreeSet<&str> = stories().iter().map(|story| story.0).collect();
+    assert_eq!((names.len(), stories().len()), (12, 12));
+    for name in names {
+        assert!(readme.contains(&format!("- `{name}`: ")), "{name}");
+    }
+}
+
+/// The stories alone have every kind of answer that can come.
+#[test]
+fn every_answer_comes() {
+    let mut counts = Counts::new();
+    for (_, steps) in stories() {
+        count_answers(&mut counts, steps);
+    }
+    assert_eq!(never_met(&counts), Vec::<String>::new());
+}
+
+/// What is written is read again, and the text has its lines.
+#[test]
+fn stories_as_bytes_and_text() {
+    let calls = all_calls();
+    assert_eq!(wire::read(&stream()), calls);
+    for call in &calls {
+        assert!(wire::write(call).len() <= 3 + 2 * LENT_LIMIT);
+    }
+    let steps = stories().iter().flat_map(|story| &story.1);
+    let lines: String = steps
+        .map(|step| wire::line(&step.answer, &step.after))
+        .collect();
+    assert_eq!(wire::answers(&stream()), lines);
+    let text = text();
+    assert!(text.starts_with(&format!("# honest\n{F_DEALT} ; 0 0 0\nmake 5 1 1 = ok")));
+    assert_eq!(text.lines().count(), calls.len() + stories().len());
+}
+
+/// FNV-1a over the bytes. Who changes a story sees it here.
+#[test]
+fn the_stories_are_fixed() {
+    let hash = stream()
+        .iter()
+        .fold(0xcbf2_9ce4_8422_2325_u64, |hash, &byte| {
+            (hash ^ u64::from(byte)).wrapping_mul(0x0100_0000_01b3)
+        });
+    assert_eq!((all_calls().len(), stream().len()), (753, 7731));
+    assert_eq!(format!("{hash:016x}"), "f4b6c4f10891f35e");
+}
+
+/// The stories first. The lists behind them begin with a make, so they are
+/// answered as ever.
+#[test]
+fn the_stored_stream() {
+    let stored = stored_stream(1, 150);
+    assert_eq!(stored, [stream(), wire::stream(1, 150)].concat());
+    let lists = random_lists(1, 150).flatten().count();
+    assert_eq!(wire::read(&stored).len(), all_calls().len() + lists);
+    let answers = [
+        wire::answers(&stream()),
+        wire::answers(&wire::stream(1, 150)),
+    ];
+    assert_eq!(wire::answers(&stored), answers.concat());
+    assert_eq!(stored_stream(1, 0), stream());
+}
