@@ -8,9 +8,9 @@
  * that of `opened` too, is valid for that many numbers, aligned, and not null even where the count is 0; what is
  * written overlaps nothing else of the same call, and nothing else changes a list while the call runs.
  *
- * A `uint8_t` answer is 0, or the number of the refusal: 1 a size, 3 the length of a list, 5 a number above 65,520
- * in the dealer's list, 9 no column fits, 10 no opening fits. The lowest number that applies is given. A list or a
- * number lent for writing is written where the answer is 0, and holds what it held otherwise.
+ * A `uint8_t` answer is 0, or the number of the refusal: 1 a size, 3 a list that is not right, mostly by its length,
+ * 5 a number above 65,520 in the dealer's list, 9 no column fits, 10 no opening fits. The lowest number that applies
+ * is given. A list or a number lent for writing is written where the answer is 0, and holds what it held otherwise.
  *
  * A number of 65,521 or more in `ys` or `shares` means "not sent" and fits nothing.
  */
@@ -33,8 +33,8 @@ uint8_t doumbaht_deal(uint8_t n, uint8_t t, const uint16_t *f, size_t f_count, u
 
 /*
  * Answers the happy set: the largest set of lamps that all agree by the reports, bit i-1 for lamp i. Two lamps agree
- * if each has a one for the other; of equally large sets one with lamp 1 is preferred, then one with lamp 2, and so
- * on. The empty set, 0, for no reports and for more than 16.
+ * if each has a one for the other; own bits and bits behind the last report are ignored. Of equally large sets one with
+ * lamp 1 is preferred, then one with lamp 2, and so on. 0, which is no happy set, for no reports and for more than 16.
  */
 uint16_t doumbaht_happy_set(const uint16_t *reports, size_t reports_count);
 
@@ -49,7 +49,7 @@ uint8_t doumbaht_repair(uint8_t t, const uint16_t *xs, size_t xs_count, const ui
 
 /*
  * Opens the published shares of lamps 1 to n, by themselves: writes to `opened` the constant of the polynomial of
- * degree at most t from which at most t of them differ. Answers 0 when written; 1 for the sizes, as above; 3 unless
+ * degree at most t from which at most t of them differ. Answers 0 when written; 1 for the sizes, as in dealing; 3 unless
  * there are n shares; 10 if no polynomial fits. At most one does.
  */
 uint8_t doumbaht_open(uint8_t n, uint8_t t, const uint16_t *shares, size_t shares_count, uint16_t *opened);

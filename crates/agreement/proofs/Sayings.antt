@@ -79,15 +79,15 @@ reports p l hs = record {
   within = mask-lt (λ k. confirms p i (rowOfLamp l) (columnOfLamp l) hs (suc k)) (l .party .n);
   bits = λ j a. (
     λ e.
-    let c = confirmed p i (rowOfLamp l) (columnOfLamp l) hs j (sym (bit-of j a) ∙ e) in
-    record { other = c .other; soundly = soundly p l (c .soundly); first-right = c .first; second-right = c .second },
+        let c = confirmed p i (rowOfLamp l) (columnOfLamp l) hs j (sym (bit-of j a) ∙ e) in
+        record { other = c .other; soundly = soundly p l (c .soundly); first-right = c .first; second-right = c .second },
     λ c.
-    bit-of j a ∙ confirms-true p i (rowOfLamp l) (columnOfLamp l) hs j (record {
-      other = c .other;
-      soundly = sounds p l (c .soundly);
-      first = c .first-right;
-      second = c .second-right;
-    }),
+        bit-of j a ∙ confirms-true p i (rowOfLamp l) (columnOfLamp l) hs j (record {
+          other = c .other;
+          soundly = sounds p l (c .soundly);
+          first = c .first-right;
+          second = c .second-right;
+        }),
   );
 }
   where

@@ -43,8 +43,8 @@ module _ (t : ℕ) (xs ys column : List ℕ) (r : Repairs t xs ys column) where
   none-near = (
     λ h f n. let e = ap (λ (q : List ℕ × ℕ). q .1) (sym h ∙ near-written f n) in omega arith,
     λ h.
-    repairing-by t xs ys column r
-    ∙ ap (repaired column) (near-none modulus prime t xs ys (r .points) (r .lengths) (r .enough) .1 h),
+        repairing-by t xs ys column r
+        ∙ ap (repaired column) (near-none modulus prime t xs ys (r .points) (r .lengths) (r .enough) .1 h),
   )
 
 module _ (n t : ℕ) (shares : List ℕ) (old : ℕ) (s : sizes n t ≡ true) (l : length shares ≡ n) where
@@ -78,9 +78,9 @@ module _ (n t : ℕ) (shares : List ℕ) (old : ℕ) (s : sizes n t ≡ true) (l
   none-opens = (
     λ h f d. let e = ap (λ (r : ℕ × ℕ). r .1) (sym h ∙ near-opened f d) in omega arith,
     λ h.
-    let size = sizes-facts n t s in
-    let same : length (points n) ≡ n = length-points n in
-    let places : Points modulus (points n) = (points-below modulus n (size .3) (lit< tt), points-distinct n) in
-    opening-by n t shares old s l ∙ ap (λ m. opened old (fit modulus t (m - t) (points n) shares)) (sym same)
-    ∙ ap (opened old) (near-none modulus prime t (points n) shares places (same ∙ sym l) (omega arith) .1 h),
+        let size = sizes-facts n t s in
+        let same : length (points n) ≡ n = length-points n in
+        let places : Points modulus (points n) = (points-below modulus n (size .3) (lit< tt), points-distinct n) in
+        opening-by n t shares old s l ∙ ap (λ m. opened old (fit modulus t (m - t) (points n) shares)) (sym same)
+        ∙ ap (opened old) (near-none modulus prime t (points n) shares places (same ∙ sym l) (omega arith) .1 h),
   )
