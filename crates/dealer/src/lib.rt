@@ -14,8 +14,8 @@ pub enum Dealing {
     Refused(Refusal),
 }
 
-// The lowest refusal that applies, if one does. Behind a test its fact is known, and the compiler makes the loops over a list of known
-// width that follow: so each test has a way out of its own.
+// The lowest refusal that applies, if one does. Each test has a way out of its own: asked by `also`, one after the other, they cost a
+// dealing to sixteen a third more instructions.
 fn admission(n: u8, t: u8, list: &[u16], room: usize) -> Admission
     ensures { λ r. ⌜ r ≡ lowest (deskTests modulus n t (now (list .entry)) room) ⌝ }
 {
