@@ -1,4 +1,4 @@
-// Reads a record from standard input, runs each lamp on it, and writes what document 01 asks for to standard output.
+// Reads a record from standard input, runs each lamp on it, and writes its text to standard output.
 use libc::STDIN_FILENO;
 use libc::STDOUT_FILENO;
 
@@ -8,5 +8,7 @@ fn main() {
     let n = io::read_full(STDIN_FILENO, &mut buffer);
     let mut out = [0u8; 512];
     let answer = transcript::render(&buffer[..n], &mut out);
-    io::write_all(STDOUT_FILENO, transcript::text_in(&out, answer));
+    if !io::write_all(STDOUT_FILENO, transcript::text_in(&out, answer)) {
+        os::fail(b"bench: the text could not be written");
+    }
 }

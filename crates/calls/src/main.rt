@@ -3,14 +3,12 @@
 // 0 makes a lamp for n, t and its number; 1 takes a deal, 2 says the pair for the lamp named, 3 hears pairs, 4 settles, 5 opens;
 // 6 is the desk's: n, t, the room for the deals, and the dealer's list. An unknown kind, a count that its kind does not take, more than
 // 200 numbers or as much room, and a call cut short end the input.
-mod text;
-
 ghost use Prim.Native.Nat.{_≤_};
 use lamp::Lamp;
 use lamp::Reply;
 use libc::STDIN_FILENO;
 
-// The lamp after a call, and whether there was one.
+// The lamp after a call, and whether there was one whose line is written.
 pub struct Turn {
     lamp: Lamp,
     called: bool,
@@ -46,8 +44,8 @@ fn call(lamp: Lamp, kind: u8, list: &[u16]) -> Reply {
 
 // Deals, and writes out the answer and what the list of deals holds then.
 fn dealt(n: u8, t: u8, list: &[u16], deals: &mut [u16]) {
-    text::dealing(dealer::deal(n, t, list, deals));
-    text::numbers(deals);
+    replies::dealing(dealer::deal(n, t, list, deals));
+    replies::numbers(deals);
 }
 
 // The desk, with as much room for the deals as is asked for, which holds "not sent" before.
@@ -104,27 +102,33 @@ fn over(lamp: Lamp) -> Turn {
     }
 }
 
+// The end of a line: what the lamp holds. Where it cannot be written the calls are over.
+fn ended(lamp: Lamp) -> Turn {
+    replies::word(b" ;");
+    replies::state(lamp);
+    if !replies::word(b"\n") {
+        os::fail(b"calls: a line could not be written");
+        return over(lamp);
+    }
+    Turn {
+        lamp: lamp,
+        called: true,
+    }
+}
+
 // Makes a call or a dealing with the numbers lent, and writes its line.
 fn answered(lamp: Lamp, kind: u8, list: &[u16]) -> Turn {
     if kind == 6 {
         if !desk(list) {
             return over(lamp);
         }
-        text::state(lamp);
-        return Turn {
-            lamp: lamp,
-            called: true,
-        };
+        return ended(lamp);
     }
     let reply = call(lamp, kind, list);
     let answer = reply.answer;
     let after = reply.lamp;
-    text::answer(answer);
-    text::state(after);
-    Turn {
-        lamp: after,
-        called: true,
-    }
+    replies::answer(answer);
+    ended(after)
 }
 
 // A call of the kind, with as many numbers as it counts from the input.

@@ -1,8 +1,8 @@
--- `calls::text::numbers` is safe and ends: k counts the numbers.
+-- `replies::numbers` is safe and ends: k counts the numbers.
 use borrow.Author.Needs.{needs}
 use Prim.Native.Nat.{_-_}
-use Rattle.calls.proofs.text.numbers.Statement.{statement}
-use Rattle.calls.proofs.text.numbers.Tie as tie
+use Rattle.replies.proofs.numbers.Statement.{statement}
+use Rattle.replies.proofs.numbers.Tie as tie
 
 abbrev Inv-loop : tie.InvT-loop
 Inv-loop list k₀ k-end k = Unit {0}

@@ -1,0 +1,41 @@
+// Five lamps of which one may be faulty: the desk deals 7 + 3X + 2Y + 4XY, and lamp 1 goes from its making to an opening in which
+// lamp 3 publishes a wrong share. Each step writes a line: what it answered.
+use lamp::Lamp;
+use lamp::Reply;
+
+fn line(step: &[u8], reply: Reply) {
+    let answer = reply.answer;
+    replies::word(step);
+    replies::answer(answer);
+    replies::word(b"\n");
+}
+
+fn main() {
+    // The desk: the coefficient of X^u Y^v stands at place 2u + v, the secret, 7, in front. Four numbers for each lamp.
+    let mut deals = [0u16; 20];
+    let desk = dealer::deal(5, 1, &[7, 2, 3, 4], &mut deals);
+    replies::word(b"deal ");
+    replies::dealing(desk);
+    replies::numbers(&deals);
+    replies::word(b"\n");
+
+    // Lamp 1 takes its deal, and says its pair for lamp 2: its row and its column at 2.
+    let made = Lamp::make(5, 1, 1);
+    let dealt = made.lamp.take_deal(&deals[0..4]);
+    line(b"take ", dealt);
+    let said = dealt.lamp.say_pair(2);
+    line(b"say ", said);
+
+    // It hears a pair from each lamp, its own place is ignored, and reports a one for each that fits its deal: 30 is 11110 in bits.
+    let pairs = [65535, 65535, 22, 23, 28, 30, 34, 37, 40, 44];
+    let heard = said.lamp.hear_pairs(&pairs);
+    line(b"hear ", heard);
+
+    // Each lamp has reported a one for every other: the dealer is accepted.
+    let settled = heard.lamp.settle(&[30, 29, 27, 23, 15]);
+    line(b"settle ", settled);
+
+    // The lamps publish their shares; lamp 3, whose share is 16, says 999.
+    let opened = settled.lamp.open(&[10, 13, 999, 19, 22]);
+    line(b"open ", opened);
+}
