@@ -2,17 +2,15 @@
  * Doumbaht: verifiable secret sharing with t faulty among n lamps, modulo 65,521, for C and what speaks C.
  *
  * The functions are those of crates/exports, built by `rt staticlib exports` into target/staticlib/libexports.a.
- * Each is proved to answer what its contract there says, for every argument, and to return.
+ * Each is proved to answer what its contract there says, for every argument, and to return. What the words mean
+ * (lamp, deal, row, column, report, happy set, fit) stands in docs/PROTOCOL.md.
  *
  * A list is a pointer and the count of its numbers. What no proof can see is the caller's to keep: every pointer,
  * that of `opened` too, is valid for that many numbers, aligned, and not null even where the count is 0; what is
  * written overlaps nothing else of the same call, and nothing else changes a list while the call runs.
  *
- * A `uint8_t` answer is 0, or the number of the refusal: 1 a size, 3 a list that is not right, mostly by its length,
- * 5 a number above 65,520 in the dealer's list, 9 no column fits, 10 no opening fits. The lowest number that applies
- * is given. A list or a number lent for writing is written where the answer is 0, and holds what it held otherwise.
- *
- * A number of 65,521 or more in `ys` or `shares` means "not sent" and fits nothing.
+ * A `uint8_t` answer is DOUMBAHT_DONE, or the number of the refusal, the lowest that applies. A list or a number lent
+ * for writing is written where the answer is DOUMBAHT_DONE, and holds what it held otherwise.
  */
 #ifndef DOUMBAHT_H
 #define DOUMBAHT_H
@@ -20,43 +18,90 @@
 #include <stddef.h>
 #include <stdint.h>
 
+/* The version of this header and of the library beside it: 100 times 100 times the first, and so on. */
+#define DOUMBAHT_VERSION_MAJOR 0
+#define DOUMBAHT_VERSION_MINOR 2
+#define DOUMBAHT_VERSION_PATCH 0
+#define DOUMBAHT_VERSION (10000 * DOUMBAHT_VERSION_MAJOR + 100 * DOUMBAHT_VERSION_MINOR + DOUMBAHT_VERSION_PATCH)
+
+/* The prime: secrets, coefficients and shares are below it. */
+#define DOUMBAHT_MODULUS 65521
+/* What a sender writes for "not sent". In a message every number from the prime up means it. */
+#define DOUMBAHT_NOT_SENT 65535
+
+/* The sizes: t from T_LEAST to T_MOST, n from N_LEAST(t) to N_MOST. */
+#define DOUMBAHT_T_LEAST 1
+#define DOUMBAHT_T_MOST 3
+#define DOUMBAHT_N_LEAST(t) (4 * (t) + 1)
+#define DOUMBAHT_N_MOST 16
+
+/* How many numbers a row or a column has, a deal (a row, then a column), all deals, and the dealer's list. */
+#define DOUMBAHT_COLUMN(t) ((t) + 1)
+#define DOUMBAHT_DEAL(t) (2 * DOUMBAHT_COLUMN(t))
+#define DOUMBAHT_DEALS(n, t) ((n) * DOUMBAHT_DEAL(t))
+#define DOUMBAHT_COEFFICIENTS(t) (DOUMBAHT_COLUMN(t) * DOUMBAHT_COLUMN(t))
+/* The fewest points that a column is repaired from; the most are N_MOST. */
+#define DOUMBAHT_POINTS_LEAST(t) (3 * (t) + 1)
+
+/* The bytes of the longest record, and those that are enough for any text. */
+#define DOUMBAHT_RECORD_MOST 1362
+#define DOUMBAHT_TEXT 512
+
+/* Whether lamp i, from 1, is in a set. */
+#define DOUMBAHT_HAS(set, i) ((((set) >> ((i)-1)) & 1) != 0)
+
+/* Why a call is refused. The functions below answer some of these numbers; in the text of a record stand others. */
+enum doumbaht_refusal {
+    DOUMBAHT_DONE = 0,             /* not refused */
+    DOUMBAHT_WRONG_SIZE = 1,       /* n or t is not within the sizes */
+    DOUMBAHT_WRONG_NUMBER = 2,     /* a lamp's number is not 1 to n */
+    DOUMBAHT_WRONG_LENGTH = 3,     /* a list has not the length that it must have; of a repair also: its points are bad */
+    DOUMBAHT_WRONG_STAGE = 4,      /* the lamp is not at a stage that takes this call */
+    DOUMBAHT_NOT_RESIDUE = 5,      /* a number of the dealer's list is not below the prime */
+    DOUMBAHT_WRONG_DIRECTORY = 6,  /* the record's directory is wrong */
+    DOUMBAHT_ALTERED_REPORT = 7,   /* a lamp's report in the list of reports is not the one it gave */
+    DOUMBAHT_DEALER_REJECTED = 8,  /* no n - t lamps all agree */
+    DOUMBAHT_NO_COLUMN = 9,        /* no polynomial fits the points of a repair */
+    DOUMBAHT_NO_OPENING = 10       /* no polynomial fits the published shares */
+};
+
 #ifdef __cplusplus
 extern "C" {
 #endif
 
 /*
- * Deals F to lamps 1 to n: `f` holds its (t+1)^2 coefficients, that of X^u Y^v at place u(t+1)+v, the secret at
- * place 0. `deals` holds 2n(t+1) numbers: for each lamp in turn its row F(X,i), then its column F(i,Y), constants
- * first. Answers 0 when written; 1 unless t is 1 to 3 and n is 4t+1 to 16; 3 for the length of either list; 5.
+ * Deals F to lamps 1 to n: `f` holds its COEFFICIENTS(t) coefficients, that of X^u Y^v at place u(t+1)+v, the secret at
+ * place 0. `deals` holds DEALS(n, t) numbers: for each lamp in turn its row F(X,i), then its column F(i,Y), constants
+ * first. Refused with WRONG_SIZE, WRONG_LENGTH (either list), NOT_RESIDUE.
  */
 uint8_t doumbaht_deal(uint8_t n, uint8_t t, const uint16_t *f, size_t f_count, uint16_t *deals, size_t deals_count);
 
 /*
  * Answers the happy set: the largest set of lamps that all agree by the reports, bit i-1 for lamp i. Two lamps agree
  * if each has a one for the other; own bits and bits behind the last report are ignored. Of equally large sets one with
- * lamp 1 is preferred, then one with lamp 2, and so on. 0, which is no happy set, for no reports and for more than 16.
+ * lamp 1 is preferred, then one with lamp 2, and so on. 0, which is no happy set, for no reports and for more than N_MOST.
  */
 uint16_t doumbaht_happy_set(const uint16_t *reports, size_t reports_count);
 
 /*
- * Repairs a column from the points (xs[i], ys[i]): writes the t+1 coefficients, constant first, of the polynomial of
- * degree at most t from which at most t of the points differ. Answers 0 when written; 1 for t outside 1 to 3; 3
- * unless there are as many `ys` as `xs`, 3t+1 to 16 of them, t+1 places in `column`, and the `xs` are distinct and
- * below 65,521; 9 if no polynomial fits. At most one does.
+ * Repairs a column from the points (xs[i], ys[i]): writes the COLUMN(t) coefficients, constant first, of the polynomial of
+ * degree at most t from which at most t of the points differ; one with a y that was not sent always differs. At most one
+ * polynomial fits. Refused with WRONG_SIZE for t; WRONG_LENGTH unless there are as many `ys` as `xs`, POINTS_LEAST(t) to
+ * N_MOST of them, and COLUMN(t) places in `column`, and unless the `xs` are distinct and below the prime; NO_COLUMN.
  */
 uint8_t doumbaht_repair(uint8_t t, const uint16_t *xs, size_t xs_count, const uint16_t *ys, size_t ys_count,
                         uint16_t *column, size_t column_count);
 
 /*
  * Opens the published shares of lamps 1 to n, by themselves: writes to `opened` the constant of the polynomial of
- * degree at most t from which at most t of them differ. Answers 0 when written; 1 for the sizes, as in dealing; 3 unless
- * there are n shares; 10 if no polynomial fits. At most one does.
+ * degree at most t from which at most t of them differ; one that was not sent always differs. At most one polynomial
+ * fits. Refused with WRONG_SIZE, WRONG_LENGTH unless there are n shares, NO_OPENING.
  */
 uint8_t doumbaht_open(uint8_t n, uint8_t t, const uint16_t *shares, size_t shares_count, uint16_t *opened);
 
 /*
  * Writes the text of a record, what the program `bench` prints for these bytes, over the front of `out`, with no 0
- * behind it, and answers its length. `out` needs 512 bytes, as many as are enough for any text: with less it is left
+ * behind it, and answers its length. `out` needs TEXT bytes, as many as are enough for any text: with less it is left
  * alone, and the answer is 0. No text is empty.
  */
 size_t doumbaht_text(const uint8_t *bytes, size_t bytes_count, uint8_t *out, size_t out_count);

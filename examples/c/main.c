@@ -1,5 +1,5 @@
 /*
- * The library from C: document 01's marked cases M1 to M4 and M10, the repair of M7, and the text of the record whose path is
+ * The library from C: the protocol's marked cases M1 to M4 and M10, the repair of M7, and the text of the record whose path is
  * the argument. Prints what stands in `expected` beside it.
  */
 #include <stdio.h>
@@ -8,7 +8,7 @@
 
 #define COUNT(list) (sizeof(list) / sizeof((list)[0]))
 
-enum { N = 5, T = 1, WIDTH = T + 1 };
+enum { N = 5, T = 1 };
 
 static void print_list(const char *word, const uint16_t *list, size_t count)
 {
@@ -22,17 +22,17 @@ static void print_list(const char *word, const uint16_t *list, size_t count)
 static void deal(void)
 {
     const uint16_t f[] = {7, 2, 3, 4};
-    uint16_t deals[N * 2 * WIDTH] = {0};
+    uint16_t deals[DOUMBAHT_DEALS(N, T)] = {0};
     uint8_t refusal = doumbaht_deal(N, T, f, COUNT(f), deals, COUNT(deals));
-    if (refusal != 0) {
+    if (refusal != DOUMBAHT_DONE) {
         printf("deal refused %u\n", (unsigned)refusal);
         return;
     }
     for (int lamp = 1; lamp <= N; lamp += 4) {
-        const uint16_t *own = deals + (lamp - 1) * 2 * WIDTH;
+        const uint16_t *own = deals + (lamp - 1) * DOUMBAHT_DEAL(T);
         printf("lamp %d", lamp);
-        print_list("row", own, WIDTH);
-        print_list("column", own + WIDTH, WIDTH);
+        print_list("row", own, DOUMBAHT_COLUMN(T));
+        print_list("column", own + DOUMBAHT_COLUMN(T), DOUMBAHT_COLUMN(T));
         printf("\n");
     }
 }
@@ -41,7 +41,7 @@ static void open_shares(const uint16_t *shares, size_t count)
 {
     uint16_t opened = 0;
     uint8_t refusal = doumbaht_open(N, T, shares, count, &opened);
-    if (refusal != 0) {
+    if (refusal != DOUMBAHT_DONE) {
         printf("opened refused %u\n", (unsigned)refusal);
         return;
     }
@@ -53,9 +53,9 @@ static void repair(void)
 {
     const uint16_t xs[] = {1, 2, 3, 4};
     const uint16_t ys[] = {44, 66, 88, 110};
-    uint16_t column[WIDTH] = {0};
+    uint16_t column[DOUMBAHT_COLUMN(T)] = {0};
     uint8_t refusal = doumbaht_repair(T, xs, COUNT(xs), ys, COUNT(ys), column, COUNT(column));
-    if (refusal != 0) {
+    if (refusal != DOUMBAHT_DONE) {
         printf("repair refused %u\n", (unsigned)refusal);
         return;
     }
@@ -76,8 +76,8 @@ static void happy(void)
     };
     uint16_t set = doumbaht_happy_set(reports, COUNT(reports));
     printf("happy");
-    for (int lamp = 1; lamp <= 16; lamp++) {
-        if (set >> (lamp - 1) & 1) {
+    for (int lamp = 1; lamp <= DOUMBAHT_N_MOST; lamp++) {
+        if (DOUMBAHT_HAS(set, lamp)) {
             printf(" %d", lamp);
         }
     }
@@ -86,8 +86,9 @@ static void happy(void)
 
 static int text(const char *path)
 {
-    static uint8_t bytes[4096];
-    uint8_t out[512];
+    /* One byte more than the longest record: what is longer is refused, and not cut to a record. */
+    static uint8_t bytes[DOUMBAHT_RECORD_MOST + 1];
+    uint8_t out[DOUMBAHT_TEXT];
     FILE *file = fopen(path, "rb");
     if (file == NULL) {
         perror(path);

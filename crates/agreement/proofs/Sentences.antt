@@ -1,4 +1,4 @@
--- Sentences of document 01 about the lamp, each a short theorem: at every state and every list of calls, unless said otherwise.
+-- Sentences of the protocol about the lamp, each a short theorem: at every state and every list of calls, unless said otherwise.
 --   until-it-settles    "Until it settles its share is 0 and its happy set empty."
 --   after-three-calls   "A lamp given these messages in turn is holding or closed after three accepted calls, a settling that gives 8 or 9
 --                       counted among them."

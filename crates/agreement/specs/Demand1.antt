@@ -1,10 +1,10 @@
 -- Demand 1, one type: every call, at every state and with every argument, gives the lowest number that applies, and none otherwise; and
--- what it leaves is said whole. Each row of a table below is a line of document 01's "Who can cause a no", with the state's and the call's
--- own numbers.
+-- what it leaves is said whole. Each row of a table below stands for a line of the protocol's "What is refused", with the state's and
+-- the call's own numbers.
 --   Table X                    rows of a number, when it applies, and what it leaves; in the order in which they are looked at
 --   Follows T done o x         the answer o is the first number of T that applies, and x is what that leaves; else none, and `done` holds
 --   Replies T done r           the same of a lamp's reply
---   Sizes, Among, Lengths      document 01's sizes and numbers, and the lengths of a record's lists
+--   Sizes, Among, Lengths      the protocol's sizes and numbers, and the lengths of a record's lists
 --   dealt, reported, Fresh     the lamp that a deal or a hearing leaves, and one as made; that of a settling is demand 2's `standing`
 --   refusals p l c             the table of a lamp's call; NoColumnFits, NoOpeningFits: when 9 and 10 apply
 --   Sound p i row column       party i's deal is sound; IsSound p l: the lamp's is

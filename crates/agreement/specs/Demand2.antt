@@ -3,7 +3,7 @@
 --   Takes, Hears, Settles, Opens   nothing is wrong with the call: none of 1, 2, 3, 4 and 7 applies
 --   FewAgree n t rs                no n − t parties all agree with each other
 --   pointsIn n S, heardIn l S      the points of the parties in S, and what the lamp l heard first from them
---   FitsHeard p l S f              f fits that (document 01's "fits" is fit's `Near`); FitsShares p l xs f: f fits the shares xs
+--   FitsHeard p l S f              f fits that (the protocol's "fits" is fit's `Near`); FitsShares p l xs f: f fits the shares xs
 --   standing l stage S v           the very lamp l, at this stage, with the set S and the share v
 --   EndsHolding l S v r            the reply r accepts and leaves the lamp l holding, with the set S and the share v
 --   TakesRight, HearsRight, KeepsRight, RepairsRight, OpensRight, DealsRight   what the demand says of each

@@ -1,4 +1,4 @@
--- Demand 3, one type: the agreement of all honest lamps. Each record is a bullet of document 01's "The lamps of demand 3", or a part of
+-- Demand 3, one type: the agreement of all honest lamps. Each record is a bullet of the protocol's "The lamps of demand 3", or a part of
 -- one.
 --   Execution          who is honest, the calls of each lamp, and the reports that all see
 --   Honest s e i       lamp i is one of the honest ones

@@ -1,8 +1,8 @@
--- Document 01's "Marked for proof", M1 to M12, and its traps, as one table of cases; F = 7 + 3X + 2Y + 4XY, n = 5 and t = 1 unless a case
+-- The protocol's marked cases, M1 to M12, and its traps, as one table of cases; F = 7 + 3X + 2Y + 4XY, n = 5 and t = 1 unless a case
 -- says otherwise.
 --   Case          what is asked, and what must come of it
 --   holds p c     the definitions give that, modulo p
---   table         the marked cases; traps: document 01's traps; sayings: what a lamp says, and what a closed one still does
+--   table         the marked cases; traps: the protocol's traps; sayings: what a lamp says, and what a closed one still does
 -- Shown true all together in proofs/Marked.
 use mathlib.Core.Bool.{Bool, true, false, _&&_, Bool·beq}
 use mathlib.Core.Option.{Option, none, some}

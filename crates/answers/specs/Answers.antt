@@ -1,4 +1,4 @@
--- What a lamp's call answers, and its stages, in document 01's numbers.
+-- What a lamp's call answers, and its stages, in the protocol's numbers.
 --   numberOf        the number of an answer: none where the call is accepted
 --   valuesOf        the values of an answer: a pair's two numbers, the report, the opened number; none otherwise
 --   stageNumber     the stages in order, from 0

@@ -1,4 +1,4 @@
--- Why a call is refused (document 01, "Who can cause a no").
+-- Why a call is refused (docs/PROTOCOL.md, "What is refused").
 --   refusalNumber        the number of a refusal
 --   lowest tests         the refusal of the first test that fails: tests stand in the order of their numbers
 --   also earlier b why   what is found with one test more
@@ -12,7 +12,7 @@ use Rattle.answers.specs.declared.Refusal.the-variants.{AlteredReport, D
 use Rattle.answers.specs.declared.Admission.{Admission}
 use Rattle.answers.specs.declared.Admission.the-variants.{Pass, Fail}
 
--- The one place that says a refusal's number.
+-- The one definition of a refusal's number.
 abbrev pub refusalNumber : Refusal → ℕ
 refusalNumber WrongSize = 1
 refusalNumber WrongNumber = 2

@@ -5,7 +5,7 @@ ghost use Rattle.answers.specs.Refusals.{refusalNumber, also};
 ghost use Rattle.answers.specs.Answers.{numberOf, stageNumber};
 ghost use Rattle.answers.specs.Fits.{refusedFit};
 
-// Why a call is refused; document 01's number of each is `refusalNumber` in the definitions.
+// Why a call is refused; the protocol's number of each is `refusalNumber` in the definitions.
 pub enum Refusal {
     WrongSize,
     WrongNumber,
@@ -62,7 +62,7 @@ pub struct Fitted {
     pub coefficients: [u16; 4],
 }
 
-// Document 01's number of a refusal.
+// The protocol's number of a refusal.
 pub fn refusal_number(why: Refusal) -> u8
     ensures { λ r. ⌜ r ≡ refusalNumber why ⌝ }
 {
@@ -95,7 +95,7 @@ pub fn also(earlier: Admission, pass: bool, why: Refusal) -> Admission
     }
 }
 
-// Document 01's number of an answer, 0 where the call is accepted.
+// The protocol's number of an answer, 0 where the call is accepted.
 pub fn answer_number(answer: Answer) -> u8
     ensures { λ r. ⌜ r ≡ orZero (numberOf answer) ⌝ }
 {

@@ -1,7 +1,7 @@
 -- What follows from a party's deal: whether it is sound, the pairs it says, the report it gives.
 --   rowOf t d, columnOf t d         row and column in a deal of 2(t + 1) numbers
 --   firstFrom hs j, secondFrom hs j   the two numbers heard from party j, in a list of n pairs
---   sound p i row column            the deal is sound (document 01)
+--   sound p i row column            the deal is sound (docs/PROTOCOL.md, "A lamp")
 --   pairFor p i row column j        party i's pair for j
 --   said q                          a pair as the code answers it
 --   confirms p i row column hs j    party i has a one for j

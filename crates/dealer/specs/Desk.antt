@@ -3,7 +3,7 @@
 --   deals p w F n           the deals of parties 1 to n, in order
 --   stretch w out i         party i's own part of a list of deals
 --   deskTests p n t F room  what the desk looks at, in the order of the refusals' numbers
---   dealingNumber           document 01's number of an answer
+--   dealingNumber           the protocol's number of an answer
 --   desk p n t F out        the list afterwards, and the answer
 -- Laws: proofs/Desk.
 use mathlib.Core.Option.{Option, none, some}
@@ -30,7 +30,7 @@ unfoldable pub deals : ℕ → ℕ → List ℕ → ℕ → List ℕ
 deals p w F zero = []
 deals p w F (suc n) = deals p w F n ++ deal p w F (suc n)
 
--- Party i's own part of a list of deals (document 01's stretch).
+-- Party i's own part of a list of deals (the protocol's stretch).
 abbrev pub stretch : ℕ → List ℕ → ℕ → List ℕ
 stretch w out i = take (2 * w) (drop ((i - 1) * (2 * w)) out)
 

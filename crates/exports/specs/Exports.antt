@@ -1,4 +1,4 @@
--- What dealing, repair and opening for other languages do: what the lent place holds afterwards, and the answer, 0 or document 01's number
+-- What dealing, repair and opening for other languages do: what the lent place holds afterwards, and the answer, 0 or the protocol's number
 -- of the refusal.
 --   dealing n t F out          dealing by the desk
 --   repairTests t xs m room    what a repair is looked at for, with m values and room for `room` coefficients

@@ -1,5 +1,5 @@
 // The library for other languages: functions on numbers and lists, marked for C. Every argument is taken. Dealing, repair and opening
-// answer 0, or document 01's number of the refusal, and write where they answer 0 alone.
+// answer 0, or the protocol's number of the refusal, and write where they answer 0 alone.
 ghost use mathlib.Core.Path.{_≡_};
 ghost use Prim.Native.Nat.{_≤_};
 ghost use lib.ListN.{length, take};
@@ -16,7 +16,7 @@ use answers::also;
 use answers::refusal_number;
 use dealer::Dealing;
 
-// Document 01's number of the desk's answer, 0 where the deals are written.
+// The protocol's number of the desk's answer, 0 where the deals are written.
 fn dealing_number(answer: Dealing) -> u8
     ensures { λ r. ⌜ r ≡ orZero (dealingNumber answer) ⌝ }
 {

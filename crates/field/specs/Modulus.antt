@@ -1,5 +1,4 @@
--- The prime of document 01. It is written here, and as `MODULUS` in the code, and nowhere else; `prime` of proofs/Primes shows that it
--- is one.
+-- The prime of the protocol, written here and as `MODULUS` in the code; `prime` of proofs/Primes shows that it is one.
 use Prim.Native.Nat.{ℕ}
 
 -- "All arithmetic is modulo the prime 65,521."

@@ -1,4 +1,4 @@
--- Examples of decoding, all computed together: those of document 01, its trap, the worst cases, and some that it does not have.
+-- Examples of decoding, all computed together: those of the protocol, its trap, the worst cases, and some that it does not have.
 use mathlib.Core.Path.{_≡_, refl}
 use mathlib.Core.Bool.{true, false}
 use mathlib.Core.Option.{none, some}

@@ -1,6 +1,6 @@
--- The lamp (document 01): one party's state and its calls, refused or not, at every state.
+-- The lamp (docs/PROTOCOL.md, "A lamp"): one party's state and its calls, refused or not, at every state.
 --   made n t i        the lamp as made
---   Sized l           its size and number are within document 01's
+--   Sized l           its size and number are within the protocol's
 --   Call, tests l c   a call, and what it is looked at for, in the order of the refusals' numbers
 --   settled p l S     what settling with the happy set S gives
 --   outcome p l c     the reply to a call that no test refuses; step p l c: the reply to any call
@@ -53,7 +53,7 @@ made n t i = record {
   };
 }
 
--- The lamp's size and number are within document 01's.
+-- The lamp's size and number are within the protocol's.
 pub record Sized (l : Lamp) : Type 0 where
   pub size : sizes (l .party .n) (l .party .t) ≡ true
   pub party : isParty (l .party .n) (l .party .number) ≡ true

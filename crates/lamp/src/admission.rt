@@ -11,7 +11,7 @@ use answers::Stage;
 use answers::also;
 use answers::stage_number;
 
-// Whether the party's size and number are within document 01's.
+// Whether the party's size and number are within the protocol's.
 pub(crate) fn legal(party: Party) -> Admission
     ensures { λ r. ⌜ r ≡ lowest (partyTests party) ⌝ }
 {

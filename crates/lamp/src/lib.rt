@@ -1,4 +1,4 @@
-// One party's end of the protocol (document 01's lamp): its state goes into each call by value and comes back with the answer.
+// A lamp, one party's end of the protocol: its state goes into each call by value and comes back with the answer.
 mod admission;
 mod dealing;
 mod opening;

@@ -1,5 +1,5 @@
--- The lines that are printed of a record (document 01, "Record and bench"), from numbers alone. Each line is said once: the words in the
--- order in which they are put, and the text that they make.
+-- The lines that are printed of a record (docs/PROTOCOL.md, "The text of a record"), from numbers alone. Each line is said once: the
+-- words in the order in which they are put, and the text that they make.
 --   sizeWords, happyWords, verdictWords, lampWords, openedWords, refusedWords   the words of a line
 --   sizeLine, happyLine, verdictLines, lampLine, openedLine, refusedLine        its text
 --   outcomeWords word refusal value   a value behind the word, or a refusal; the refusal 0 stands for none

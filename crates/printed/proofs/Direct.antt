@@ -200,7 +200,7 @@ module _ (bytes : List ℕ) (is : IsRecord bytes) where
   lines-said zero h = refl
   lines-said (suc k) h = ap₂ (λ xs ys. xs ++ ys) (lines-said k (omega arith)) (lamp-said (suc k) (omega arith) h)
 
-  -- WHAT IS PRINTED IS WHAT DOCUMENT 01'S STEPS SAY OF THE RECORD'S NUMBERS.
+  -- WHAT IS PRINTED IS WHAT THE PROTOCOL'S STEPS SAY OF THE RECORD'S NUMBERS.
   pub text-direct : text bytes ≡ direct bytes
   unfolding text textBy textOf direct
   text-direct =

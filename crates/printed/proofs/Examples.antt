@@ -1,4 +1,4 @@
--- Texts computed from the definitions: document 01's example (F = 7 + 3X + 2Y + 4XY, n = 5, t = 1, all honest, except that lamp 3
+-- Texts computed from the definitions: the protocol's example (F = 7 + 3X + 2Y + 4XY, n = 5, t = 1, all honest, except that lamp 3
 -- publishes 999) and its relatives, and each refusal; and that the example meets the premises of what is printed.
 use mathlib.Core.Path.{_≡_, refl}
 use mathlib.Core.Bool.{Bool, true}
@@ -61,8 +61,8 @@ unheard (q ∷ qs) hs = set (unheard qs hs) (10 * (q .0 - 1) + 2 * (q .1 - 1) + 
 abbrev example : List ℕ
 example = recordOf 5 1 dealt heard reported published
 
--- Records, and the text of each. The nine lines of document 01. Two wrong shares, and a report for lamp 2 that is not its own. Only 4 and 5
--- disagree: lamp 5 is repaired. 1 and 2, and 3 and 4, disagree: rejected. No byte, one, a wrong size, a directory cut short.
+-- Records, and the text of each. The nine lines of the protocol. Two wrong shares, and a report for lamp 2 that is not its own. Only 4
+-- and 5 disagree: lamp 5 is repaired. 1 and 2, and 3 and 4, disagree: rejected. No byte, one, a wrong size, a directory cut short.
 abbrev table : List (List ℕ × List ℕ)
 table = (
   example,

@@ -1,4 +1,4 @@
--- The text of a record straight from its numbers, by document 01's steps 1 to 4, with no lamp and no call.
+-- The text of a record straight from its numbers, by the protocol's steps 1 to 4, with no lamp and no call.
 --   itsDeal, itsPairs, itsReport   lamp i's own deal and pairs in the record, and its report by step 3
 --   happy, isAcceptedIn            the happy set and whether the dealer is accepted, by the reports alone
 --   lampSays bytes i               what is printed behind "lamp i"

@@ -26,7 +26,7 @@ use Rattle.record.specs.Record.{readingTests, readBy, reading, readingNu
 use Rattle.record.proofs.Bytes.{stand-facts, stand-true}
 use Rattle.record.proofs.Sections.{sections-small, length-directory, directory-offset, directory-count, section-before-end}
 
--- ---- Which answer when, in document 01's order
+-- ---- Which answer when, in the protocol's order
 module _ (bytes : List ℕ) where
   pub reading-short : length bytes < 2 → reading bytes ≡ Refused WrongDirectory
   unfolding reading
@@ -47,7 +47,7 @@ module _ (bytes : List ℕ) where
     unfolding reading
     reading-fine e d = simp (le-leb _ _ two, e, d)
 
--- The same in document 01's numbers.
+-- The same in the protocol's numbers.
 module _ (bytes : List ℕ) where
   pub number-short : length bytes < 2 → readingNumber (reading bytes) ≡ some (refusalNumber WrongDirectory)
   number-short h = ap readingNumber (reading-short bytes h)
@@ -186,7 +186,7 @@ module _ (bytes : List ℕ) (k : ℕ) where
     section-part from end offset count f e o c =
         part-reached bytes from end offset count f e ∙ ap₂ (λ a b. take b (drop a bytes)) o c ∙ sym section-named
 
-  -- Of a record each section has document 01's place and length.
+  -- Of a record each section has the protocol's place and length.
   module _ (r : IsRecord bytes) (h : k ≤ 3) where
     pub section-at : sectionOf bytes k
         ≡ take (sectionLength (nOf bytes) (tOf bytes) k) (drop (sectionStart (nOf bytes) (tOf bytes) k) bytes)

@@ -1,4 +1,4 @@
--- The record: n, t, a directory of four sections, and the sections (document 01, "Record and bench").
+-- The record: n, t, a directory of four sections, and the sections (docs/PROTOCOL.md, "The record").
 --   sectionLength n t k, sectionStart n t k   how many bytes section k has and where it starts; section 4 would start at the record's end
 --   directory n t                             the offset and the length of each section
 --   directoryOrZeros n t                      the same for legal sizes, eight zeros for any others
@@ -6,7 +6,7 @@
 --   nOf bytes, tOf bytes                      the sizes that the bytes give
 --   IsRecord bytes                            the bytes are a record
 --   readingTests bytes, reading bytes         the reader's tests in order, and what it answers
---   readingNumber                             document 01's number of that answer
+--   readingNumber                             the protocol's number of that answer
 --   sectionOf bytes k, numbersOf bytes k      the bytes that the directory's pair k names, of any bytes, and their numbers
 -- Laws: proofs/Sections, proofs/Answers.
 use mathlib.Core.Path.{_≡_}
@@ -76,7 +76,7 @@ readBy (Fail why) n t = Refused why
 unfoldable pub reading : List ℕ → Reading
 reading bytes = readBy (lowest (readingTests bytes)) (nOf bytes) (tOf bytes)
 
--- What a record is, in document 01's words: legal sizes, each section's offset and length in the directory, and nothing behind the last
+-- What a record is, in the protocol's words: legal sizes, each section's offset and length in the directory, and nothing behind the last
 -- section.
 pub record IsRecord (bytes : List ℕ) : Type 0 where
   pub two : 2 ≤ length bytes
@@ -85,7 +85,7 @@ pub record IsRecord (bytes : List ℕ) : Type 0 where
   pub count : (k : ℕ) → k ≤ 3 → numberAt bytes (4 + 4 * k) ≡ sectionLength (nOf bytes) (tOf bytes) k
   pub end : length bytes ≡ sectionStart (nOf bytes) (tOf bytes) 4
 
--- Document 01's number of a reader's answer; none where the record is fine.
+-- The protocol's number of a reader's answer; none where the record is fine.
 abbrev pub readingNumber : Reading → Option ℕ
 readingNumber (Fine n t) = none
 readingNumber (Refused why) = some (refusalNumber why)

@@ -1,6 +1,6 @@
 -- What an answer says of the points that were decoded.
 --   Decides p t xs ys fitted   nothing exactly if no polynomial is near the points, and otherwise the one that is
--- "Near" is document 01's fit, degree at most t and at most t points that differ: fit/specs/Fit. Laws: proofs/Deciding.
+-- "Near" is the protocol's fit, degree at most t and at most t points that differ: fit/specs/Fit. Laws: proofs/Deciding.
 use mathlib.Core.Path.{_≡_}
 use mathlib.Core.Logic.{_↔_}
 use mathlib.Core.Option.{some}

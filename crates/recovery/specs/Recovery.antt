@@ -1,4 +1,4 @@
--- What is fitted to the parties' points (document 01's fit: at most t of them differ).
+-- What is fitted to the parties' points (the protocol's fit: at most t of them differ).
 --   repair p n t S heard            the column repaired from the points (j, first number heard from j) for j in S
 --   openingOf p n t xs              the opening of the published shares xs by themselves
 --   openingWith p n t i v xs        the same with party i's own share v in its own place

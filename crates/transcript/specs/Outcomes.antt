@@ -1,4 +1,4 @@
--- What a record's lamps and its published shares come to, and the lines that say it (document 01, "Record and bench").
+-- What a record's lamps and its published shares come to, and the lines that say it (docs/PROTOCOL.md, "The text of a record").
 --   isAccepted set n t                            the verdict, by the happy set
 --   replyLine i r                                 what lamp i holds, or why it refused, by its reply
 --   openingLine o, lastLine accepted n t shares   what the published shares open

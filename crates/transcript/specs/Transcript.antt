@@ -1,4 +1,4 @@
--- What is printed of a record (document 01, "Record and bench"), to the byte.
+-- What is printed of a record (docs/PROTOCOL.md, "The text of a record"), to the byte.
 --   run bytes n t i         what lamp i answers to settling, run on the record as an honest one
 --   lampLines bytes n t i   the lines of lamps 1 to i
 --   textOf bytes n t, text bytes   the text of a record that is not refused, and of any bytes

@@ -147,7 +147,7 @@ module _ (n t : ℕ) (deals pairs reports shares : List ℕ) where
             ∙ sym (over-room (recordOf n t deals pairs reports shares) out (omega (arith, fit .whole))),
       )
 
--- ---- Which answer when, in document 01's order
+-- ---- Which answer when, in the protocol's order
 
 -- The length that an answer tells, plus one; 0 where it tells none.
 abbrev told : Writing → ℕ
@@ -183,7 +183,7 @@ module _ (n t : ℕ) (deals pairs reports shares out : List ℕ) where
   unfolding writing writable
   writing-written e = let (size, lengths) = and-eq-true-iff (sizes n t) fitting .0 e in simp (size, lengths)
 
-  -- The same in document 01's numbers.
+  -- The same in the protocol's numbers.
   pub number-writing-size : sizes n t ≡ false
       → writingNumber (writing n t deals pairs reports shares out .1) ≡ some (refusalNumber WrongSize)
   number-writing-size e = ap (λ w. writingNumber (w .1)) (writing-size e)

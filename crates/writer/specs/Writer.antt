@@ -1,4 +1,4 @@
--- Writing a record (document 01, "Record and bench").
+-- Writing a record (docs/PROTOCOL.md, "The record").
 --   bytesOf xs                                the bytes of a list of numbers
 --   recordOf n t deals pairs reports shares   the whole record
 --   Contents n t deals ..                     the lists can be a record's
