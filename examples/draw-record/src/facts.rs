@@ -61,8 +61,16 @@ pub fn parse(text: &str) -> Option<Reading> {
 }
 
 #[cfg(test)]
-mod tests {
+pub mod tests {
     use super::*;
+
+    /// What the library says of a record that it does not refuse.
+    pub fn facts_of(bytes: &[u8]) -> Option<Facts> {
+        match parse(&crate::doumbaht::text(bytes)).expect("a text") {
+            Reading::Facts(facts) => Some(facts),
+            Reading::Refused(_) => None,
+        }
+    }
 
     const LINES: [&str; 9] = [
         "size 5 1",

@@ -1,0 +1,94 @@
+//! What a lamp was dealt, and what it has to say by it (document 01, steps 1 and 2).
+
+use crate::record::{Record, NOT_SENT};
+
+/// All arithmetic is modulo this prime, the first number that means "not sent".
+const MODULUS: u32 = NOT_SENT as u32;
+
+pub struct Deal<'a> {
+    /// The lamp's point, its number.
+    point: u32,
+    row: &'a [u16],
+    column: &'a [u16],
+}
+
+/// The value at a point of a polynomial, constant first.
+fn value(coefficients: &[u16], point: u32) -> u16 {
+    // Each step stays below 16 * 65,521 + 65,535.
+    coefficients.iter().rev().fold(0, |sum, &number| (sum * point + u32::from(number)) % MODULUS) as u16
+}
+
+impl<'a> Deal<'a> {
+    pub fn of(record: &'a Record, place: usize) -> Deal<'a> {
+        let width = record.t + 1;
+        let (row, column) = record.deals[2 * width * place..2 * width * (place + 1)].split_at(width);
+        Deal { point: place as u32 + 1, row, column }
+    }
+
+    /// All numbers sent, and the row at the lamp's own point is the column there.
+    pub fn is_sound(&self) -> bool {
+        let sent = self.row.iter().chain(self.column).all(|&number| number < NOT_SENT);
+        sent && value(self.row, self.point) == value(self.column, self.point)
+    }
+
+    /// The pair that a lamp with a sound deal owes the lamp at another place: row and column there.
+    pub fn pair_for(&self, place: usize) -> (u16, u16) {
+        let point = place as u32 + 1;
+        (value(self.row, point), value(self.column, point))
+    }
+
+    /// Whether the row of one lamp crosses the column of another, or its own, where both lie on one F.
+    fn crosses(&self, other: &Deal) -> bool {
+        value(self.row, other.point) == value(other.column, self.point)
+    }
+}
+
+/// Whether the deals fit together: all are sound, and each row crosses each column.
+pub fn fit(record: &Record) -> bool {
+    let deals: Vec<Deal> = (0..record.n).map(|place| Deal::of(record, place)).collect();
+    deals.iter().all(|one| one.is_sound() && deals.iter().all(|other| one.crosses(other)))
+}
+
+#[cfg(test)]
+mod tests {
+    use super::*;
+    use crate::record::tests::EXAMPLE;
+
+    #[test]
+    fn deals_of_the_example() {
+        let record = Record::read(EXAMPLE).unwrap();
+        assert!(fit(&record));
+        // Row 9 + 7X and column 10 + 6Y of lamp 1, at 2; row 17 + 23X and column 22 + 22Y of lamp 5, at 1.
+        assert_eq!(Deal::of(&record, 0).pair_for(1), (23, 22));
+        assert_eq!(Deal::of(&record, 4).pair_for(0), (40, 44));
+    }
+
+    #[test]
+    fn own_crossing_and_large_numbers() {
+        let mut record = Record::read(EXAMPLE).unwrap();
+        // 65,530 is 9 to one who counts modulo 65,521, but it was not sent.
+        record.deals[0] = 65_530;
+        assert!(!Deal::of(&record, 0).is_sound() && Deal::of(&record, 1).is_sound() && !fit(&record));
+        record.deals[0] = 8;
+        assert!(!Deal::of(&record, 0).is_sound());
+        record.deals[0] = 9;
+        assert!(fit(&record));
+    }
+
+    #[test]
+    fn a_sound_deal_may_not_fit() {
+        let bytes = include_bytes!("../../../crates/cases/data/repair-foreign-deal.rec");
+        let record = Record::read(bytes).unwrap();
+        assert!((0..5).all(|place| Deal::of(&record, place).is_sound()));
+        assert!(!fit(&record));
+    }
+
+    #[test]
+    fn the_trap_of_document_01() {
+        let bytes = include_bytes!("../../../crates/cases/data/unsound-trap-honest.rec");
+        let record = Record::read(bytes).unwrap();
+        assert_eq!([0, 1, 2, 3, 4].map(|place| Deal::of(&record, place).is_sound()), [true, false, false, true, true]);
+        let deals = [0, 1, 2].map(|place| Deal::of(&record, place));
+        assert!(deals[1].crosses(&deals[2]) && deals[2].crosses(&deals[1]) && !deals[1].crosses(&deals[1]));
+    }
+}

@@ -1,0 +1,106 @@
+//! The four sections of a record that is not refused, and who confirms whom by its reports.
+//! Lamps are counted by their places here, from 0: the lamp at place i has number i + 1.
+
+/// From here on a number means "not sent".
+pub const NOT_SENT: u16 = 65_521;
+
+pub struct Record {
+    pub n: usize,
+    pub t: usize,
+    /// For each lamp its row, then its column, each of t + 1 numbers, constant first.
+    pub deals: Vec<u16>,
+    /// By receiver, then sender: the pair that the one heard from the other.
+    pairs: Vec<u16>,
+    pub reports: Vec<u16>,
+    pub published: Vec<u16>,
+}
+
+/// The 16-bit number at a place, high byte first.
+fn number(bytes: &[u8], at: usize) -> Option<u16> {
+    Some(u16::from_be_bytes([*bytes.get(at)?, *bytes.get(at + 1)?]))
+}
+
+/// One of the four sections: its offset and its length stand in the directory, from byte 2 on.
+fn section(bytes: &[u8], place: usize, count: usize) -> Option<Vec<u16>> {
+    let offset = usize::from(number(bytes, 2 + 4 * place)?);
+    let length = usize::from(number(bytes, 4 + 4 * place)?);
+    if length != 2 * count {
+        return None;
+    }
+    (0..count).map(|k| number(bytes, offset + 2 * k)).collect()
+}
+
+impl Record {
+    /// None for what the library would refuse; that is for it to say, and why.
+    pub fn read(bytes: &[u8]) -> Option<Record> {
+        let (n, t) = (usize::from(*bytes.first()?), usize::from(*bytes.get(1)?));
+        Some(Record {
+            n,
+            t,
+            deals: section(bytes, 0, 2 * n * (t + 1))?,
+            pairs: section(bytes, 1, 2 * n * n)?,
+            reports: section(bytes, 2, n)?,
+            published: section(bytes, 3, n)?,
+        })
+    }
+
+    /// What the receiver heard from the sender in round two.
+    pub fn heard(&self, receiver: usize, sender: usize) -> (u16, u16) {
+        let place = 2 * (receiver * self.n + sender);
+        (self.pairs[place], self.pairs[place + 1])
+    }
+
+    /// Whether the report of one lamp has no one for another.
+    pub fn denies(&self, one: usize, other: usize) -> bool {
+        one != other && self.reports[one] >> other & 1 == 0
+    }
+
+    /// Each two lamps once, the lower number first.
+    pub fn couples(&self) -> impl Iterator<Item = (usize, usize)> + '_ {
+        (0..self.n).flat_map(|i| (i + 1..self.n).map(move |j| (i, j)))
+    }
+
+    pub fn agree(&self, i: usize, j: usize) -> bool {
+        i != j && !self.denies(i, j) && !self.denies(j, i)
+    }
+}
+
+#[cfg(test)]
+pub mod tests {
+    use super::*;
+
+    pub const EXAMPLE: &[u8] = include_bytes!("../../../crates/bench/stdin");
+
+    #[test]
+    fn sections_of_the_example() {
+        let record = Record::read(EXAMPLE).unwrap();
+        assert_eq!((record.n, record.t), (5, 1));
+        assert_eq!(record.deals[..4], [9, 7, 10, 6]);
+        assert_eq!(record.deals[16..], [17, 23, 22, 22]);
+        assert_eq!(record.reports, [30, 29, 27, 23, 15]);
+        assert_eq!(record.published, [10, 13, 999, 19, 22]);
+        // Lamp 5 hears row and column at 5 from lamps 1 and 2.
+        assert_eq!(record.heard(4, 0), (44, 40));
+        assert_eq!(record.heard(4, 1), (66, 63));
+        assert_eq!(record.heard(0, 0), (65_535, 65_535));
+    }
+
+    #[test]
+    fn cut_short_is_not_read() {
+        for length in 0..EXAMPLE.len() {
+            assert!(Record::read(&EXAMPLE[..length]).is_none());
+        }
+    }
+
+    #[test]
+    fn one_sided_is_a_disagreement() {
+        let mut record = Record::read(EXAMPLE).unwrap();
+        assert_eq!(record.couples().filter(|&(i, j)| record.agree(i, j)).count(), 10);
+        // Lamp 1 takes back its one for lamp 2.
+        record.reports[0] &= !0b10;
+        assert!(record.denies(0, 1) && !record.denies(1, 0));
+        assert!(!record.agree(0, 1) && !record.agree(1, 0));
+        assert!(record.agree(0, 2) && record.agree(2, 1));
+        assert!(!record.agree(3, 3) && !record.denies(3, 3));
+    }
+}

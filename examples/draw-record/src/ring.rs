@@ -1,0 +1,133 @@
+//! The ring of lamps, around the point (0, 0): where each stands, and its sign.
+
+use crate::conduct::Conduct;
+use crate::facts::{Facts, Outcome};
+use crate::picture::WIDTH;
+use crate::record::Record;
+use crate::svg::{bold, Anchor, Point, Svg, AMBER, CORAL, MUTED, NIGHT, SKY, WHITE};
+use std::f64::consts::TAU;
+
+/// Sizes that depend on how many lamps there are.
+pub struct Scale {
+    /// From the centre to a lamp, and from a lamp's centre to its edge.
+    pub ring: f64,
+    pub lamp: f64,
+    /// The letters beside a lamp.
+    pub letters: f64,
+}
+
+/// A diamond is as much larger than a circle, and the ring around a faulty lamp larger than both.
+const DIAMOND: f64 = 1.25;
+const FAULTY: f64 = 1.6;
+
+/// Between the ring around a faulty lamp and the words beside it.
+const GAP: f64 = 10.0;
+
+impl Scale {
+    pub fn of(n: usize) -> Scale {
+        // The longest words beside a lamp are 9.6 times as wide as their letters are high.
+        let (lamp, letters, most) = if n <= 8 { (26.0, 18.5, 180.0) } else { (19.0, 16.2, 205.0) };
+        let room = WIDTH / 2.0 - 12.0 - 9.6 * letters;
+        let widest = (0..n).map(|place| way(n, place).0).fold(0.0, f64::max);
+        let mut scale = Scale { ring: most, lamp, letters };
+        scale.ring = most.min(room / widest - scale.clear());
+        scale
+    }
+
+    /// From a lamp's centre to where the words beside it may begin.
+    pub fn clear(&self) -> f64 {
+        FAULTY * self.lamp + GAP
+    }
+
+    /// The same from the centre of the ring.
+    pub fn beside(&self) -> f64 {
+        self.ring + self.clear()
+    }
+}
+
+/// The direction of a lamp from the centre, of length 1: number 1 on top, then clockwise. It is rounded, since the last digits
+/// of a sine are not the same on every machine, and the picture is to be.
+fn way(n: usize, place: usize) -> Point {
+    let angle = TAU / n as f64 * place as f64;
+    let rounded = |number: f64| (number * 1e9).round() / 1e9 + 0.0;
+    (rounded(angle.sin()), rounded(-angle.cos()))
+}
+
+/// One lamp: where it stands, and what is known of it.
+pub struct Lamp<'a> {
+    pub number: usize,
+    pub happy: bool,
+    pub outcome: &'a Outcome,
+    pub conduct: Conduct,
+    /// The direction from the centre, of length 1.
+    pub way: Point,
+}
+
+impl Lamp<'_> {
+    /// The point at this distance from the centre.
+    pub fn at(&self, distance: f64) -> Point {
+        (distance * self.way.0, distance * self.way.1)
+    }
+
+    pub fn refused(&self) -> bool {
+        matches!(self.outcome, Outcome::Refused(_))
+    }
+
+    /// From the lamp's centre to where an arrow may begin or end.
+    pub fn edge(&self, scale: &Scale) -> f64 {
+        let size = match (self.conduct.is_faulty(), self.refused()) {
+            (true, _) => FAULTY,
+            (false, true) => DIAMOND,
+            (false, false) => 1.0,
+        };
+        size * scale.lamp + 4.0
+    }
+
+    fn colour(&self) -> &'static str {
+        match (self.refused(), self.happy) {
+            (true, _) => MUTED,
+            (false, true) => AMBER,
+            (false, false) => SKY,
+        }
+    }
+}
+
+pub fn lamps<'a>(facts: &'a Facts, record: &Record, happy: u16) -> Vec<Lamp<'a>> {
+    let lamp = |(place, outcome)| Lamp {
+        number: place + 1,
+        happy: happy >> place & 1 == 1,
+        outcome,
+        conduct: Conduct::of(record, place, facts.accepted, outcome),
+        way: way(facts.n, place),
+    };
+    facts.lamps.iter().enumerate().map(lamp).collect()
+}
+
+/// The lamp's sign: its shape and its filling; a happy one that holds a share is lit.
+pub fn draw_sign(svg: &mut Svg, centre: Point, r: f64, lamp: &Lamp) {
+    if lamp.happy && !lamp.refused() {
+        svg.glow(centre, 1.9 * r);
+    }
+    let fill = if lamp.happy { lamp.colour() } else { NIGHT };
+    if lamp.refused() {
+        svg.diamond(centre, DIAMOND * r, fill, lamp.colour());
+    } else {
+        svg.circle(centre, r, fill, lamp.colour());
+    }
+}
+
+/// The mark of a lamp that is faulty by the record.
+pub fn draw_mark(svg: &mut Svg, centre: Point, r: f64) {
+    svg.dashed_ring(centre, FAULTY * r, CORAL);
+}
+
+/// The lamp on the ring, with its number and with the mark where it is faulty.
+pub fn draw_lamp(svg: &mut Svg, scale: &Scale, lamp: &Lamp) {
+    let centre = lamp.at(scale.ring);
+    draw_sign(svg, centre, scale.lamp, lamp);
+    if lamp.conduct.is_faulty() {
+        draw_mark(svg, centre, scale.lamp);
+    }
+    let ink = if lamp.happy { NIGHT } else { WHITE };
+    svg.text(centre, scale.lamp * 0.85, Anchor::Middle, ink, &bold(lamp.number, ink));
+}
