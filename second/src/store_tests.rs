@@ -164,7 +164,7 @@ fn the_marked_cases() {
     }
 }
 
-/// Party 5's pairs in the record of M7 are those that the paper names.
+/// Party 5's pairs in the record of M7 are those that the protocol names.
 #[test]
 fn m7_hears_what_it_must() {
     let record = crate::record::read(bytes_of("m07-repair")).unwrap();

@@ -1,4 +1,4 @@
-//! What must come of the stories of refusals by the paper.
+//! What must come of the stories of refusals by the protocol.
 
 use crate::calls::{call_name, call_text, line, Call, Step};
 use crate::field::NOT_SENT;

@@ -1,4 +1,4 @@
-//! What must come of the stories of runs by the paper, in numbers worked out
+//! What must come of the stories of runs by the protocol, in numbers worked out
 //! by hand.
 
 use crate::calls::{line, Call};
