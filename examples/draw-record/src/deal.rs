@@ -1,4 +1,4 @@
-//! What a lamp was dealt, and what it has to say by it (document 01, steps 1 and 2).
+//! What a lamp was dealt, and what it has to say by it (docs/PROTOCOL.md, "A lamp", steps 1 and 2).
 
 use crate::record::{Record, NOT_SENT};
 
@@ -31,8 +31,11 @@ impl<'a> Deal<'a> {
         sent && value(self.row, self.point) == value(self.column, self.point)
     }
 
-    /// The pair that a lamp with a sound deal owes the lamp at another place: row and column there.
+    /// The pair that the lamp owes the lamp at another place: row and column there; with an unsound deal neither.
     pub fn pair_for(&self, place: usize) -> (u16, u16) {
+        if !self.is_sound() {
+            return (NOT_SENT, NOT_SENT);
+        }
         let point = place as u32 + 1;
         (value(self.row, point), value(self.column, point))
     }
@@ -43,9 +46,9 @@ impl<'a> Deal<'a> {
     }
 }
 
-/// Whether the deals fit together: all are sound, and each row crosses each column.
-pub fn fit(record: &Record) -> bool {
-    let deals: Vec<Deal> = (0..record.n).map(|place| Deal::of(record, place)).collect();
+/// Whether the deals of the lamps at these places fit together: all are sound, and each row crosses each column.
+pub fn fit(record: &Record, places: impl Iterator<Item = usize>) -> bool {
+    let deals: Vec<Deal> = places.map(|place| Deal::of(record, place)).collect();
     deals.iter().all(|one| one.is_sound() && deals.iter().all(|other| one.crosses(other)))
 }
 
@@ -57,7 +60,7 @@ mod tests {
     #[test]
     fn deals_of_the_example() {
         let record = Record::read(EXAMPLE).unwrap();
-        assert!(fit(&record));
+        assert!(fit(&record, 0..5));
         // Row 9 + 7X and column 10 + 6Y of lamp 1, at 2; row 17 + 23X and column 22 + 22Y of lamp 5, at 1.
         assert_eq!(Deal::of(&record, 0).pair_for(1), (23, 22));
         assert_eq!(Deal::of(&record, 4).pair_for(0), (40, 44));
@@ -68,11 +71,16 @@ mod tests {
         let mut record = Record::read(EXAMPLE).unwrap();
         // 65,530 is 9 to one who counts modulo 65,521, but it was not sent.
         record.deals[0] = 65_530;
-        assert!(!Deal::of(&record, 0).is_sound() && Deal::of(&record, 1).is_sound() && !fit(&record));
+        assert!(
+            !Deal::of(&record, 0).is_sound()
+                && Deal::of(&record, 1).is_sound()
+                && !fit(&record, 0..5)
+                && fit(&record, 1..5)
+        );
         record.deals[0] = 8;
         assert!(!Deal::of(&record, 0).is_sound());
         record.deals[0] = 9;
-        assert!(fit(&record));
+        assert!(fit(&record, 0..5));
     }
 
     #[test]
@@ -80,11 +88,11 @@ mod tests {
         let bytes = include_bytes!("../../../crates/cases/data/repair-foreign-deal.rec");
         let record = Record::read(bytes).unwrap();
         assert!((0..5).all(|place| Deal::of(&record, place).is_sound()));
-        assert!(!fit(&record));
+        assert!(!fit(&record, 0..5));
     }
 
     #[test]
-    fn the_trap_of_document_01() {
+    fn the_trap_of_the_own_crossing() {
         let bytes = include_bytes!("../../../crates/cases/data/unsound-trap-honest.rec");
         let record = Record::read(bytes).unwrap();
         assert_eq!([0, 1, 2, 3, 4].map(|place| Deal::of(&record, place).is_sound()), [true, false, false, true, true]);

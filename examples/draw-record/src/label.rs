@@ -47,7 +47,7 @@ pub fn lines(lamp: &Lamp, others: usize) -> Vec<Line> {
         // The title says why.
         Outcome::Refused(8) => vec![Line::new("refused", Some(8), QUIET)],
         Outcome::Refused(number) => {
-            let colour = if lamp.conduct.altered_report { CORAL } else { WHITE };
+            let colour = if number == 7 { CORAL } else { WHITE };
             vec![Line::new("refused", Some(number.into()), colour), Line::new(reason(number), None, colour)]
         }
     };
@@ -72,17 +72,22 @@ fn published(published: Published) -> Option<Line> {
     }
 }
 
-/// To whom the lamp lied and to whom it was silent, a line each.
-fn lies(conduct: &Conduct, others: usize) -> impl Iterator<Item = Line> + '_ {
-    [("lied to", &conduct.lied_to), ("silent to", &conduct.silent_to)].into_iter().filter_map(move |(did, lamps)| {
-        let to = match lamps[..] {
-            [] => return None,
-            [one] => format!("lamp {one}"),
-            _ if lamps.len() == others => "all".to_string(),
-            _ => format!("{} lamps", lamps.len()),
-        };
-        Some(Line::new(format!("{did} {to}"), None, CORAL))
-    })
+/// To whom the lamp lied, to whom it was silent, and how many pairs it has otherwise than they were owed, a line each.
+fn lies(conduct: &Conduct, others: usize) -> impl Iterator<Item = Line> {
+    let whom = |lamps: &[usize]| match lamps {
+        [one] => format!("lamp {one}"),
+        _ if lamps.len() == others => "all".to_string(),
+        _ => format!("{} lamps", lamps.len()),
+    };
+    let pairs = conduct.misheard.len();
+    [
+        (!conduct.lied_to.is_empty()).then(|| format!("lied to {}", whom(&conduct.lied_to))),
+        (!conduct.silent_to.is_empty()).then(|| format!("silent to {}", whom(&conduct.silent_to))),
+        (pairs > 0).then(|| format!("altered {pairs} pair{}", if pairs > 1 { "s" } else { "" })),
+    ]
+    .into_iter()
+    .flatten()
+    .map(|words| Line::new(words, None, CORAL))
 }
 
 /// The lines of one lamp and their place, around the ring's centre.

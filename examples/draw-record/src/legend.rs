@@ -46,7 +46,7 @@ fn lamp_signs<'a>(facts: &Facts, lamps: &'a [Lamp<'a>]) -> Vec<Entry<'a>> {
             signs.push((Sign::Lamp(lamp), word));
         }
     }
-    if lamps.iter().any(|lamp| lamp.conduct.is_faulty()) {
+    if lamps.iter().any(|lamp| lamp.conduct.faulty) {
         signs.push((Sign::Mark, "faulty by the record"));
     }
     signs

@@ -36,7 +36,8 @@ pub fn draw(text: &str, facts: &Facts, happy: u16, record: &Record) -> String {
     let lamps = ring::lamps(facts, record, happy);
     let labels = label::place(scale, &lamps);
     let legend = Legend::of(facts, &lamps, record);
-    let misfit = !deal::fit(record);
+    // A faulty lamp may have made up the deal that it says it was dealt.
+    let misfit = !deal::fit(record, (0..facts.n).filter(|&place| !lamps[place].conduct.faulty));
     let subtitle = subtitle(facts, &lamps, misfit);
 
     // The card is as high as the subtitle and the labels need.
@@ -67,7 +68,7 @@ pub fn draw(text: &str, facts: &Facts, happy: u16, record: &Record) -> String {
 fn subtitle(facts: &Facts, lamps: &[Lamp], misfit: bool) -> Vec<(String, &'static str)> {
     let (n, t) = (facts.n, facts.t);
     let happy = lamps.iter().filter(|lamp| lamp.happy).count();
-    let faulty = match lamps.iter().filter(|lamp| lamp.conduct.is_faulty()).count() {
+    let faulty = match lamps.iter().filter(|lamp| lamp.conduct.faulty).count() {
         0 => "none is".to_string(),
         1 => "1 is".to_string(),
         count => format!("{count} are"),
@@ -92,7 +93,7 @@ fn describe(text: &str, lamps: &[Lamp], misfit: bool) -> String {
         text.push_str(MISFIT);
         text.push('\n');
     }
-    for lamp in lamps.iter().filter(|lamp| lamp.conduct.is_faulty()) {
+    for lamp in lamps.iter().filter(|lamp| lamp.conduct.faulty) {
         let lines: Vec<String> = label::lines(lamp, lamps.len() - 1).iter().map(label::Line::plain).collect();
         text.push_str(&format!("lamp {} is faulty by the record: {}\n", lamp.number, lines.join(", ")));
     }

@@ -1,6 +1,6 @@
 //! The ring of lamps, around the point (0, 0): where each stands, and its sign.
 
-use crate::conduct::Conduct;
+use crate::conduct::{conducts, Conduct};
 use crate::facts::{Facts, Outcome};
 use crate::picture::WIDTH;
 use crate::record::Record;
@@ -75,7 +75,7 @@ impl Lamp<'_> {
 
     /// From the lamp's centre to where an arrow may begin or end.
     pub fn edge(&self, scale: &Scale) -> f64 {
-        let size = match (self.conduct.is_faulty(), self.refused()) {
+        let size = match (self.conduct.faulty, self.refused()) {
             (true, _) => FAULTY,
             (false, true) => DIAMOND,
             (false, false) => 1.0,
@@ -93,14 +93,14 @@ impl Lamp<'_> {
 }
 
 pub fn lamps<'a>(facts: &'a Facts, record: &Record, happy: u16) -> Vec<Lamp<'a>> {
-    let lamp = |(place, outcome)| Lamp {
+    let lamp = |(place, (outcome, conduct))| Lamp {
         number: place + 1,
         happy: happy >> place & 1 == 1,
         outcome,
-        conduct: Conduct::of(record, place, facts.accepted, outcome),
+        conduct,
         way: way(facts.n, place),
     };
-    facts.lamps.iter().enumerate().map(lamp).collect()
+    facts.lamps.iter().zip(conducts(record, facts)).enumerate().map(lamp).collect()
 }
 
 /// The lamp's sign: its shape and its filling; a happy one that holds a share is lit.
@@ -125,7 +125,7 @@ pub fn draw_mark(svg: &mut Svg, centre: Point, r: f64) {
 pub fn draw_lamp(svg: &mut Svg, scale: &Scale, lamp: &Lamp) {
     let centre = lamp.at(scale.ring);
     draw_sign(svg, centre, scale.lamp, lamp);
-    if lamp.conduct.is_faulty() {
+    if lamp.conduct.faulty {
         draw_mark(svg, centre, scale.lamp);
     }
     let ink = if lamp.happy { NIGHT } else { WHITE };
