@@ -18,7 +18,7 @@
 #include <stddef.h>
 #include <stdint.h>
 
-/* The version of this header and of the library beside it: 100 times 100 times the first, and so on. */
+/* The version of this header and of the library built from the same tree; as one number, 10203 is 1.2.3. */
 #define DOUMBAHT_VERSION_MAJOR 0
 #define DOUMBAHT_VERSION_MINOR 2
 #define DOUMBAHT_VERSION_PATCH 0
@@ -72,14 +72,16 @@ extern "C" {
 /*
  * Deals F to lamps 1 to n: `f` holds its COEFFICIENTS(t) coefficients, that of X^u Y^v at place u(t+1)+v, the secret at
  * place 0. `deals` holds DEALS(n, t) numbers: for each lamp in turn its row F(X,i), then its column F(i,Y), constants
- * first. Refused with WRONG_SIZE, WRONG_LENGTH (either list), NOT_RESIDUE.
+ * first. The share of an honest lamp i is its column's constant, deals[(i-1) * DEAL(t) + COLUMN(t)]. Refused with
+ * WRONG_SIZE, WRONG_LENGTH (either list), NOT_RESIDUE.
  */
 uint8_t doumbaht_deal(uint8_t n, uint8_t t, const uint16_t *f, size_t f_count, uint16_t *deals, size_t deals_count);
 
 /*
  * Answers the happy set: the largest set of lamps that all agree by the reports, bit i-1 for lamp i. Two lamps agree
  * if each has a one for the other; own bits and bits behind the last report are ignored. Of equally large sets one with
- * lamp 1 is preferred, then one with lamp 2, and so on. 0, which is no happy set, for no reports and for more than N_MOST.
+ * lamp 1 is preferred, then one with lamp 2, and so on. With fewer than n - t lamps in it the dealer is rejected; that is
+ * for the caller to count. 0, which is no happy set, for no reports and for more than N_MOST.
  */
 uint16_t doumbaht_happy_set(const uint16_t *reports, size_t reports_count);
 

@@ -113,5 +113,10 @@ int main(int argc, char **argv)
     open_shares(two_wrong, N);
     repair();
     happy();
-    return text(argv[1]);
+    int status = text(argv[1]);
+    if (fflush(stdout) != 0 || ferror(stdout)) {
+        perror("standard output");
+        return 1;
+    }
+    return status;
 }

@@ -1,5 +1,5 @@
 // Calls one lamp after another as standard input says, and writes a line for each call: what it answered, and what the lamp holds.
-// A call is a byte for its kind, a count, and as many numbers as it counts, in 16 bits each, high byte first:
+// A call is a byte for its kind, a count, and as many numbers as it counts, all but the kind in 16 bits, high byte first:
 // 0 makes a lamp for n, t and its number; 1 takes a deal, 2 says the pair for the lamp named, 3 hears pairs, 4 settles, 5 opens;
 // 6 is the desk's: n, t, the room for the deals, and the dealer's list. An unknown kind, a count that its kind does not take, more than
 // 200 numbers or as much room, and a call cut short end the input.
