@@ -26,7 +26,7 @@
 
 /* The prime: secrets, coefficients and shares are below it. */
 #define DOUMBAHT_MODULUS 65521
-/* What a sender writes for "not sent". In a message every number from the prime up means it. */
+/* What a sender writes for "not sent". In every message but a report each number from the prime up means it. */
 #define DOUMBAHT_NOT_SENT 65535
 
 /* The sizes: t from T_LEAST to T_MOST, n from N_LEAST(t) to N_MOST. */

@@ -171,7 +171,7 @@ mod tests {
     use crate::facts::tests::facts_of;
     use crate::picture::WIDTH;
     use crate::record::Record;
-    use crate::ring::lamps;
+    use crate::ring::{lamps, FAULTY};
     use crate::svg::width_of;
 
     /// A label's left, right, top and bottom. A bold digit is about 0.08 wider than another.
@@ -207,7 +207,7 @@ mod tests {
                 let (x, y) = lamp.at(scale.ring);
                 let (dx, dy) = (x.clamp(one[0], one[1]) - x, y.clamp(one[2], one[3]) - y);
                 assert!(
-                    (dx * dx + dy * dy).sqrt() > 1.6 * scale.lamp,
+                    (dx * dx + dy * dy).sqrt() > FAULTY * scale.lamp,
                     "{name}: label {} lies on lamp {}",
                     i + 1,
                     lamp.number

@@ -1,5 +1,5 @@
 //! The lines between lamps: quiet ones where two agree; where they do not, an arrow from the lamp whose report has no one for the
-//! other. So the arrows of the honest point at a liar.
+//! other. So the arrows of honest lamps point at who lied to them, or was dealt otherwise.
 
 use crate::record::Record;
 use crate::ring::{Lamp, Scale};

@@ -15,7 +15,7 @@ use crate::svg::{bold, Anchor, Svg, AMBER, CORAL, MUTED, NIGHT, WHITE};
 pub const WIDTH: f64 = 800.0;
 const MARGIN: f64 = 32.0;
 
-const MISFIT: &str = "The deals do not fit together: the dealer is at fault.";
+const MISFIT: &str = "The deals do not fit together: dealt so, or altered on the way.";
 
 /// What a refusal's number means, in two or three words.
 pub fn reason(number: u8) -> &'static str {
@@ -64,7 +64,7 @@ pub fn draw(text: &str, facts: &Facts, happy: u16, record: &Record) -> String {
     svg.finish()
 }
 
-/// How many lamps there are, how many of them are faulty by the record, how many all agree, and whether the dealer is at fault.
+/// How many lamps there are, how many of them are faulty by the record, how many all agree, and whether the deals fit together.
 fn subtitle(facts: &Facts, lamps: &[Lamp], misfit: bool) -> Vec<(String, &'static str)> {
     let (n, t) = (facts.n, facts.t);
     let happy = lamps.iter().filter(|lamp| lamp.happy).count();

@@ -18,7 +18,7 @@ pub struct Scale {
 
 /// A diamond is as much larger than a circle, and the ring around a faulty lamp larger than both.
 const DIAMOND: f64 = 1.25;
-const FAULTY: f64 = 1.6;
+pub const FAULTY: f64 = 1.6;
 
 /// Between the ring around a faulty lamp and the words beside it.
 const GAP: f64 = 10.0;
