@@ -71,8 +71,8 @@ module _ (p : ℕ) where
   five = setting p 5 1
 
   -- That F at the points of lamps i and j.
-  abbrev crossing : ℕ → ℕ → ℕ
-  crossing i j = valueOf five anF (point five i) (point five j)
+  abbrev anFAt : ℕ → ℕ → ℕ
+  anFAt i j = valueOf five anF (point five i) (point five j)
 
   -- The dealer is honest; lamp 3 sends and reports nonsense and publishes 999.
   abbrev pub honestDealer : Plot
@@ -93,7 +93,7 @@ module _ (p : ℕ) where
   liar = record {
     good = butThree;
     dealTo = λ i. cond (eqb i 5) (17 ∷ 24 ∷ 22 ∷ 22 ∷ []) (desks.deal p 2 anF i);
-    liesTo = λ i j. cond (eqb i 5) (999, 1) (crossing i 3, crossing 3 i);
+    liesTo = λ i j. cond (eqb i 5) (999, 1) (anFAt i 3, anFAt 3 i);
     claims = λ j. 11;
     early = sayPair 2 ∷ takeDeal (1 ∷ 2 ∷ 3 ∷ []) ∷ settle (0 ∷ 0 ∷ 0 ∷ 0 ∷ 0 ∷ []) ∷ [];
     between = takeDeal (9 ∷ 9 ∷ 9 ∷ 9 ∷ []) ∷ sayPair 2 ∷ openShares (1 ∷ 2 ∷ 3 ∷ 4 ∷ 5 ∷ []) ∷ [];
