@@ -1,16 +1,15 @@
--- Demand 3 is met, for every prime above 16: geometry, reports and run put together.
---   demand3-for   the demand for any such prime
+-- Demand 3 is met, for every prime: geometry, reports and run put together.
+--   demand3-for   the demand for any prime
 --   demand3       the demand for the modulus
 use mathlib.Core.Path.{_≡_, refl, sym, ap, subst, _∙_}
 use mathlib.Core.Logic.{_≢_, _⊎_, inl, inr, ⊎-elim}
 use mathlib.Core.Bool.{true, false}
-use mathlib.Core.Option.{some}
+use mathlib.Core.Option.{none, some}
 use mathlib.Core.List.{List}
 use Prim.Native.Nat.{ℕ, _-_, _^_, _≤_, _<_}
 use native.Mathlib.Decide.{ℕ-discrete}
 use native.Mathlib.Omega.{arith}
 use lib.Count.{ones}
-use lib.Dec.{lit<}
 use lib.ListN.{length, getD, set, take, drop, length-set}
 use lib.Seq.{getD-set-same, getD-set-other}
 use Rattle.lists.specs.Tabulate.{pad}
@@ -24,31 +23,38 @@ use Rattle.bivariate.proofs.Terms.{row-at, at-secret}
 use Rattle.happy.specs.Happy.{happySet}
 use Rattle.parties.specs.Parties.{parties, member, entry}
 use Rattle.parties.proofs.Parties.{sizes-facts, party-facts, party-true, mem-parties}
-use Rattle.dealer.specs.Desk.{deal}
+use Rattle.dealer.specs.Desk as desks
 use Rattle.dealer.proofs.Desk.{take-deal, drop-deal, desk-written, desk-stretch}
 use Rattle.answers.specs.declared.Stage.the-variants.{Holding}
 use Rattle.answers.specs.declared.Answer.the-variants.{Accepted as Accepted-answer, Opened}
 use Rattle.lamp.specs.declared.Lamp.{Lamp}
 use Rattle.lamp.specs.declared.Reply.{Reply}
 use Rattle.answers.specs.Answers.{numberOf, valuesOf}
-use Rattle.recovery.specs.Recovery.{repair}
+use Rattle.recovery.specs.Recovery.{repair, openingWith}
 use Rattle.answers.specs.Fits.{constant}
-use Rattle.lamp.specs.Lamp.{Sized, Call, takeDeal, hearPairs, settle, openShares, reply, firsts, withDeal, withPairs, atEnd}
-use Rattle.lamp.specs.Lamp.{settled, opening, step}
-use Rattle.agreement.specs.Setting.{Setting, setting, Legal, width, point, valueOf, rowFor, columnFor, zeroRow, dealtRow, dealtColumn}
-use Rattle.agreement.specs.Setting.{madeFor, lampAt, replyAt}
-use Rattle.agreement.specs.Calls.{toReports, sinceSettling}
-use Rattle.agreement.specs.Demand3.{Execution, Honest, Premises, HonestDealer, Speaks, Stays, Rejects, Accepts, OnF, AllReject}
-use Rattle.agreement.specs.Demand3.{AllAccept, Conclusions, Demand3, shareOf}
+use Rattle.lamp.specs.Lamp.{tableOf, openShares, reply, firsts, withDeal, withPairs, atEnd, settled, opening, step}
+use Rattle.agreement.specs.Setting.{Setting, setting, withTable, Legal, width, point, valueOf, rowFor, columnFor, zeroRow}
+use Rattle.agreement.specs.Setting.{deskFor, dealtRow, dealtColumn, madeFor, lampAt}
+use Rattle.agreement.specs.Demand3.{Execution, Honest, Premises, OneTable, HonestDealer, own, shareOf, Speaks, Rejects, Accepts, OnF}
+use Rattle.agreement.specs.Demand3.{AllReject, AllAccept, Conclusions, Demand3}
 use Rattle.agreement.proofs.Counting.{passing, honest-parties}
 use Rattle.agreement.proofs.Geometry.{Inside, Lies, opens, repairs, lies, lies-once, column-constant, row-constant}
 use Rattle.agreement.proofs.Reports.{Heard, happy-right, happy-within, crossed, heard-first, honest-many}
 use Rattle.agreement.proofs.Steps.{shares-opened}
 use Rattle.agreement.proofs.Collapse as one
-use Rattle.agreement.proofs.Strays.{others}
-use Rattle.agreement.proofs.Outcomes.{settled-rejects, settled-happy, settled-repaired, heard-entry, heard-long, opened-some}
+use Rattle.agreement.proofs.Lamps as lamps
+use Rattle.agreement.proofs.Outcomes.{settled-happy, settled-repaired, heard-entry, heard-all, opened-some}
 
+-- There is an honest lamp.
 module _ (s : Setting) (legal : Legal s) (e : Execution) (pr : Premises s e) where
+  pub one-honest : (i : ℕ) × Honest s e i
+  one-honest =
+      let z = sizes-facts (s .n) (s .t) (legal .size) in
+      let w = passing (e .honest) (parties (s .n)) (omega (arith, honest-parties (e .honest) (s .n) (s .t) (pr .few))) in
+      let range = mem-parties (s .n) (w .0) .0 (w .1) in
+      (w .0, record { party = party-true (s .n) (w .0) (range .0) (range .1); good = w .2 })
+
+module _ (s : Setting) (legal : Legal s) (e : Execution) (pr : Premises s e) (tables : OneTable s e) where
   abbrev S : ℕ
   S = happySet (e .seen)
 
@@ -61,81 +67,33 @@ module _ (s : Setting) (legal : Legal s) (e : Execution) (pr : Premises s e) whe
   abbrev pairs : ℕ → List ℕ
   pairs i = e .run i .itsPairs
 
-  module _ (i : ℕ) (h : Honest s e i) where
-    -- ---- one honest lamp
-    sized : Sized (madeFor s i)
-    sized = record { size = legal .size; party = h .party }
+  -- An honest lamp has the setting of all, so what is shown in that holds in its own.
+  own-same : (i : ℕ) → Honest s e i → own s e i ≡ s
+  own-same i h = ap (withTable s) (tables .loaded i h)
 
-    speaks : Speaks s e i
-    speaks =
-        let b = pr .brings i h in
-        let cs = e .calls i in
-        let r = e .run i in
-        let taking = ap (λ l. step (s .p) l (takeDeal (r .itsDeal))) (one.to-deal s i sized cs r b) ∙ one.deal-taken s i sized cs r b in
-        let hearing =
-        ap (λ l. step (s .p) l (hearPairs (r .itsPairs))) (one.to-pairs s i sized cs r b) ∙ one.pairs-heard s i sized cs r b in
-        record {
-          takes = (ap (λ (z : Reply). numberOf (z .answer)) taking, ap (λ (z : Reply). valuesOf (z .answer)) taking);
-          says = λ xs j other at. let said = one.says-pair s i sized cs r b xs j other in (ap numberOf said, ap valuesOf said);
-          reports = (ap (λ (z : Reply). numberOf (z .answer)) hearing, ap (λ (z : Reply). valuesOf (z .answer)) hearing);
-          others = others s i sized cs r b;
-        }
+  in-own : (Q : Setting → Type 0) (i : ℕ) → Honest s e i → Q s → Q (own s e i)
+  in-own Q i h q = subst Q (sym (own-same i h)) q
 
-    abbrev reported : Lamp
-    reported = one.reported s i sized (e .calls i) (e .run i) (pr .brings i h)
+  -- One honest lamp after its pairs, and the table that it has.
+  abbrev reported : (i : ℕ) → Honest s e i → Lamp
+  reported i h = lamps.reported s legal e pr i h
 
-    -- Settling, once its outcome is known.
-    settling : (w : Reply) → settled (s .p) reported S ≡ w → replyAt s i (toReports (e .run i)) (settle (e .run i .itsReports)) ≡ w
-    settling w is =
-        ap (λ l. step (s .p) l (settle (e .run i .itsReports))) (one.to-reports s i sized (e .calls i) (e .run i) (pr .brings i h))
-        ∙ one.settling s i sized (e .calls i) (e .run i) (pr .brings i h)
-        ∙ ap (λ rs. settled (s .p) reported (happySet rs)) (pr .same i h)
-        ∙ is
-
-    ended : (w : Reply) → settled (s .p) reported S ≡ w → (xs : List Call) → lampAt s i (sinceSettling (e .run i) xs) ≡ w .lamp
-    ended w is xs =
-        one.since-settling s i sized (e .calls i) (e .run i) (pr .brings i h) xs
-        ∙ ap (λ rs. settled (s .p) reported (happySet rs) .lamp) (pr .same i h)
-        ∙ ap (λ (z : Reply). z .lamp) is
-
-    at-end : (w : Reply) → settled (s .p) reported S ≡ w → lampAt s i (e .calls i) ≡ w .lamp
-    at-end w is = ap (lampAt s i) (pr .brings i h .list) ∙ ended w is (e .run i .rest)
-
-    stays : (w : Reply) → settled (s .p) reported S ≡ w
-        → Stays s e i (w .lamp .sharing .stage) (w .lamp .sharing .happy) (w .lamp .sharing .share)
-    stays w is = record {
-      stages = λ xs _. ap (λ (l : Lamp). l .sharing .stage) (ended w is xs);
-      sets = λ xs _. ap (λ (l : Lamp). l .sharing .happy) (ended w is xs);
-      shares = λ xs _. ap (λ (l : Lamp). l .sharing .share) (ended w is xs);
-    }
-
-    -- ---- too few agree: the dealer is rejected
-    rejects : ones S < s .n - s .t → Rejects s e i
-    unfolding withPairs withDeal atEnd
-    rejects few =
-        let is = settled-rejects (s .p) reported S few in
-        record { answered = ap (λ (z : Reply). numberOf (z .answer)) (settling _ is); stays = stays _ is }
+  its-table : (i : ℕ) → Honest s e i → tableOf (madeFor s i .party) ≡ s .table
+  its-table i h = one.made-table s i (lamps.ready s legal e pr i h)
 
   -- ---- what the honest hold, hear and report
-  pub one-honest : (i : ℕ) × Honest s e i
-  one-honest =
-      let z = sizes-facts (s .n) (s .t) (legal .size) in
-      let w = passing (e .honest) (parties (s .n)) (omega (arith, honest-parties (e .honest) (s .n) (s .t) (pr .few))) in
-      let range = mem-parties (s .n) (w .0) .0 (w .1) in
-      (w .0, record { party = party-true (s .n) (w .0) (range .0) (range .1); good = w .2 })
-
   seen-long : length (e .seen) ≡ s .n
-  seen-long = let w = one-honest in ap length (sym (pr .same (w .0) (w .1))) ∙ pr .brings (w .0) (w .1) .reports-length
+  seen-long = let w = one-honest s legal e pr in ap length (sym (pr .same (w .0) (w .1))) ∙ pr .brings (w .0) (w .1) .reports-length
 
   heard : Heard s (e .honest) rows columns pairs (e .seen)
   heard = record {
     few = pr .few;
     row-sizes = λ i q g.
         let h : Honest s e i = record { party = q; good = g } in
-        one.row-length s i (sized i h) (e .calls i) (e .run i) (pr .brings i h);
+        one.row-length s i (lamps.ready s legal e pr i h) (e .calls i) (e .run i) (pr .brings i h);
     column-sizes = λ i q g.
         let h : Honest s e i = record { party = q; good = g } in
-        one.column-length s i (sized i h) (e .calls i) (e .run i) (pr .brings i h);
+        one.column-length s i (lamps.ready s legal e pr i h) (e .calls i) (e .run i) (pr .brings i h);
     long = seen-long;
     own = λ i q g.
         let h : Honest s e i = record { party = q; good = g } in
@@ -164,11 +122,13 @@ module _ (s : Setting) (legal : Legal s) (e : Execution) (pr : Premises s e) whe
 
       -- What an honest party outside the happy set heard lies on F's column.
       repair-found : (i : ℕ) → Honest s e i → member S i ≡ false
-          → repair (s .p) (s .n) (s .t) S (pad 16 (firsts (s .n) (pairs i))) ≡ some (columnFor s F i)
+          → repair (s .p) (s .n) (s .t) (tableOf (madeFor s i .party)) S (pad 16 (firsts (s .n) (pairs i))) ≡ some (columnFor s F i)
       repair-found i h out =
-          repairs s legal (e .honest) (pr .few) S within many (columnFor s F i) (pad 16 (firsts (s .n) (pairs i)))
-          (column-poly (s .p) (width s) (width s) F (point s i) (omega (arith, legal .above)) (on .poly .size))
-          (heard-long (s .n) (pairs i))
+          let few-parties = sizes-facts (s .n) (s .t) (legal .size) .3 in
+          ap (λ T. repair (s .p) (s .n) (s .t) T S (pad 16 (firsts (s .n) (pairs i)))) (its-table i h)
+          ∙ repairs s legal (e .honest) (pr .few) S within many (columnFor s F i) (pad 16 (firsts (s .n) (pairs i)))
+          (column-poly (s .p) (width s) (width s) F (point s i) (omega (arith, legal .prime .two)) (on .poly .size))
+          (omega (arith, heard-all (s .n) (pairs i) few-parties, few-parties))
           (λ j qj gj mj.
           let jn : In j = inside j (record { party = qj; good = gj }) mj in
           let apart : i ≢ j = λ q. not-both mj (ap (member S) (sym q) ∙ out) in
@@ -188,7 +148,8 @@ module _ (s : Setting) (legal : Legal s) (e : Execution) (pr : Premises s e) whe
           (λ (m : member S i ≡ true).
           settled-happy (s .p) (reported i h) S many m
           ∙ ap (λ f. held (constant f))
-          (one.dealt-column s i (sized i h) (e .calls i) (e .run i) (pr .brings i h) ∙ sym (on .on-columns i (inside i h m)))
+          (one.dealt-column s i (lamps.ready s legal e pr i h) (e .calls i) (e .run i) (pr .brings i h)
+          ∙ sym (on .on-columns i (inside i h m)))
           ∙ ap held constants)
           (λ (m : member S i ≡ false).
           settled-repaired (s .p) (reported i h) S many (columnFor s F i) m (repair-found i h m)
@@ -198,7 +159,9 @@ module _ (s : Setting) (legal : Legal s) (e : Execution) (pr : Premises s e) whe
       -- Every honest share is F's, to the end of the list.
       share-is : (j : ℕ) → Honest s e j → shareOf s e j ≡ share j
       unfolding atEnd
-      share-is j h = ap (λ (l : Lamp). l .sharing .share) (at-end j h _ (holds j h))
+      share-is j h =
+          ap (λ o. lampAt o j (e .calls j) .sharing .share) (own-same j h)
+          ∙ ap (λ (l : Lamp). l .sharing .share) (lamps.at-end s legal e pr j h _ (holds j h))
 
       -- An opening with the other honest shares in place.
       opening-is : (i : ℕ) (h : Honest s e i) (ys : List ℕ) → length ys ≡ s .n
@@ -206,8 +169,9 @@ module _ (s : Setting) (legal : Legal s) (e : Execution) (pr : Premises s e) whe
           → opening (s .p) (atEnd (reported i h) Holding S (share i)) ys ≡ some (zeroRow s F)
       unfolding opening atEnd withPairs withDeal share
       opening-is i h ys long places =
-          opens s legal (e .honest) (pr .few) (zeroRow s F) (set ys (i - 1) (share i))
-          (row-poly (s .p) (width s) (width s) F 0 (omega (arith, legal .above))) (length-set ys (i - 1) (share i) ∙ long)
+          ap (λ T. openingWith (s .p) (s .n) (s .t) T i (share i) ys) (its-table i h)
+          ∙ opens s legal (e .honest) (pr .few) (zeroRow s F) (set ys (i - 1) (share i))
+          (row-poly (s .p) (width s) (width s) F 0 (omega (arith, legal .prime .two))) (length-set ys (i - 1) (share i) ∙ long)
           (λ j qj gj. row-at (s .p) (width s) (width s) F (point s j) 0 ∙ sym (placed j (record { party = qj; good = gj })))
         where
           placed : (j : ℕ) → Honest s e j → entry (set ys (i - 1) (share i)) j ≡ share j
@@ -220,20 +184,20 @@ module _ (s : Setting) (legal : Legal s) (e : Execution) (pr : Premises s e) whe
                 | no d ↦ getD-set-other ys (i - 1) (j - 1) (share i) 0 (λ q. d (omega arith)) ∙ places j hj d ∙ share-is j hj
               ]
 
-      accepts : (i : ℕ) → Honest s e i → Accepts s e i F
+      accepts : (i : ℕ) → Honest s e i → Accepts s e s i F
       unfolding atEnd withPairs withDeal share
       accepts i h =
           let is = holds i h in
           let l : Lamp = atEnd (reported i h) Holding S (share i) in
           record {
             answered =
-                let known = settling i h _ is in
+                let known = lamps.settling s legal e pr i h _ is in
                 (ap (λ (z : Reply). numberOf (z .answer)) known, ap (λ (z : Reply). valuesOf (z .answer)) known);
-            stays = stays i h _ is;
+            stays = lamps.stays s legal e pr i h _ is;
             opens = λ xs ys at long places.
                 let answered =
-                ap (λ z. step (s .p) z (openShares ys)) (ended i h _ is xs)
-                ∙ shares-opened l (record { size = legal .size; party = h .party }) (s .p) ys long refl
+                ap (λ z. step (s .p) z (openShares ys)) (lamps.ended s legal e pr i h _ is xs)
+                ∙ shares-opened (s .p) l (one.made-valid s i (lamps.ready s legal e pr i h)) ys long refl
                 ∙ opened-some l (opening (s .p) l ys) (zeroRow s F) (opening-is i h ys long places)
                 ∙ ap (λ v. reply l (Opened v)) (row-constant s legal F (on .poly .size)) in
                 (ap (λ (z : Reply). numberOf (z .answer)) answered, ap (λ (z : Reply). valuesOf (z .answer)) answered);
@@ -251,7 +215,7 @@ module _ (s : Setting) (legal : Legal s) (e : Execution) (pr : Premises s e) whe
         set-right = happy-right s legal (e .honest) rows columns pairs (e .seen) heard;
         on = record { poly = on .poly; rows = λ i h m. on .on-rows i (inside i h m); columns = λ i h m. on .on-columns i (inside i h m) };
         only = λ G g. lies-once s legal (e .honest) (pr .few) S within many rows columns G F (to-lies G g) on;
-        hold = accepts;
+        hold = λ i h. in-own (λ o. Accepts s e o i F) i h (accepts i h);
       }
 
   -- ---- one verdict
@@ -262,21 +226,25 @@ module _ (s : Setting) (legal : Legal s) (e : Execution) (pr : Premises s e) whe
       let f = lies s legal (e .honest) (pr .few) S within many rows columns
       (crossed s legal (e .honest) rows columns pairs (e .seen) heard many) in
       inr (f .0, accepted many (f .0) (f .1)))
-      (λ few. inl (λ i h. rejects i h few))
+      (λ few. inl (λ i h. in-own (λ o. Rejects s e o i) i h (lamps.rejects s legal e pr i h few)))
       (le-or-lt (s .n - s .t) (ones S))
 
   -- ---- an honest dealer
   dealer : (F : List ℕ) → HonestDealer s e F → AllAccept s e F × (valueOf s F 0 0 ≡ getD F 0 0)
   dealer F hd =
-      let w = desk-written (s .p) (s .n) (s .t) F (hd .lent) (hd .written) in
-      let its : (i : ℕ) → Honest s e i → e .run i .itsDeal ≡ deal (s .p) (width s) F i =
+      let written : desks.dealingNumber (deskFor s F (hd .lent) .1) ≡ none =
+      subst (λ T. desks.dealingNumber (deskFor (withTable s T) F (hd .lent) .1) ≡ none) (hd .loaded) (hd .written) in
+      let w = desk-written (s .p) (s .n) (s .t) (s .table) F (hd .lent) written in
+      let its : (i : ℕ) → Honest s e i → e .run i .itsDeal ≡ desks.deal (s .p) (width s) (s .table) F i =
       λ i h.
       let range = party-facts (s .n) i (h .party) in
-      hd .deals i h ∙ desk-stretch (s .p) (s .n) (s .t) F (hd .lent) (hd .written) i (range .0) (range .1) in
+      hd .deals i h
+      ∙ ap (λ T. desks.stretch (width s) (deskFor (withTable s T) F (hd .lent) .0) i) (hd .loaded)
+      ∙ desk-stretch (s .p) (s .n) (s .t) (s .table) F (hd .lent) written i (range .0) (range .1) in
       let row-of : (i : ℕ) → Honest s e i → rowFor s F i ≡ rows i =
-      λ i h. sym (take-deal (s .p) (width s) F i) ∙ ap (take (width s)) (sym (its i h)) in
+      λ i h. sym (take-deal (s .p) (width s) (s .table) F i) ∙ ap (take (width s)) (sym (its i h)) in
       let column-of : (i : ℕ) → Honest s e i → columnFor s F i ≡ columns i =
-      λ i h. sym (drop-deal (s .p) (width s) F i) ∙ ap (drop (width s)) (sym (its i h)) in
+      λ i h. sym (drop-deal (s .p) (width s) (s .table) F i) ∙ ap (drop (width s)) (sym (its i h)) in
       let many = honest-many s legal (e .honest) rows columns pairs (e .seen) heard F (w .square)
       (λ i q g. row-of i (record { party = q; good = g })) (λ i q g. column-of i (record { party = q; good = g })) in (
         accepted many F (record {
@@ -284,17 +252,22 @@ module _ (s : Setting) (legal : Legal s) (e : Execution) (pr : Premises s e) whe
           on-rows = λ i m. row-of i (record { party = m .party; good = m .good });
           on-columns = λ i m. column-of i (record { party = m .party; good = m .good });
         }),
-        at-secret (s .p) (s .t) (s .t) F (omega (arith, legal .above)) (w .below),
+        at-secret (s .p) (s .t) (s .t) F (omega (arith, legal .prime .two)) (w .below),
       )
 
   conclusions : Conclusions s e
-  conclusions = record { speak = speaks; one-verdict = verdict; dealer = dealer }
+  conclusions = record {
+    speak = λ i h. in-own (λ o. Speaks s e o i) i h (lamps.speaks s legal e pr i h);
+    one-verdict = verdict;
+    dealer = dealer;
+  }
 
--- Demand 3, for every prime above 16.
-pub demand3-for : (p : ℕ) → Prime p → 16 < p → Demand3 p
+-- Demand 3, for every prime.
+pub demand3-for : (p : ℕ) → Prime p → Demand3 p
 unfolding Demand3
-demand3-for p prime above n t e pr = conclusions (setting p n t) (record { prime = prime; above = above; size = pr .size }) e pr
+demand3-for p prime n t T e pr tables =
+    conclusions (setting p n t T) (record { prime = prime; size = pr .size; points = tables .table }) e pr tables
 
 -- DEMAND 3.
 pub demand3 : Demand3 modulus
-demand3 = demand3-for modulus prime (lit< tt)
+demand3 = demand3-for modulus prime

@@ -1,4 +1,5 @@
 -- One lamp and the list that brings it its deal, its pairs and its reports: the lamp at each point of the list, and its replies.
+--   Ready s i         what is asked of lamp i: sizes, its number, and a table; made-table: then it has the setting's table
 --   dealt, reported   the lamp after its deal and after its pairs; since-settling: after its reports
 use mathlib.Core.Path.{_≡_, refl, sym, ap, ap₂, _∙_}
 use mathlib.Core.Bool.{true, false, _&&_, and-false, and-true}
@@ -10,21 +11,42 @@ use lib.ListN.{length, take, replicate, length-drop}
 use lib.Seq.{take-at, length-take-le}
 use borrow.Author.Tests.{eq-eqb}
 use Rattle.happy.specs.Happy.{happySet}
-use Rattle.parties.specs.Parties.{isParty, entry}
+use Rattle.parties.specs.Parties.{sizes, isParty, entry}
+use Rattle.parties.proofs.Parties.{sizes-facts}
+use Rattle.tables.specs.Tables.{Stations, isTable}
+use Rattle.tables.proofs.Tables.{table-true, kept-front}
 use Rattle.answers.specs.declared.Stage.the-variants.{Waiting}
 use Rattle.answers.specs.declared.Answer.the-variants.{Done, Pair, Report}
+use Rattle.lamp.specs.declared.Party.{Party}
 use Rattle.lamp.specs.declared.Lamp.{Lamp}
 use Rattle.lamp.specs.declared.Reply.{Reply}
 use Rattle.consistency.specs.Deal.{pairFor, reportOf}
-use Rattle.lamp.specs.Lamp.{Sized, reply, isAt, rowOfLamp, columnOfLamp, withDeal, saidPair, withPairs, reportFrom, settled, Call}
+use Rattle.lamp.specs.Lamp.{Valid, tableOf, reply, isAt, rowOfLamp, columnOfLamp, withDeal, saidPair, withPairs, reportFrom, settled, Call}
 use Rattle.lamp.specs.Lamp.{takeDeal, sayPair, hearPairs, settle, openShares, step, after}
 use Rattle.agreement.specs.Setting.{Setting, width, dealtRow, dealtColumn, pairBy, reportBy, madeFor, lampAt, answerAt}
 use Rattle.agreement.specs.Calls.{Run, toDeal, toPairs, toReports, sinceDeal, sinceSettling, Never, isDeal, isHearing, isSettling}
 use Rattle.agreement.specs.Demand3.{Brings}
 use Rattle.agreement.proofs.Steps.{awaited, takes, hears, settles, pair-said, all-quiet, after-append}
-use Rattle.agreement.proofs.Runs.{Kept, Late, kept-sized, after-kept, settled-kept, settled-late, late-awaits, never-all, never-map}
+use Rattle.agreement.proofs.Runs.{Kept, Late, kept-valid, after-kept, settled-kept, settled-late, late-awaits, never-all, never-map}
 
-module _ (s : Setting) (i : ℕ) (sized : Sized (madeFor s i)) (cs : List Call) (r : Run) (b : Brings s i cs r) where
+-- What is asked of the lamp: sizes, its number, and a table.
+pub record Ready (s : Setting) (i : ℕ) : Type 0 where
+  pub size : sizes (s .n) (s .t) ≡ true
+  pub party : isParty (s .n) i ≡ true
+  pub points : Stations (s .p) (s .n) (s .table)
+
+-- The lamp as made has the setting's table.
+pub made-table : (s : Setting) (i : ℕ) → Ready s i → tableOf (madeFor s i .party) ≡ s .table
+made-table s i ready = kept-front (s .n) (s .table) (sizes-facts (s .n) (s .t) (ready .size) .3) (ready .points .size)
+
+pub made-valid : (s : Setting) (i : ℕ) → Ready s i → Valid (s .p) (madeFor s i .party)
+made-valid s i ready = record {
+  size = ready .size;
+  party = ready .party;
+  table = ap (isTable (s .p) (s .n)) (made-table s i ready) ∙ table-true (s .p) (s .n) (s .table) (ready .points);
+}
+
+module _ (s : Setting) (i : ℕ) (ready : Ready s i) (cs : List Call) (r : Run) (b : Brings s i cs r) where
   abbrev d : List ℕ
   d = r .itsDeal
 
@@ -47,18 +69,18 @@ module _ (s : Setting) (i : ℕ) (sized : Sized (madeFor s i)) (cs : List Call) 
   start-never = never-map (isDeal s) (awaited start) start-awaits (toDeal r) (b .deal-first)
 
   pub to-deal : lampAt s i (toDeal r) ≡ start
-  to-deal = all-quiet start sized (s .p) (toDeal r) start-never
+  to-deal = all-quiet (s .p) start (made-valid s i ready) (toDeal r) start-never
 
   -- ---- from its deal until its pairs
   abbrev pub dealt : Lamp
   dealt = withDeal start d
 
   pub deal-taken : step (s .p) start (takeDeal d) ≡ reply dealt Done
-  deal-taken = takes start sized (s .p) d (ap (λ z. z && true) (eq-eqb (length d) (2 * width s) (b .deal-length)))
+  deal-taken = takes (s .p) start (made-valid s i ready) d (ap (λ z. z && true) (eq-eqb (length d) (2 * width s) (b .deal-length)))
 
-  pub dealt-sized : Sized dealt
+  pub dealt-valid : Valid (s .p) (dealt .party)
   unfolding withDeal
-  dealt-sized = record { size = sized .size; party = sized .party }
+  dealt-valid = made-valid s i ready
 
   dealt-started : isAt Waiting (dealt .sharing) ≡ false
   unfolding withDeal
@@ -88,20 +110,23 @@ module _ (s : Setting) (i : ℕ) (sized : Sized (madeFor s i)) (cs : List Call) 
   pub kept-pair : (l : Lamp) → Kept dealt l → (j : ℕ) → saidPair (s .p) l j ≡ pairBy s i d j
   unfolding saidPair withDeal
   kept-pair l k j =
-      let rows : rowOfLamp l ≡ dealtRow s d = ap₂ (λ a b. take (suc a) b) (k .same-t) (k .same-row) ∙ dealt-row in
-      let columns : columnOfLamp l ≡ dealtColumn s d = ap₂ (λ a b. take (suc a) b) (k .same-t) (k .same-column) ∙ dealt-column in
-      ap (λ z. pairFor (s .p) z (rowOfLamp l) (columnOfLamp l) j) (k .same-number)
-      ∙ ap₂ (λ a c. pairFor (s .p) i a c j) rows columns
+      let rows : rowOfLamp l ≡ dealtRow s d = ap₂ (λ (a : Party) b. take (suc (a .t)) b) (k .same-party) (k .same-row) ∙ dealt-row in
+      let columns : columnOfLamp l ≡ dealtColumn s d =
+      ap₂ (λ (a : Party) b. take (suc (a .t)) b) (k .same-party) (k .same-column) ∙ dealt-column in
+      ap (λ (a : Party). pairFor (s .p) (tableOf a) (a .number) (rowOfLamp l) (columnOfLamp l) j) (k .same-party)
+      ∙ ap (λ T. pairFor (s .p) T i (rowOfLamp l) (columnOfLamp l) j) (made-table s i ready)
+      ∙ ap₂ (λ a c. pairFor (s .p) (s .table) i a c j) rows columns
 
   pub says-pair : (xs : List Call) (j : ℕ) → isParty (s .n) j ≡ true
       → answerAt s i (sinceDeal r xs) (sayPair j) ≡ Pair (pairBy s i d j .0) (pairBy s i d j .1)
   unfolding withDeal
   says-pair xs j other =
       let l : Lamp = after (s .p) dealt xs in
-      let k : Kept dealt l = after-kept (s .p) dealt xs dealt-sized dealt-started in
+      let k : Kept dealt l = after-kept (s .p) dealt xs dealt-valid dealt-started in
       ap (λ z. step (s .p) z (sayPair j) .answer) (since-deal xs)
       ∙ ap (λ (q : Reply). q .answer)
-      (pair-said l (kept-sized dealt l k dealt-sized) (s .p) j (ap (λ z. isParty z j) (k .same-n) ∙ other) (k .started))
+      (pair-said (s .p) l (kept-valid (s .p) dealt l k dealt-valid) j
+      (ap (λ (a : Party). isParty (a .n) j) (k .same-party) ∙ other) (k .started))
       ∙ ap (λ (q : ℕ × ℕ). Pair (q .0) (q .1)) (kept-pair l k j)
 
   dealt-awaits : (c : Call) → isHearing s c ≡ false → awaited dealt c ≡ false
@@ -116,7 +141,7 @@ module _ (s : Setting) (i : ℕ) (sized : Sized (madeFor s i)) (cs : List Call) 
   dealt-never = never-map (isHearing s) (awaited dealt) dealt-awaits (r .beforePairs) (b .pairs-first)
 
   pub to-pairs : lampAt s i (toPairs r) ≡ dealt
-  to-pairs = since-deal (r .beforePairs) ∙ all-quiet dealt dealt-sized (s .p) (r .beforePairs) dealt-never
+  to-pairs = since-deal (r .beforePairs) ∙ all-quiet (s .p) dealt dealt-valid (r .beforePairs) dealt-never
 
   -- ---- from its pairs until its reports
   abbrev pub reported : Lamp
@@ -128,14 +153,16 @@ module _ (s : Setting) (i : ℕ) (sized : Sized (madeFor s i)) (cs : List Call) 
 
   pub report-is : reportFrom (s .p) dealt (r .itsPairs) ≡ its
   unfolding reportFrom withDeal
-  report-is = ap₂ (λ a c. reportOf (s .p) (s .n) i a c (r .itsPairs)) dealt-row dealt-column
+  report-is =
+      ap (λ T. reportOf (s .p) (s .n) T i (rowOfLamp dealt) (columnOfLamp dealt) (r .itsPairs)) (made-table s i ready)
+      ∙ ap₂ (λ a c. reportOf (s .p) (s .n) (s .table) i a c (r .itsPairs)) dealt-row dealt-column
 
   pub pairs-heard : step (s .p) dealt (hearPairs (r .itsPairs)) ≡ reply reported (Report its)
-  pairs-heard = hears dealt dealt-sized (s .p) (r .itsPairs) hears-awaited ∙ ap (λ z. reply reported (Report z)) report-is
+  pairs-heard = hears (s .p) dealt dealt-valid (r .itsPairs) hears-awaited ∙ ap (λ z. reply reported (Report z)) report-is
 
-  pub reported-sized : Sized reported
+  pub reported-valid : Valid (s .p) (reported .party)
   unfolding withPairs withDeal
-  reported-sized = record { size = sized .size; party = sized .party }
+  reported-valid = made-valid s i ready
 
   reported-awaits : (c : Call) → isSettling s i its c ≡ false → awaited reported c ≡ false
   unfolding withPairs withDeal
@@ -155,7 +182,7 @@ module _ (s : Setting) (i : ℕ) (sized : Sized (madeFor s i)) (cs : List Call) 
   reported-never = never-map (isSettling s i its) (awaited reported) reported-awaits (r .beforeReports) (b .reports-first)
 
   pub to-reports : lampAt s i (toReports r) ≡ reported
-  to-reports = since-pairs (r .beforeReports) ∙ all-quiet reported reported-sized (s .p) (r .beforeReports) reported-never
+  to-reports = since-pairs (r .beforeReports) ∙ all-quiet (s .p) reported reported-valid (r .beforeReports) reported-never
 
   -- ---- from its reports on
   abbrev pub outcome : Reply
@@ -168,10 +195,10 @@ module _ (s : Setting) (i : ℕ) (sized : Sized (madeFor s i)) (cs : List Call) 
       (eq-eqb (entry (r .itsReports) i) (reportFrom (s .p) dealt (r .itsPairs)) (b .reports-own ∙ sym report-is))
 
   pub settling : step (s .p) reported (settle (r .itsReports)) ≡ outcome
-  settling = settles reported reported-sized (s .p) (r .itsReports) settles-awaited
+  settling = settles (s .p) reported reported-valid (r .itsReports) settles-awaited
 
-  pub ended-sized : Sized (outcome .lamp)
-  ended-sized = kept-sized reported (outcome .lamp) (settled-kept (s .p) reported (happySet (r .itsReports))) reported-sized
+  pub ended-valid : Valid (s .p) (outcome .lamp .party)
+  ended-valid = kept-valid (s .p) reported (outcome .lamp) (settled-kept (s .p) reported (happySet (r .itsReports))) reported-valid
 
   ended-late : Late (outcome .lamp)
   ended-late = settled-late (s .p) reported (happySet (r .itsReports))
@@ -185,4 +212,4 @@ module _ (s : Setting) (i : ℕ) (sized : Sized (madeFor s i)) (cs : List Call) 
       after-append (s .p) start (toReports r) (settle (r .itsReports) ∷ xs)
       ∙ ap (λ l. after (s .p) l (settle (r .itsReports) ∷ xs)) to-reports
       ∙ ap (λ (q : Reply). after (s .p) (q .lamp) xs) settling
-      ∙ all-quiet (outcome .lamp) ended-sized (s .p) xs (ended-never xs)
+      ∙ all-quiet (s .p) (outcome .lamp) ended-valid xs (ended-never xs)

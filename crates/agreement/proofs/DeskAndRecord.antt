@@ -16,30 +16,33 @@ use Rattle.record.proofs.Answers.{number-short, number-size, number-directory, 
 use Rattle.writer.specs.Writer as writers
 use Rattle.dealer.specs.Desk as desks
 use Rattle.dealer.proofs.Desk.{length-deals}
-use Rattle.answers.specs.declared.Refusal.the-variants.{WrongSize, WrongLength, NotResidue}
+use Rattle.answers.specs.declared.Refusal.the-variants.{WrongSize, WrongLength, NotResidue, WrongTable}
 use Rattle.answers.specs.declared.Writing.the-variants.{Written}
 use Rattle.answers.specs.Answers.{writingNumber}
 use Rattle.agreement.specs.Setting.{Setting, width, deskFor}
 use Rattle.agreement.specs.Demand1.{Follows, deskRefusals, readerRefusals, Lengths, writerRefusals}
 use Rattle.agreement.proofs.Tables.{Tests, unless, row, none-some}
-use Rattle.agreement.proofs.Guards.{size-test, same-test, against, guarded}
+use Rattle.agreement.proofs.Guards.{size-test, same-test, table-test, against, guarded}
 
 -- ---- the desk
 pub deals : (s : Setting) (F out : List ℕ)
-    → Follows (deskRefusals s F out) (length (deskFor s F out .0) ≡ length out) (desks.dealingNumber (deskFor s F out .1)) (deskFor s F out .0)
-unfolding desks.desk
+    → Follows (deskRefusals s F out) (length (deskFor s F out .0) ≡ length out) (desks.dealingNumber (deskFor s F out .1))
+    (deskFor s F out .0)
+unfolding desks.deskWith
 deals s F out =
     guarded out (λ a. desks.dealingNumber (desks.dealtBy a new out .1)) (λ a. desks.dealtBy a new out .0)
     (λ a. length (desks.dealtBy a new out .0) ≡ length out) (record { numbered = λ why. refl; unchanged = λ why. refl }) []
     (against WrongSize (size-test (s .n) (s .t))
     ∷ against WrongLength (same-test (length F) (width s * width s))
     ∷ against WrongLength (same-test (length out) (s .n * (2 * width s)))
+    ∷ against WrongLength (same-test (length (s .table)) (s .n))
+    ∷ against WrongTable (table-test (s .p) (s .n) (s .table))
     ∷ against NotResidue (unless (residues (s .p) F) (residues-facts (s .p) F) (residues-true (s .p) F))
     ∷ [])
-    (λ (a, (square, (long, u))). (refl, length-deals (s .p) (width s) F (eqb-true _ _ square) (s .n) ∙ sym (eqb-true _ _ long)))
+    (λ (a, (square, (long, u))). (refl, length-deals (s .p) (width s) (s .table) F (eqb-true _ _ square) (s .n) ∙ sym (eqb-true _ _ long)))
   where
     new : List ℕ
-    new = desks.deals (s .p) (width s) F (s .n)
+    new = desks.deals (s .p) (width s) (s .table) F (s .n)
 
 -- ---- the reader
 pub reads : (bytes : List ℕ) → Follows (readerRefusals bytes)
@@ -101,7 +104,8 @@ pub writes : (n t : ℕ) (deals pairs reports shares out : List ℕ)
 unfolding writers.writing
 writes n t deals pairs reports shares out =
     guarded out (λ a. writingNumber (writers.writtenBy a new end out .1)) (λ a. writers.writtenBy a new end out .0)
-    (λ a. (writers.writtenBy a new end out .1 ≡ Written end) × (writers.writtenBy a new end out .0 ≡ new)) (record { numbered = λ why. refl; unchanged = λ why. refl }) []
+    (λ a. (writers.writtenBy a new end out .1 ≡ Written end) × (writers.writtenBy a new end out .0 ≡ new))
+    (record { numbered = λ why. refl; unchanged = λ why. refl }) []
     (against WrongSize (size-test n t) ∷ against WrongLength (lengths-test n t deals pairs reports shares out) ∷ [])
     (λ all. (refl, (refl, refl)))
   where

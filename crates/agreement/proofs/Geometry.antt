@@ -3,7 +3,7 @@
 --   Inside            a party that is honest and in S
 --   Crossed           what is supposed
 --   Lies F            every party inside has F's row and column
-use mathlib.Core.Path.{_≡_, refl, sym, ap, _∙_}
+use mathlib.Core.Path.{_≡_, refl, sym, ap, subst, _∙_}
 use mathlib.Core.Bool.{Bool, true, false, not, _&&_, and-eq-true-iff, false≢true}
 use mathlib.Core.Option.{some}
 use mathlib.Core.List.{List, [], _∷_, map, List·Memᴰ, List·Memᴰ·head, List·Memᴰ·tail}
@@ -32,21 +32,23 @@ use Rattle.lists.proofs.Sublists.{map-sublist}
 use Rattle.fit.proofs.Decoding.{points-sublist}
 use Rattle.fit.proofs.Rule.{sent-length}
 use Rattle.fit.proofs.Selection.{fit-marked, fit-hide, sent-marked}
-use Rattle.parties.specs.Parties.{isParty, parties, pointOf, member, entry, notSent}
-use Rattle.parties.proofs.Parties.{sizes-facts, party-facts, party-true, mem-parties, length-parties, length-points, getD-points}
-use Rattle.parties.proofs.Parties.{points-distinct, points-below, not-sent-above}
+use Rattle.parties.specs.Parties.{isParty, parties, member, entry, notSent}
+use Rattle.parties.proofs.Parties.{sizes-facts, party-facts, party-true, mem-parties, length-parties, not-sent-above}
+use Rattle.tables.specs.Tables.{pointAt}
+use Rattle.tables.proofs.Tables.{table-points, points-of, point-at}
 use Rattle.recovery.specs.Recovery.{repair}
+use Rattle.recovery.proofs.Deciding.{marks-ones}
 use Rattle.answers.specs.Fits.{constant}
-use Rattle.agreement.specs.Setting.{Setting, Legal, width, point, allPoints, valueOf, rowFor, columnFor, zeroRow}
-use Rattle.agreement.proofs.Counting.{marks-ones, honest-members, honest-parties, mem-keep, keep-mem}
+use Rattle.agreement.specs.Setting.{Setting, Legal, width, point, valueOf, rowFor, columnFor, zeroRow}
+use Rattle.agreement.proofs.Counting.{honest-members, honest-parties, mem-keep, keep-mem}
 
 -- Of two distinct points one is not a given party's.
-another : (xs : List ℕ) → 2 ≤ length xs → Distinct (map pointOf xs) → (i : ℕ) → (j : ℕ) × List·Memᴰ j xs × (i ≡ j → ⊥)
-another [] l d i = absurd (omega arith)
-another (a ∷ []) l d i = absurd (omega arith)
-another (a ∷ b ∷ xs) l d i =
+another : (T xs : List ℕ) → 2 ≤ length xs → Distinct (map (pointAt T) xs) → (i : ℕ) → (j : ℕ) × List·Memᴰ j xs × (i ≡ j → ⊥)
+another T [] l d i = absurd (omega arith)
+another T (a ∷ []) l d i = absurd (omega arith)
+another T (a ∷ b ∷ xs) l d i =
     elim (ℕ-discrete i a) [
-      | yes e ↦ (b, List·Memᴰ·tail (List·Memᴰ·head refl), λ q. d .0 .0 (ap pointOf (sym q ∙ e)))
+      | yes e ↦ (b, List·Memᴰ·tail (List·Memᴰ·head refl), λ q. d .0 .0 (ap (pointAt T) (sym q ∙ e)))
       | no e ↦ (a, List·Memᴰ·head refl, e)
     ]
 
@@ -72,13 +74,13 @@ module _ (s : Setting) (legal : Legal s) (F : List ℕ) (square : length F ≡ w
   pub column-constant : (i : ℕ) → constant (columnFor s F i) ≡ valueOf s F (point s i) 0
   column-constant i =
       constant-value (s .p) (s .t) (columnFor s F i)
-      (column-poly (s .p) (width s) (width s) F (point s i) (omega (arith, legal .above)) square)
+      (column-poly (s .p) (width s) (width s) F (point s i) (omega (arith, legal .prime .two)) square)
       ∙ column-at (s .p) (width s) (width s) F (point s i) 0 square
 
   pub row-constant : constant (zeroRow s F) ≡ valueOf s F 0 0
   row-constant =
       constant-value (s .p) (s .t) (zeroRow s F)
-      (row-poly (s .p) (width s) (width s) F 0 (omega (arith, legal .above)))
+      (row-poly (s .p) (width s) (width s) F 0 (omega (arith, legal .prime .two)))
       ∙ row-at (s .p) (width s) (width s) F 0 0
 
 -- ---- what is supposed, and what follows
@@ -102,33 +104,33 @@ module _ (s : Setting) (honest : ℕ → Bool) (S : ℕ) where
       pub on-columns : (i : ℕ) → Inside i → columnFor s F i ≡ columns i
 
 module _ (s : Setting) (legal : Legal s) where
-  pub points-fine : Points (s .p) (allPoints s)
-  points-fine = (points-below (s .p) (s .n) (sizes-facts (s .n) (s .t) (legal .size) .3) (legal .above), points-distinct (s .n))
+  pub points-fine : Points (s .p) (s .table)
+  points-fine = table-points (s .p) (s .n) (s .table) (legal .points)
 
   -- ---- decoding: whoever agrees with enough honest parties is found
   decoded : (test : ℕ → Bool) (need : ℕ) (ys f : List ℕ) → Poly (s .p) (width s) f → length ys ≡ s .n → need ≤ count test (parties (s .n))
       → sent (s .p) ys + s .t + 1 ≤ 2 * need
       → ((i : ℕ) → isParty (s .n) i ≡ true → test i ≡ true → value (s .p) f (point s i) ≡ entry ys i)
-      → fit (s .p) (s .t) need (allPoints s) ys ≡ some f
+      → fit (s .p) (s .t) need (s .table) ys ≡ some f
   decoded test need ys f hf l enough once agrees =
-      fit-marked (s .p) (legal .prime) (s .t) need f (map test (parties (s .n))) (allPoints s) ys points-fine once
-      (length-map (parties (s .n)) test ∙ sym (length-map (parties (s .n)) (point s))) (length-points (s .n) ∙ sym l)
+      fit-marked (s .p) (legal .prime) (s .t) need f (map test (parties (s .n))) (s .table) ys points-fine once
+      (length-map (parties (s .n)) test ∙ length-parties (s .n) ∙ sym (legal .points .size)) (legal .points .size ∙ sym l)
       (omega (arith, count-map (λ b. b) test (parties (s .n)))) hf
       (λ k e.
       let m = marks (s .n) test k e in
       at-place k (m .0) (agrees (suc k) (party-true (s .n) (suc k) (omega arith) (omega arith)) (m .1)))
     where
       at-place : (k : ℕ) → k < s .n → value (s .p) f (point s (suc k)) ≡ entry ys (suc k)
-          → value (s .p) f (getD (allPoints s) k 0) ≡ getD ys k 0
+          → value (s .p) f (getD (s .table) k 0) ≡ getD ys k 0
       at-place k h e =
           let place : suc k - 1 ≡ k = omega arith in
-          ap (value (s .p) f) (getD-points (s .n) k h) ∙ e ∙ ap (λ z. getD ys z 0) place
+          ap (value (s .p) f) (point-at (s .table) k) ∙ e ∙ ap (λ z. getD ys z 0) place
 
   module _ (honest : ℕ → Bool) (few : count (λ i. not (honest i)) (parties (s .n)) ≤ s .t) where
     -- ---- opening: n values, and those of the honest lie on f
     pub opens : (f ys : List ℕ) → Poly (s .p) (width s) f → length ys ≡ s .n
         → ((i : ℕ) → isParty (s .n) i ≡ true → honest i ≡ true → value (s .p) f (point s i) ≡ entry ys i)
-        → fit (s .p) (s .t) (s .n - s .t) (allPoints s) ys ≡ some f
+        → fit (s .p) (s .t) (s .n - s .t) (s .table) ys ≡ some f
     opens f ys hf l agrees =
         let z = sizes-facts (s .n) (s .t) (legal .size) in
         decoded honest (s .n - s .t) ys f hf l (honest-parties honest (s .n) (s .t) few) (omega (arith, sent-length (s .p) ys)) agrees
@@ -137,7 +139,7 @@ module _ (s : Setting) (legal : Legal s) where
       -- ---- repair: the values of S, and those of the honest lie on f
       pub repairs : (f heard : List ℕ) → Poly (s .p) (width s) f → s .n ≤ length heard
           → ((i : ℕ) → isParty (s .n) i ≡ true → honest i ≡ true → member S i ≡ true → value (s .p) f (point s i) ≡ entry heard i)
-          → repair (s .p) (s .n) (s .t) S heard ≡ some f
+          → repair (s .p) (s .n) (s .t) (s .table) S heard ≡ some f
       unfolding repair
       repairs f heard hf l agrees =
           let z = sizes-facts (s .n) (s .t) (legal .size) in
@@ -148,7 +150,7 @@ module _ (s : Setting) (legal : Legal s) where
           let unsent = not-sent-above (s .p) in
           let fewer : sent (s .p) (hide (notSent (s .p)) ms ys) ≤ ones S =
           omega (arith, sent-marked (s .p) (notSent (s .p)) unsent ms ys size-ms, marks-ones S (s .n) within) in
-          sym (fit-hide (s .p) (notSent (s .p)) unsent (omega (arith, legal .above)) ms (allPoints s) ys (s .t) (ones S - s .t))
+          sym (fit-hide (s .p) (notSent (s .p)) unsent (omega (arith, legal .prime .two)) ms (s .table) ys (s .t) (ones S - s .t))
           ∙ decoded (λ i. honest i && member S i) (ones S - s .t) (hide (notSent (s .p)) ms ys) f hf
           (length-hide (notSent (s .p)) ms ys size-ms ∙ size-ys)
           (honest-members honest S (s .n) (s .t) within few) (omega arith)
@@ -195,13 +197,14 @@ module _ (s : Setting) (legal : Legal s) where
       inside-points : Points (s .p) (map (point s) inside)
       unfolding inside
       inside-points =
-          points-sublist (s .p) (map-sublist (point s) (keep-sublist (λ i. honest i && member S i) (parties (s .n)))) points-fine
+          points-sublist (s .p) (map-sublist (point s) (keep-sublist (λ i. honest i && member S i) (parties (s .n))))
+          (subst (Points (s .p)) (sym (points-of (s .n) (s .table) (legal .points .size))) points-fine)
 
       -- Another party inside, beside any.
       pub neighbour : (i : ℕ) → (j : ℕ) × In j × (i ≡ j → ⊥)
       neighbour i =
           let z = sizes-facts (s .n) (s .t) (legal .size) in
-          let other = another inside (omega (arith, inside-many)) (inside-points .1) i in
+          let other = another (s .table) inside (omega (arith, inside-many)) (inside-points .1) i in
           (other .0, mem-inside (other .0) (other .1), other .2)
 
       module _ (rows columns : ℕ → List ℕ) where

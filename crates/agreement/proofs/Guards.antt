@@ -1,5 +1,5 @@
 -- The tests of a call, each with the refusal that it guards against, and a call behind any number of them.
---   size-test, party-test, same-test, stage-test, waiting-test   each test passes exactly where its refusal does not apply
+--   size-test, party-test, same-test, table-test, stage-test, waiting-test   each test passes exactly where its refusal does not apply
 --   guarded    a call behind tests follows their rows, and then its own table; replying: a lamp's call
 --   seven      a settling behind the look at the lamp's own report
 use mathlib.Core.Path.{_≡_, refl, sym, ap, _∙_}
@@ -13,6 +13,8 @@ use borrow.Author.Tests.{eqb-true, eq-eqb, le-leb, not-true, not-false}
 use Rattle.lists.proofs.Cases.{not-both}
 use Rattle.parties.specs.Parties.{sizes, isParty}
 use Rattle.parties.proofs.Parties.{sizes-facts, party-facts, party-true}
+use Rattle.tables.specs.Tables.{Stations, isTable}
+use Rattle.tables.proofs.Tables.{table-facts, table-true}
 use Rattle.answers.specs.declared.Stage.{Stage}
 use Rattle.answers.specs.declared.Stage.the-variants.{Waiting, Dealt, Reported, Holding, Closed}
 use Rattle.answers.specs.declared.Refusal.{Refusal}
@@ -43,6 +45,9 @@ party-test n i =
 
 pub same-test : (a b : ℕ) → Tests (eqb a b) (a ≡ b → ⊥)
 same-test a b = unless (eqb a b) (eqb-true a b) (eq-eqb a b)
+
+pub table-test : (p n : ℕ) (T : List ℕ) → Tests (isTable p n T) (Stations p n T → ⊥)
+table-test p n T = unless (isTable p n T) (table-facts p n T) (table-true p n T)
 
 -- The stage is told by its number.
 stageOf : ℕ → Stage

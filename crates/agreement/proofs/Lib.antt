@@ -7,7 +7,9 @@ pub mod Runs
 pub mod Collapse
 pub mod Strays
 pub mod Outcomes
+pub mod Lamps
 pub mod Agreement
+pub mod Plain
 pub mod Tables
 pub mod Settling
 pub mod Rightness

@@ -1,4 +1,4 @@
--- M1 to M12, the traps and the sayings hold of the definitions, all together, by computation.
+-- M1 to M12, the traps and the sayings hold of the definitions, all together, by computation; and so do the cases of station numbers.
 use mathlib.Core.Path.{_≡_, refl}
 use mathlib.Core.Bool.{true}
 use mathlib.Core.List.{_++_, zipWith}
@@ -12,16 +12,24 @@ use Rattle.mutual.specs.Agreement.{agree, agreements}
 use Rattle.happy.specs.Happy.{joins, better, best, largest, largestIn, happySet}
 use Rattle.trial.specs.Trial.{hits, pointsSent, through}
 use Rattle.fit.specs.Fit.{sent, fit}
-use Rattle.parties.specs.Parties.{sizes, isParty, pointOf, notSent}
-use Rattle.dealer.specs.Desk.{deal, deals, desk}
+use Rattle.parties.specs.Parties.{sizes, isParty, notSent}
+use Rattle.tables.specs.Tables.{pointAt, isTable}
+use Rattle.dealer.specs.Desk.{deal, deals, deskWith}
 use Rattle.consistency.specs.Deal.{sound, pairFor, confirms, reportOf}
 use Rattle.recovery.specs.Recovery.{repair}
-use Rattle.lamp.specs.Lamp.{make, withDeal, withPairs, saidPair, reportFrom, atEnd, settled, opening, step}
+use Rattle.lamp.specs.Lamp.{makeWith, withDeal, withPairs, saidPair, reportFrom, atEnd, settled, opening, step}
 use Rattle.agreement.specs.Marked.{holds, allHold, table, traps, sayings}
+use Rattle.agreement.specs.Harbour as stations
+
+computed : (allHold modulus (table ++ traps ++ sayings) ≡ true) × (stations.allHold modulus (stations.harbour ++ stations.refused) ≡ true)
+unfolding
+    holds stations.holds step makeWith settled repair opening atEnd withDeal withPairs saidPair pairFor reportFrom reportOf confirms mask
+    sound sizes isParty isTable pointAt notSent deskWith deals deal fit pointsSent hits sent through interpolate zipWith
+    happySet largestIn largest best better joins agreements agree tabulate add sub mul inv invWithin ones
+computed = (refl, refl)
 
 pub marked-hold : allHold modulus (table ++ traps ++ sayings) ≡ true
-unfolding
-    holds step make settled repair opening atEnd withDeal withPairs saidPair pairFor reportFrom reportOf confirms mask sound
-    sizes isParty pointOf notSent desk deals deal fit pointsSent hits sent through interpolate zipWith
-    happySet largestIn largest best better joins agreements agree tabulate add sub mul inv invWithin ones
-marked-hold = refl
+marked-hold = computed .0
+
+pub harbour-hold : stations.allHold modulus (stations.harbour ++ stations.refused) ≡ true
+harbour-hold = computed .1

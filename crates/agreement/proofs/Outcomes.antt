@@ -6,7 +6,7 @@ use mathlib.Core.List.{List}
 use Prim.Native.Nat.{ℕ, suc, _-_, _≤_, _<_}
 use native.Mathlib.Omega.{arith}
 use lib.Count.{ones}
-use lib.ListN.{length, replicate, length-append, List·getD-append}
+use lib.ListN.{length, replicate, length-append, length-replicate, List·getD-append}
 use borrow.Author.Tests.{le-leb, lt-leb}
 use Rattle.lists.specs.Tabulate.{pad}
 use Rattle.lists.proofs.Tabulate.{length-tabulate, getD-tabulate}
@@ -19,7 +19,7 @@ use Rattle.lamp.specs.declared.Lamp.{Lamp}
 use Rattle.consistency.specs.Deal.{firstFrom}
 use Rattle.recovery.specs.Recovery.{repair}
 use Rattle.answers.specs.Fits.{constant}
-use Rattle.lamp.specs.Lamp.{reply, columnOfLamp, firsts, atEnd, repaired, settled, opened}
+use Rattle.lamp.specs.Lamp.{tableOf, reply, columnOfLamp, firsts, atEnd, repaired, settled, opened}
 
 module _ (p : ℕ) (l : Lamp) (S : ℕ) where
   pub settled-rejects : ones S < l .party .n - l .party .t → settled p l S ≡ reply (atEnd l Closed 0 0) (Refused DealerRejected)
@@ -32,12 +32,12 @@ module _ (p : ℕ) (l : Lamp) (S : ℕ) where
     settled-happy e = rw (le-leb (l .party .n - l .party .t) (ones S) many, e)
 
     pub settled-mended : member S (l .party .number) ≡ false
-        → settled p l S ≡ repaired l S (repair p (l .party .n) (l .party .t) S (l .sharing .heard))
+        → settled p l S ≡ repaired l S (repair p (l .party .n) (l .party .t) (tableOf (l .party)) S (l .sharing .heard))
     unfolding settled
     settled-mended e = rw (le-leb (l .party .n - l .party .t) (ones S) many, e)
 
     pub settled-repaired : (f : List ℕ) → member S (l .party .number) ≡ false
-        → repair p (l .party .n) (l .party .t) S (l .sharing .heard) ≡ some f
+        → repair p (l .party .n) (l .party .t) (tableOf (l .party)) S (l .sharing .heard) ≡ some f
         → settled p l S ≡ reply (atEnd l Holding S (constant f)) Accepted
     settled-repaired f e found = settled-mended e ∙ ap (repaired l S) found
 
@@ -51,9 +51,11 @@ heard-entry n hs j party =
     ∙ getD-tabulate (λ k. firstFrom hs (suc k)) n (j - 1) 0 (omega arith)
     ∙ ap (firstFrom hs) place
 
-pub heard-long : (n : ℕ) (hs : List ℕ) → n ≤ length (pad 16 (firsts n hs))
-heard-long n hs =
-    omega (arith, length-append (firsts n hs) (replicate (16 - length (firsts n hs)) 0), length-tabulate (λ k. firstFrom hs (suc k)) n)
+pub heard-all : (n : ℕ) (hs : List ℕ) → n ≤ 16 → length (pad 16 (firsts n hs)) ≡ 16
+heard-all n hs few =
+    let long : length (firsts n hs) ≡ n = length-tabulate (λ k. firstFrom hs (suc k)) n in
+    length-append (firsts n hs) (replicate (16 - length (firsts n hs)) 0)
+    ∙ omega (arith, long, length-replicate {A = ℕ} (16 - length (firsts n hs)) 0)
 
 pub opened-some : (l : Lamp) (o : Option (List ℕ)) (f : List ℕ) → o ≡ some f → opened l o ≡ reply l (Opened (constant f))
 opened-some l o f e = rw e

@@ -42,11 +42,12 @@ pub record Heard (s : Setting) (honest : ℕ → Bool) (rows columns pairs : ℕ
   pub row-sizes : (i : ℕ) → isParty (s .n) i ≡ true → honest i ≡ true → length (rows i) ≡ width s
   pub column-sizes : (i : ℕ) → isParty (s .n) i ≡ true → honest i ≡ true → length (columns i) ≡ width s
   pub long : length rs ≡ s .n
-  pub own : (i : ℕ) → isParty (s .n) i ≡ true → honest i ≡ true → entry rs i ≡ reportOf (s .p) (s .n) i (rows i) (columns i) (pairs i)
+  pub own : (i : ℕ) → isParty (s .n) i ≡ true → honest i ≡ true
+      → entry rs i ≡ reportOf (s .p) (s .n) (s .table) i (rows i) (columns i) (pairs i)
   pub firsts : (i j : ℕ) → isParty (s .n) i ≡ true → honest i ≡ true → isParty (s .n) j ≡ true → honest j ≡ true → i ≢ j
-      → firstFrom (pairs i) j ≡ pairFor (s .p) j (rows j) (columns j) i .0
+      → firstFrom (pairs i) j ≡ pairFor (s .p) (s .table) j (rows j) (columns j) i .0
   pub seconds : (i j : ℕ) → isParty (s .n) i ≡ true → honest i ≡ true → isParty (s .n) j ≡ true → honest j ≡ true → i ≢ j
-      → secondFrom (pairs i) j ≡ pairFor (s .p) j (rows j) (columns j) i .1
+      → secondFrom (pairs i) j ≡ pairFor (s .p) (s .table) j (rows j) (columns j) i .1
 
 module _ (s : Setting) (legal : Legal s) (honest : ℕ → Bool) (rows columns pairs : ℕ → List ℕ) (rs : List ℕ)
     (h : Heard s honest rows columns pairs rs) where
@@ -61,16 +62,18 @@ module _ (s : Setting) (legal : Legal s) (honest : ℕ → Bool) (rows columns p
 
   -- ---- an honest party's one for j
   one-for : (i j : ℕ) → isParty (s .n) i ≡ true → honest i ≡ true → isParty (s .n) j ≡ true → bit (getD rs (i - 1) 0) (j - 1) ≡ true
-      → Confirmed (s .p) i (rows i) (columns i) (pairs i) j
+      → Confirmed (s .p) (s .table) i (rows i) (columns i) (pairs i) j
   one-for i j party good other e =
-      confirmed (s .p) i (rows i) (columns i) (pairs i) j
-      (sym (report-bit (s .p) i (rows i) (columns i) (pairs i) j (s .n) other) ∙ sym (ap (λ m. bit m (j - 1)) (h .own i party good)) ∙ e)
+      confirmed (s .p) (s .table) i (rows i) (columns i) (pairs i) j
+      (sym (report-bit (s .p) (s .table) i (rows i) (columns i) (pairs i) j (s .n) other)
+      ∙ sym (ap (λ m. bit m (j - 1)) (h .own i party good))
+      ∙ e)
 
   module _ (many : s .n - s .t ≤ ones (happySet rs)) where
     abbrev In : ℕ → Type 0
     In = Inside s honest (happySet rs)
 
-    happy-ones : (i j : ℕ) → In i → In j → i ≢ j → Confirmed (s .p) i (rows i) (columns i) (pairs i) j
+    happy-ones : (i j : ℕ) → In i → In j → i ≢ j → Confirmed (s .p) (s .table) i (rows i) (columns i) (pairs i) j
     happy-ones i j a b d =
         let fi = party-facts (s .n) i (a .party) in
         let fj = party-facts (s .n) j (b .party) in
@@ -79,7 +82,7 @@ module _ (s : Setting) (legal : Legal s) (honest : ℕ → Bool) (rows columns p
         (agree-iff rs (i - 1) (j - 1) .0 (happy-right .clique (i - 1) (j - 1) (a .happy) (b .happy) apart) .forth)
 
     -- Everyone inside has a sound deal, since it has a one for a neighbour inside.
-    pub soundly : (i : ℕ) → In i → sound (s .p) i (rows i) (columns i) ≡ true
+    pub soundly : (i : ℕ) → In i → sound (s .p) (s .table) i (rows i) (columns i) ≡ true
     soundly i a =
         let q = neighbour s legal honest (h .few) (happySet rs) happy-within many i in happy-ones i (q .0) a (q .1) (q .2) .soundly
 
@@ -88,7 +91,7 @@ module _ (s : Setting) (legal : Legal s) (honest : ℕ → Bool) (rows columns p
         → firstFrom (pairs i) j ≡ value (s .p) (rows j) (point s i)
     heard-first i j party good b d =
         h .firsts i j party good (b .party) (b .good) d
-        ∙ pair-first (s .p) j (rows j) (columns j) i (λ q. d (sym q)) (soundly j b)
+        ∙ pair-first (s .p) (s .table) j (rows j) (columns j) i (λ q. d (sym q)) (soundly j b)
 
     pub crossed : Crossed s honest (happySet rs) rows columns
     crossed = record {
@@ -100,8 +103,8 @@ module _ (s : Setting) (legal : Legal s) (honest : ℕ → Bool) (rows columns p
       ];
     }
       where
-        facts : (i : ℕ) → In i → Sound (s .p) i (rows i) (columns i)
-        facts i a = sound-facts (s .p) i (rows i) (columns i) (soundly i a)
+        facts : (i : ℕ) → In i → Sound (s .p) (s .table) i (rows i) (columns i)
+        facts i a = sound-facts (s .p) (s .table) i (rows i) (columns i) (soundly i a)
 
   -- ---- an honest dealer: every honest party has F's row and column
   module _ (F : List ℕ) (square : length F ≡ width s * width s)
@@ -116,14 +119,14 @@ module _ (s : Setting) (legal : Legal s) (honest : ℕ → Bool) (rows columns p
         ∙ crossing (s .p) (width s) (width s) F (point s j) (point s i) square
         ∙ ap (λ f. value (s .p) f (point s i)) (its-column j (b .0) (b .1))
 
-    dealt-sound : (i : ℕ) → Good i → sound (s .p) i (rows i) (columns i) ≡ true
-    dealt-sound i a = sound-true (s .p) i (rows i) (columns i) (record {
+    dealt-sound : (i : ℕ) → Good i → sound (s .p) (s .table) i (rows i) (columns i) ≡ true
+    dealt-sound i a = sound-true (s .p) (s .table) i (rows i) (columns i) (record {
       row-below =
           subst (Poly (s .p) (width s)) (its-row i (a .0) (a .1))
-          (row-poly (s .p) (width s) (width s) F (point s i) (omega (arith, legal .above))) .residues;
+          (row-poly (s .p) (width s) (width s) F (point s i) (omega (arith, legal .prime .two))) .residues;
       column-below =
           subst (Poly (s .p) (width s)) (its-column i (a .0) (a .1))
-          (column-poly (s .p) (width s) (width s) F (point s i) (omega (arith, legal .above)) square) .residues;
+          (column-poly (s .p) (width s) (width s) F (point s i) (omega (arith, legal .prime .two)) square) .residues;
       crossing = cross i i a a;
     })
 
@@ -131,17 +134,17 @@ module _ (s : Setting) (legal : Legal s) (honest : ℕ → Bool) (rows columns p
     honest-one : (i j : ℕ) → Good i → Good j → i ≢ j → bit (entry rs i) (j - 1) ≡ true
     honest-one i j a b d =
         ap (λ m. bit m (j - 1)) (h .own i (a .0) (a .1))
-        ∙ report-bit (s .p) i (rows i) (columns i) (pairs i) j (s .n) (b .0)
-        ∙ confirms-true (s .p) i (rows i) (columns i) (pairs i) j (record {
+        ∙ report-bit (s .p) (s .table) i (rows i) (columns i) (pairs i) j (s .n) (b .0)
+        ∙ confirms-true (s .p) (s .table) i (rows i) (columns i) (pairs i) j (record {
           other = d;
           soundly = dealt-sound i a;
           first =
               h .firsts i j (a .0) (a .1) (b .0) (b .1) d
-              ∙ pair-first (s .p) j (rows j) (columns j) i (λ q. d (sym q)) (dealt-sound j b)
+              ∙ pair-first (s .p) (s .table) j (rows j) (columns j) i (λ q. d (sym q)) (dealt-sound j b)
               ∙ cross j i b a;
           second =
               h .seconds i j (a .0) (a .1) (b .0) (b .1) d
-              ∙ pair-second (s .p) j (rows j) (columns j) i (λ q. d (sym q)) (dealt-sound j b)
+              ∙ pair-second (s .p) (s .table) j (rows j) (columns j) i (λ q. d (sym q)) (dealt-sound j b)
               ∙ sym (cross i j a b);
         })
 

@@ -1,15 +1,15 @@
--- Demand 2 is met, for every prime above 16.
---   demand2-for   the demand for any such prime
+-- Demand 2 is met, for every prime.
+--   demand2-for   the demand for any prime
 --   demand2       the demand for the modulus
 use mathlib.Core.Path.{_≡_, refl, sym, ap, ap₂, subst, _∙_}
 use mathlib.Core.Logic.{_↔_, ⊎-elim}
 use mathlib.Core.Bool.{Bool, _&&_}
 use mathlib.Core.Option.{Option, none, some}
 use mathlib.Core.List.{List}
-use Prim.Native.Nat.{ℕ, suc, _+_, _*_, _-_, _≤_, _<_}
+use Prim.Native.Nat.{ℕ, suc, _+_, _*_, _-_, _≤_}
 use native.Mathlib.Omega.{arith}
 use lib.Count.{ones}
-use lib.Dec.{eqb, lit<}
+use lib.Dec.{eqb}
 use lib.ListN.{length, set, replicate, length-set, length-drop}
 use lib.Seq.{length-take-le, take-at}
 use borrow.Author.Tests.{eq-eqb}
@@ -26,27 +26,28 @@ use Rattle.happy.specs.Happy.{happySet}
 use Rattle.happy.proofs.Happy.{happy-only}
 use Rattle.fit.specs.Fit.{fit}
 use Rattle.fit.proofs.Rule.{near-found, near-only, near-none}
-use Rattle.parties.specs.Parties.{points, member, entry}
-use Rattle.parties.proofs.Parties.{sizes-facts, party-facts, length-points}
+use Rattle.parties.specs.Parties.{member, entry}
+use Rattle.parties.proofs.Parties.{sizes-facts, party-facts}
+use Rattle.tables.specs.Tables.{Stations}
+use Rattle.tables.proofs.Tables.{table-facts, table-points}
 use Rattle.dealer.specs.Desk.{deal}
 use Rattle.dealer.proofs.Desk.{length-deals, desk-written, desk-list, desk-stretch}
 use Rattle.lamp.specs.declared.Lamp.{Lamp}
 use Rattle.lamp.specs.declared.Reply.{Reply}
 use Rattle.answers.specs.Answers.{numberOf, valuesOf, stageNumber}
 use Rattle.consistency.specs.Deal.{rowOf, columnOf}
-use Rattle.lamp.specs.Lamp.{withDeal, withPairs, reportFrom, rowOfLamp, columnOfLamp, opening, opened, openShares, step}
-use Rattle.agreement.specs.Setting.{Setting, setting, Legal, width, point}
+use Rattle.lamp.specs.Lamp.{tableOf, withDeal, withPairs, reportFrom, rowOfLamp, columnOfLamp, opening, opened, openShares, step}
+use Rattle.agreement.specs.Setting.{Setting, setting, width}
 use Rattle.agreement.specs.Demand2.{Takes, Hears, TakesRight, HearsRight, FewAgree, FitsShares, Settles, Opens}
 use Rattle.agreement.specs.Demand2.{KeepsRight, RepairsRight, OpensRight, DealsRight, Demand2}
 use Rattle.agreement.specs.Demand3.{Refuses}
-use Rattle.agreement.proofs.Geometry.{points-fine}
 use Rattle.agreement.proofs.Tables.{none-some}
 use Rattle.agreement.proofs.Steps.{takes, hears, shares-opened}
 use Rattle.agreement.proofs.Outcomes.{heard-entry, opened-some}
 use Rattle.agreement.proofs.Settling.{small, largest, rejects-right, keeps-right, repairs-right}
 
 -- ---- opening
-module _ (p : ℕ) (P : Prime p) (big : 16 < p) (l : Lamp) (shares : List ℕ) (h : Opens l shares) where
+module _ (p : ℕ) (P : Prime p) (l : Lamp) (shares : List ℕ) (h : Opens p l shares) where
   abbrev n : ℕ
   n = l .party .n
 
@@ -56,14 +57,14 @@ module _ (p : ℕ) (P : Prime p) (big : 16 < p) (l : Lamp) (shares : List ℕ) (
   abbrev i : ℕ
   i = l .party .number
 
-  legal : Legal (setting p n t)
-  legal = record { prime = P; above = big; size = h .sized .size }
+  abbrev T : List ℕ
+  T = tableOf (l .party)
 
   abbrev own : List ℕ
   own = set shares (i - 1) (l .sharing .share)
 
   pub goes-open : step p l (openShares shares) ≡ opened l (opening p l shares)
-  goes-open = shares-opened l (h .sized) p shares (h .long) (ap (λ s. eqb (stageNumber s) 3) (h .stage))
+  goes-open = shares-opened p l (h .valid) shares (h .long) (ap (λ s. eqb (stageNumber s) 3) (h .stage))
 
   pub opens-right : OpensRight p l shares
   unfolding opening
@@ -72,28 +73,31 @@ module _ (p : ℕ) (P : Prime p) (big : 16 < p) (l : Lamp) (shares : List ℕ) (
       λ e. iff .0 (again ∙ ten e),
       λ e. ap (λ (z : Reply). numberOf (z .answer)) (goes-open ∙ ap (opened l) (sym again ∙ iff .1 e)),
     );
-    only = near-only p P t (points n) own fine sizes-own enough;
+    only = near-only p P t T own fine sizes-own enough;
     fits = λ f near.
-        let found = sym again ∙ near-found p P t (points n) own fine sizes-own enough f near in
+        let found = sym again ∙ near-found p P t T own fine sizes-own enough f near in
         let is = goes-open ∙ opened-some l (opening p l shares) f found in
         (ap (λ (z : Reply). numberOf (z .answer)) is, ap (λ (z : Reply). valuesOf (z .answer)) is);
     unchanged = ap (λ (z : Reply). z .lamp) goes-open ∙ same (opening p l shares);
   }
     where
-      fine : Points p (points n)
-      fine = points-fine (setting p n t) legal
+      table : Stations p n T
+      table = table-facts p n T (h .valid .table)
 
-      sizes-own : length (points n) ≡ length own
-      sizes-own = length-points n ∙ sym (length-set shares (i - 1) (l .sharing .share) ∙ h .long)
+      fine : Points p T
+      fine = table-points p n T table
 
-      enough : 3 * t + 1 ≤ length (points n)
-      enough = let s = sizes-facts n t (h .sized .size) in omega (arith, length-points n)
+      sizes-own : length T ≡ length own
+      sizes-own = table .size ∙ sym (length-set shares (i - 1) (l .sharing .share) ∙ h .long)
 
-      again : fit p t (length (points n) - t) (points n) own ≡ opening p l shares
-      again = ap (λ m. fit p t (m - t) (points n) own) (length-points n)
+      enough : 3 * t + 1 ≤ length T
+      enough = let s = sizes-facts n t (h .valid .size) in omega (arith, table .size)
 
-      iff : (fit p t (length (points n) - t) (points n) own ≡ none) ↔ ((f : List ℕ) → FitsShares p l shares f → ⊥)
-      iff = near-none p P t (points n) own fine sizes-own enough
+      again : fit p t (length T - t) T own ≡ opening p l shares
+      again = ap (λ m. fit p t (m - t) T own) (table .size)
+
+      iff : (fit p t (length T - t) T own ≡ none) ↔ ((f : List ℕ) → FitsShares p l shares f → ⊥)
+      iff = near-none p P t T own fine sizes-own enough
 
       same : (o : Option (List ℕ)) → opened l o .lamp ≡ l
       same none = refl
@@ -113,20 +117,20 @@ unfolding deal
 deals-right s F out = record {
   stretches = λ w i q.
       let range = party-facts (s .n) i q in
-      desk-stretch (s .p) (s .n) (s .t) F out w i (range .0) (range .1);
+      desk-stretch (s .p) (s .n) (s .t) (s .table) F out w i (range .0) (range .1);
   all-written = λ w.
-      ap length (desk-list (s .p) (s .n) (s .t) F out w)
-      ∙ length-deals (s .p) (width s) F (desk-written (s .p) (s .n) (s .t) F out w .square) (s .n);
+      ap length (desk-list (s .p) (s .n) (s .t) (s .table) F out w)
+      ∙ length-deals (s .p) (width s) (s .table) F (desk-written (s .p) (s .n) (s .t) (s .table) F out w .square) (s .n);
   row-right = λ y x. row-at (s .p) (width s) (width s) F x y;
   column-right = λ e x y. column-at (s .p) (width s) (width s) F x y e;
 }
 
 -- ---- taking a deal and hearing pairs
-takes-right : (p : ℕ) (l : Lamp) (d : List ℕ) → Takes l d → TakesRight p l d
+takes-right : (p : ℕ) (l : Lamp) (d : List ℕ) → Takes p l d → TakesRight p l d
 unfolding withDeal
 takes-right p l d h =
     let is =
-    takes l (h .sized) p d
+    takes p l (h .valid) d
     (ap₂ (λ (a b : Bool). a && b) (eq-eqb (length d) (2 * suc (l .party .t)) (h .long)) (ap (λ s. eqb (stageNumber s) 0) (h .stage))) in
     let row-size : length (rowOf (l .party .t) d) ≡ suc (l .party .t) = length-take-le (suc (l .party .t)) d (omega (arith, h .long)) in
     let column-size : length (columnOf (l .party .t) d) ≡ suc (l .party .t) = length-drop (suc (l .party .t)) d ∙ omega (arith, h .long) in
@@ -140,11 +144,11 @@ takes-right p l d h =
           ∙ take-at (columnOf (l .party .t) d) (replicate (4 - length (columnOf (l .party .t) d)) 0) (suc (l .party .t)) column-size;
     }
 
-hears-right : (p : ℕ) (l : Lamp) (hs : List ℕ) → Hears l hs → HearsRight p l hs
+hears-right : (p : ℕ) (l : Lamp) (hs : List ℕ) → Hears p l hs → HearsRight p l hs
 unfolding withPairs reportFrom
 hears-right p l hs h =
     let is =
-    hears l (h .sized) p hs
+    hears p l (h .valid) hs
     (ap₂ (λ (a b : Bool). a && b) (eq-eqb (length hs) (2 * l .party .n) (h .long)) (ap (λ s. eqb (stageNumber s) 1) (h .stage))) in
     record {
       answered = (ap (λ (z : Reply). numberOf (z .answer)) is, ap (λ (z : Reply). valuesOf (z .answer)) is);
@@ -153,32 +157,32 @@ hears-right p l hs h =
       column-kept = ap (λ (z : Reply). columnOfLamp (z .lamp)) is;
     }
 
--- Demand 2, for every prime above 16.
-pub demand2-for : (p : ℕ) → Prime p → 16 < p → Demand2 p
-demand2-for p P big = record {
+-- Demand 2, for every prime.
+pub demand2-for : (p : ℕ) → Prime p → Demand2 p
+demand2-for p P = record {
   taking = takes-right p;
   hearing = hears-right p;
-  rejecting = rejects-right p P big;
-  keeping = λ l rs h some-agree. (happySet rs, keeps-right p P big l rs h (many l rs h some-agree));
+  rejecting = rejects-right p P;
+  keeping = λ l rs h some-agree. (happySet rs, keeps-right p P l rs h (many l rs h some-agree));
   repairing = λ l rs S h k out.
       let same : S ≡ happySet rs = once l rs S h k in
       subst (RepairsRight p l rs) (sym same)
-      (repairs-right p P big l rs h (subst (λ z. l .party .n - l .party .t ≤ ones z) same (k .enough))
+      (repairs-right p P l rs h (subst (λ z. l .party .n - l .party .t ≤ ones z) same (k .enough))
       (ap (λ z. member z (l .party .number)) (sym same) ∙ out));
-  opening = opens-right p P big;
-  dealing = λ n t. deals-right (setting p n t);
+  opening = opens-right p P;
+  dealing = λ n t T. deals-right (setting p n t T);
 }
   where
-    many : (l : Lamp) (rs : List ℕ) (h : Settles l rs) → (FewAgree (l .party .n) (l .party .t) rs → ⊥)
+    many : (l : Lamp) (rs : List ℕ) (h : Settles p l rs) → (FewAgree (l .party .n) (l .party .t) rs → ⊥)
         → l .party .n - l .party .t ≤ ones (happySet rs)
     many l rs h some-agree =
         ⊎-elim (λ q. q)
-        (λ few. absurd (some-agree (λ s w c. omega (arith, largest p P big l rs h .most s w c, ones-members (l .party .n) s w))))
+        (λ few. absurd (some-agree (λ s w c. omega (arith, largest p P l rs h .most s w c, ones-members (l .party .n) s w))))
         (le-or-lt (l .party .n - l .party .t) (ones (happySet rs)))
 
-    once : (l : Lamp) (rs : List ℕ) (S : ℕ) (h : Settles l rs) → KeepsRight p l rs S → S ≡ happySet rs
-    once l rs S h k = happy-only rs (small p P big l rs h) S (subst (λ z. Largest (agree rs) z S) (sym (h .long)) (k .largest))
+    once : (l : Lamp) (rs : List ℕ) (S : ℕ) (h : Settles p l rs) → KeepsRight p l rs S → S ≡ happySet rs
+    once l rs S h k = happy-only rs (small p P l rs h) S (subst (λ z. Largest (agree rs) z S) (sym (h .long)) (k .largest))
 
 -- DEMAND 2.
 pub demand2 : Demand2 modulus
-demand2 = demand2-for modulus prime (lit< tt)
+demand2 = demand2-for modulus prime

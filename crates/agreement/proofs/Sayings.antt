@@ -19,26 +19,29 @@ use Rattle.answers.specs.declared.Answer.the-variants.{Pair}
 use Rattle.answers.specs.declared.Answer.{Answer}
 use Rattle.answers.specs.Answers.{valuesOf}
 use Rattle.lamp.specs.declared.Lamp.{Lamp}
-use Rattle.lamp.specs.Lamp.{rowOfLamp, columnOfLamp, saidPair, reportFrom}
+use Rattle.lamp.specs.Lamp.{tableOf, rowOfLamp, columnOfLamp, saidPair, reportFrom}
 use Rattle.agreement.specs.Demand1.{Among, IsSound, SaysNothing, Says, Reports}
 use Rattle.agreement.proofs.Deals.{sound-facts, sound-true, confirmed, confirms-true, report-bit}
 
 -- ---- a lamp's deal is sound
 module _ (p : ℕ) (l : Lamp) where
   abbrev isSound : Bool
-  isSound = sound p (l .party .number) (rowOfLamp l) (columnOfLamp l)
+  isSound = sound p (tableOf (l .party)) (l .party .number) (rowOfLamp l) (columnOfLamp l)
 
   soundly : isSound ≡ true → IsSound p l
-  soundly = sound-facts p (l .party .number) (rowOfLamp l) (columnOfLamp l)
+  soundly = sound-facts p (tableOf (l .party)) (l .party .number) (rowOfLamp l) (columnOfLamp l)
 
   sounds : IsSound p l → isSound ≡ true
-  sounds = sound-true p (l .party .number) (rowOfLamp l) (columnOfLamp l)
+  sounds = sound-true p (tableOf (l .party)) (l .party .number) (rowOfLamp l) (columnOfLamp l)
 
   unsound : (IsSound p l → ⊥) → isSound ≡ false
   unsound d = ⊎-elim (λ e. absurd (d (soundly e))) (λ e. e) (true-or-false isSound)
 
 -- ---- what a saying answers
 module _ (p : ℕ) (l : Lamp) (j : ℕ) where
+  abbrev T : List ℕ
+  T = tableOf (l .party)
+
   abbrev said : ℕ × ℕ
   said = saidPair p l j
 
@@ -49,13 +52,14 @@ module _ (p : ℕ) (l : Lamp) (j : ℕ) where
   pub says : Says p l j (Pair (said .0) (said .1))
   unfolding saidPair
   says = record {
-    itself = λ e. nothing (pair-self p (l .party .number) (rowOfLamp l) (columnOfLamp l) j e);
+    itself = λ e. nothing (pair-self p T (l .party .number) (rowOfLamp l) (columnOfLamp l) j e);
     unsound = λ d. elim (ℕ-discrete (l .party .number) j) [
-      | yes e ↦ nothing (pair-self p (l .party .number) (rowOfLamp l) (columnOfLamp l) j e)
-      | no away ↦ nothing (pair-unsound p (l .party .number) (rowOfLamp l) (columnOfLamp l) j away (unsound p l d))
+      | yes e ↦ nothing (pair-self p T (l .party .number) (rowOfLamp l) (columnOfLamp l) j e)
+      | no away ↦ nothing (pair-unsound p T (l .party .number) (rowOfLamp l) (columnOfLamp l) j away (unsound p l d))
     ];
     sound = λ away s.
-        (refl, ap (λ q. q .0 ∷ q .1 ∷ []) (sym (pair-sound p (l .party .number) (rowOfLamp l) (columnOfLamp l) j away (sounds p l s))));
+        let is = pair-sound p T (l .party .number) (rowOfLamp l) (columnOfLamp l) j away (sounds p l s) in
+        (refl, ap (λ q. q .0 ∷ q .1 ∷ []) (sym is));
   }
 
 -- Whatever says so says the same values.
@@ -76,13 +80,13 @@ says-once p small l j a b f g =
 pub reports : (p : ℕ) (l : Lamp) (hs : List ℕ) → Reports p l hs (reportFrom p l hs)
 unfolding reportFrom reportOf
 reports p l hs = record {
-  within = mask-lt (λ k. confirms p i (rowOfLamp l) (columnOfLamp l) hs (suc k)) (l .party .n);
+  within = mask-lt (λ k. confirms p T i (rowOfLamp l) (columnOfLamp l) hs (suc k)) (l .party .n);
   bits = λ j a. (
     λ e.
-        let c = confirmed p i (rowOfLamp l) (columnOfLamp l) hs j (sym (bit-of j a) ∙ e) in
+        let c = confirmed p T i (rowOfLamp l) (columnOfLamp l) hs j (sym (bit-of j a) ∙ e) in
         record { other = c .other; soundly = soundly p l (c .soundly); first-right = c .first; second-right = c .second },
     λ c.
-        bit-of j a ∙ confirms-true p i (rowOfLamp l) (columnOfLamp l) hs j (record {
+        bit-of j a ∙ confirms-true p T i (rowOfLamp l) (columnOfLamp l) hs j (record {
           other = c .other;
           soundly = sounds p l (c .soundly);
           first = c .first-right;
@@ -94,6 +98,9 @@ reports p l hs = record {
     i : ℕ
     i = l .party .number
 
+    T : List ℕ
+    T = tableOf (l .party)
+
     bit-of : (j : ℕ) → Among (l .party .n) j
-        → member (reportOf p (l .party .n) i (rowOfLamp l) (columnOfLamp l) hs) j ≡ confirms p i (rowOfLamp l) (columnOfLamp l) hs j
-    bit-of j a = report-bit p i (rowOfLamp l) (columnOfLamp l) hs j (l .party .n) (party-true (l .party .n) j (a .from-one) (a .to-n))
+        → member (reportOf p (l .party .n) T i (rowOfLamp l) (columnOfLamp l) hs) j ≡ confirms p T i (rowOfLamp l) (columnOfLamp l) hs j
+    bit-of j a = report-bit p T i (rowOfLamp l) (columnOfLamp l) hs j (l .party .n) (party-true (l .party .n) j (a .from-one) (a .to-n))

@@ -1,4 +1,5 @@
 -- Sentences of the protocol about the lamp, each a short theorem: at every state and every list of calls, unless said otherwise.
+--   same-party          no call changes the lamp's sizes, number and table, nor how many places it has for what it hears
 --   until-it-settles    "Until it settles its share is 0 and its happy set empty."
 --   after-three-calls   "A lamp given these messages in turn is holding or closed after three accepted calls, a settling that gives 8 or 9
 --                       counted among them."
@@ -7,41 +8,39 @@
 -- "The number is the only result; lists and lamp are unchanged, but 8 and 9 close the lamp" is demand 1.
 use mathlib.Core.Path.{_≡_, refl, sym, ap, ap₂, subst, _∙_}
 use mathlib.Core.Logic.{_⊎_, inl, inr}
-use mathlib.Core.Bool.{Bool, true, false, cond, not, _&&_}
+use mathlib.Core.Bool.{Bool, true, _&&_}
 use mathlib.Core.Option.{Option, none, some}
 use mathlib.Core.List.{List, [], _∷_, _++_, append-assoc, head-eq-of-cons-eq, tail-eq-of-cons-eq}
-use Prim.Native.Nat.{ℕ, suc, _*_, _-_, _≤_}
+use Prim.Native.Nat.{ℕ, _*_, _≤_}
 use native.Mathlib.Omega.{arith}
-use lib.Count.{ones}
-use lib.Dec.{eqb, leb}
+use lib.Dec.{eqb}
 use lib.ListN.{length, drop}
 use lib.Seq.{drop-append-seam}
 use borrow.Author.Tests.{eq-eqb, eqb-true}
 use Rattle.lists.proofs.Cases.{not-both}
 use Rattle.happy.specs.Happy.{happySet}
-use Rattle.parties.specs.Parties.{sizes, isParty, member, entry}
+use Rattle.parties.specs.Parties.{entry}
 use Rattle.answers.specs.declared.Stage.{Stage}
-use Rattle.answers.specs.declared.Stage.the-variants.{Waiting, Dealt, Reported, Holding, Closed}
-use Rattle.answers.specs.declared.Refusal.{Refusal}
-use Rattle.answers.specs.declared.Refusal.the-variants.{WrongSize, WrongNumber, WrongLength, WrongStage, AlteredReport}
-use Rattle.answers.specs.declared.Answer.the-variants.{Done, Pair, Report}
+use Rattle.answers.specs.declared.Stage.the-variants.{Holding, Closed}
+use Rattle.answers.specs.declared.Refusal.the-variants.{AlteredReport}
+use Rattle.answers.specs.declared.Answer.the-variants.{Report}
 use Rattle.answers.specs.declared.Admission.{Admission}
 use Rattle.answers.specs.declared.Admission.the-variants.{Pass, Fail}
+use Rattle.lamp.specs.declared.Party.{Party}
 use Rattle.lamp.specs.declared.Lamp.{Lamp}
 use Rattle.lamp.specs.declared.Reply.{Reply}
 use Rattle.answers.specs.Refusals.{lowest}
 use Rattle.answers.specs.Answers.{stageNumber}
-use Rattle.recovery.specs.Recovery.{repair}
-use Rattle.answers.specs.Fits.{constant}
-use Rattle.lamp.specs.Lamp.{Sized, reply, refuse, guard, isAt, withDeal, saidPair, withPairs, reportFrom, atEnd}
-use Rattle.lamp.specs.Lamp.{columnOfLamp, repaired, settled, opening, opened, Call, takeDeal, sayPair, hearPairs, settle, openShares, step}
+use Rattle.lamp.specs.Lamp.{reply, refuse, guard, withDeal, withPairs, reportFrom, atEnd}
+use Rattle.lamp.specs.Lamp.{settled, opening, opened, Call, takeDeal, sayPair, hearPairs, settle, openShares, step}
 use Rattle.lamp.specs.Lamp.{tests, outcome, after}
-use Rattle.lamp.proofs.Checks.{passed}
+use Rattle.lamp.proofs.Checks.{Passed, passed, valid-facts}
 use Rattle.agreement.specs.Setting.{Setting, width, reportBy, madeFor, lampAt}
 use Rattle.agreement.specs.Calls.{Run, whole, Never, isDeal, isHearing, isSettling}
 use Rattle.agreement.specs.Demand3.{Brings}
-use Rattle.agreement.proofs.Runs.{by-cond}
+use Rattle.agreement.proofs.Runs.{by-cond, settled-ends}
 use Rattle.agreement.proofs.Strays.{cuts, never-at}
+use Rattle.agreement.proofs.Outcomes.{heard-all}
 use Rattle.agreement.proofs.Collapse as one
 
 -- ---- what a call can make of a lamp
@@ -54,20 +53,41 @@ opened-makes Q l none h = h
 opened-makes Q l (some f) h = h
 
 module _ (p : ℕ) (Q : Lamp → Type 0) (l : Lamp) where
-  pub step-makes : Q l → (isAt Waiting (l .sharing) ≡ true → (d : List ℕ) → Q (withDeal l d))
-      → (isAt Dealt (l .sharing) ≡ true → (hs : List ℕ) → Q (withPairs p l hs))
+  pub step-makes : Q l → ((d : List ℕ) → Passed p l (takeDeal d) → Q (withDeal l d))
+      → ((hs : List ℕ) → Passed p l (hearPairs hs) → Q (withPairs p l hs))
       → ((S : ℕ) → Q (settled p l S .lamp)) → (c : Call) → Q (step p l c .lamp)
   unfolding step
-  step-makes same dealt heard ended c = guard-makes Q l (lowest (tests l c)) (outcome p l c) same (makes c)
+  step-makes same dealt heard ended c = guard-makes Q l (lowest (tests p l c)) (outcome p l c) same (makes c)
     where
-      makes : (c : Call) → lowest (tests l c) ≡ Pass → Q (outcome p l c .lamp)
-      makes (takeDeal d) e = dealt (passed l (takeDeal d) e .2) d
+      makes : (c : Call) → lowest (tests p l c) ≡ Pass → Q (outcome p l c .lamp)
+      makes (takeDeal d) e = dealt d (passed p l (takeDeal d) e)
       makes (sayPair j) e = same
-      makes (hearPairs hs) e = heard (passed l (hearPairs hs) e .2) hs
+      makes (hearPairs hs) e = heard hs (passed p l (hearPairs hs) e)
       makes (settle rs) e =
           by-cond (λ (r : Reply). Q (r .lamp)) (eqb (entry rs (l .party .number)) (l .sharing .report))
           (settled p l (happySet rs)) (refuse l AlteredReport) (ended (happySet rs)) same
       makes (openShares xs) e = opened-makes Q l (opening p l xs) same
+
+-- What every call keeps, every list of calls keeps.
+pub after-makes : (p : ℕ) (Q : Lamp → Type 0) → ((l : Lamp) → Q l → (c : Call) → Q (step p l c .lamp))
+    → (l : Lamp) → Q l → (cs : List Call) → Q (after p l cs)
+after-makes p Q keeps l h [] = h
+after-makes p Q keeps l h (c ∷ cs) = after-makes p Q keeps (step p l c .lamp) (keeps l h c) cs
+
+-- ---- the party is the same for ever
+-- The party a, and sixteen places for what is heard.
+abbrev Same : Party → Lamp → Type 0
+Same a l = (l .party ≡ a) × (length (l .sharing .heard) ≡ 16)
+
+step-same : (p : ℕ) (a : Party) (l : Lamp) → Same a l → (c : Call) → Same a (step p l c .lamp)
+unfolding withDeal withPairs atEnd
+step-same p a l h =
+    step-makes p (Same a) l h (λ d w. h) (λ hs w. (h .0, heard-all (l .party .n) hs (valid-facts p (l .party) (w .0) .room)))
+    (settled-ends p l (Same a) (λ S v. h) (λ S v. h))
+
+pub same-party : (p : ℕ) (l : Lamp) → length (l .sharing .heard) ≡ 16 → (cs : List Call)
+    → (after p l cs .party ≡ l .party) × (length (after p l cs .sharing .heard) ≡ 16)
+same-party p l long = after-makes p (Same (l .party)) (step-same p (l .party)) l (refl, long)
 
 -- ---- until it settles
 abbrev Unsettled : Lamp → Type 0
@@ -77,61 +97,34 @@ end-settled : (l : Lamp) (s : Stage) (S v : ℕ) → 3 ≤ stageNumber s → Uns
 unfolding atEnd
 end-settled l s S v h k = absurd (omega arith)
 
-repaired-settled : (l : Lamp) (S : ℕ) (o : Option (List ℕ)) → Unsettled (repaired l S o .lamp)
-repaired-settled l S none = end-settled l Closed S 0 (omega arith)
-repaired-settled l S (some f) = end-settled l Holding S (constant f) (omega arith)
-
-settled-settled : (p : ℕ) (l : Lamp) (S : ℕ) → Unsettled (settled p l S .lamp)
-unfolding settled
-settled-settled p l S =
-    by-cond (λ (r : Reply). Unsettled (r .lamp)) (leb (l .party .n - l .party .t) (ones S)) _ _
-    (by-cond (λ (r : Reply). Unsettled (r .lamp)) (member S (l .party .number)) _ _
-    (end-settled l Holding S (constant (columnOfLamp l)) (omega arith))
-    (repaired-settled l S (repair p (l .party .n) (l .party .t) S (l .sharing .heard))))
-    (end-settled l Closed 0 0 (omega arith))
-
-step-unsettled : (p : ℕ) (l : Lamp) (c : Call) → Unsettled l → Unsettled (step p l c .lamp)
+step-unsettled : (p : ℕ) (l : Lamp) → Unsettled l → (c : Call) → Unsettled (step p l c .lamp)
 unfolding withDeal withPairs
-step-unsettled p l c h =
+step-unsettled p l h c =
     step-makes p Unsettled l h
-    (λ w d k. h (omega (arith, eqb-true (stageNumber (l .sharing .stage)) 0 w)))
-    (λ w hs k. h (omega (arith, eqb-true (stageNumber (l .sharing .stage)) 1 w)))
-    (settled-settled p l) c
-
-after-unsettled : (p : ℕ) (l : Lamp) (cs : List Call) → Unsettled l → Unsettled (after p l cs)
-after-unsettled p l [] h = h
-after-unsettled p l (c ∷ cs) h = after-unsettled p (step p l c .lamp) cs (step-unsettled p l c h)
+    (λ d w k. h (omega (arith, eqb-true (stageNumber (l .sharing .stage)) 0 (w .2))))
+    (λ hs w k. h (omega (arith, eqb-true (stageNumber (l .sharing .stage)) 1 (w .2))))
+    (settled-ends p l Unsettled (λ S v. end-settled l Holding S v (omega arith)) (λ S v. end-settled l Closed S v (omega arith))) c
 
 pub until-it-settles : (s : Setting) (i : ℕ) (cs : List Call) → stageNumber (lampAt s i cs .sharing .stage) ≤ 2
     → (lampAt s i cs .sharing .share ≡ 0) × (lampAt s i cs .sharing .happy ≡ 0)
-until-it-settles s i cs = after-unsettled (s .p) (madeFor s i) cs (λ k. (refl, refl))
+until-it-settles s i = after-makes (s .p) Unsettled (step-unsettled (s .p)) (madeFor s i) (λ k. (refl, refl))
 
 -- ---- holding or closed after three accepted calls
 end-last : (p : ℕ) (l : Lamp) (S : ℕ) → (settled p l S .lamp .sharing .stage ≡ Holding) ⊎ (settled p l S .lamp .sharing .stage ≡ Closed)
-unfolding settled atEnd
-end-last p l S =
-    by-cond (λ (r : Reply). (r .lamp .sharing .stage ≡ Holding) ⊎ (r .lamp .sharing .stage ≡ Closed))
-    (leb (l .party .n - l .party .t) (ones S)) _ _
-    (by-cond (λ (r : Reply). (r .lamp .sharing .stage ≡ Holding) ⊎ (r .lamp .sharing .stage ≡ Closed)) (member S (l .party .number)) _ _
-    (inl refl)
-    (mended (repair p (l .party .n) (l .party .t) S (l .sharing .heard))))
-    (inr refl)
-  where
-    mended : (o : Option (List ℕ)) → (repaired l S o .lamp .sharing .stage ≡ Holding) ⊎ (repaired l S o .lamp .sharing .stage ≡ Closed)
-    mended none = inr refl
-    mended (some f) = inl refl
+unfolding atEnd
+end-last p l =
+    settled-ends p l (λ (m : Lamp). (m .sharing .stage ≡ Holding) ⊎ (m .sharing .stage ≡ Closed)) (λ S v. inl refl) (λ S v. inr refl)
 
 -- A deal, then pairs, then reports, each of the right length, the lamp's own report in its place.
 abbrev inTurn : List ℕ → List ℕ → List ℕ → Run
 inTurn d hs rs = record { beforeDeal = []; itsDeal = d; beforePairs = []; itsPairs = hs; beforeReports = []; itsReports = rs; rest = [] }
 
-pub after-three-calls : (s : Setting) (i : ℕ) (d hs rs : List ℕ) → sizes (s .n) (s .t) ≡ true → isParty (s .n) i ≡ true
+pub after-three-calls : (s : Setting) (i : ℕ) (d hs rs : List ℕ) → one.Ready s i
     → length d ≡ 2 * width s → length hs ≡ 2 * s .n → length rs ≡ s .n → entry rs i ≡ reportBy s i d hs
     → (lampAt s i (takeDeal d ∷ hearPairs hs ∷ settle rs ∷ []) .sharing .stage ≡ Holding)
     ⊎ (lampAt s i (takeDeal d ∷ hearPairs hs ∷ settle rs ∷ []) .sharing .stage ≡ Closed)
-after-three-calls s i d hs rs size party ld lh lr own =
+after-three-calls s i d hs rs ready ld lh lr own =
     let r : Run = inTurn d hs rs in
-    let sized : Sized (madeFor s i) = record { size = size; party = party } in
     let b : Brings s i (whole r) r = record {
       list = refl;
       deal-length = ld;
@@ -143,14 +136,14 @@ after-three-calls s i d hs rs size party ld lh lr own =
       reports-first = tt;
     } in
     subst (λ (l : Lamp). (l .sharing .stage ≡ Holding) ⊎ (l .sharing .stage ≡ Closed))
-    (sym (one.since-settling s i sized (whole r) r b []))
-    (end-last (s .p) (one.reported s i sized (whole r) r b) (happySet rs))
+    (sym (one.since-settling s i ready (whole r) r b []))
+    (end-last (s .p) (one.reported s i ready (whole r) r b) (happySet rs))
 
 -- ---- the report that is given out is kept
 pub report-kept : (p : ℕ) (l : Lamp) (hs : List ℕ) (r : ℕ) → step p l (hearPairs hs) .answer ≡ Report r
     → step p l (hearPairs hs) .lamp .sharing .report ≡ r
 unfolding step withPairs
-report-kept p l hs r e = by (lowest (tests l (hearPairs hs))) e
+report-kept p l hs r e = by (lowest (tests p l (hearPairs hs))) e
   where
     heard : Reply
     heard = reply (withPairs p l hs) (Report (reportFrom p l hs))

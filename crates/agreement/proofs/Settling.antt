@@ -7,7 +7,7 @@ use mathlib.Core.Logic.{_↔_, ⊎-elim}
 use mathlib.Core.Bool.{Bool, true, false, _&&_}
 use mathlib.Core.Option.{Option, none, some}
 use mathlib.Core.List.{List}
-use Prim.Native.Nat.{ℕ, _+_, _*_, _-_, _≤_, _<_}
+use Prim.Native.Nat.{ℕ, _+_, _*_, _-_, _≤_}
 use native.Mathlib.Omega.{arith}
 use lib.Count.{ones}
 use lib.Dec.{eqb}
@@ -20,7 +20,6 @@ use Rattle.lists.proofs.Masks.{ones-members}
 use Rattle.lists.proofs.Tabulate.{length-tabulate}
 use Rattle.lists.proofs.Cases.{true-or-false, le-or-lt}
 use Rattle.field.specs.Arithmetic.{Prime}
-use Rattle.field.proofs.Primes.{prime}
 use Rattle.polynomial.specs.Polynomial.{Points}
 use Rattle.mutual.specs.Agreement.{agree}
 use Rattle.happy.specs.Clique.{Largest}
@@ -30,8 +29,10 @@ use Rattle.fit.specs.Fit.{fit}
 use Rattle.fit.proofs.Selection.{points-select}
 use Rattle.lists.proofs.Selections.{length-select}
 use Rattle.fit.proofs.Rule.{near-found, near-only, near-none}
-use Rattle.parties.specs.Parties.{points, member, entry}
-use Rattle.parties.proofs.Parties.{sizes-facts, length-points}
+use Rattle.parties.specs.Parties.{member, entry}
+use Rattle.parties.proofs.Parties.{sizes-facts}
+use Rattle.tables.specs.Tables.{Stations}
+use Rattle.tables.proofs.Tables.{table-facts, table-points}
 use Rattle.answers.specs.declared.Stage.the-variants.{Holding, Closed}
 use Rattle.answers.specs.declared.Refusal.the-variants.{NoColumn}
 use Rattle.answers.specs.declared.Answer.the-variants.{Accepted, Refused}
@@ -39,14 +40,12 @@ use Rattle.lamp.specs.declared.Lamp.{Lamp}
 use Rattle.lamp.specs.declared.Reply.{Reply}
 use Rattle.answers.specs.Answers.{numberOf, valuesOf, stageNumber}
 use Rattle.recovery.specs.Recovery.{repair}
+use Rattle.recovery.proofs.Deciding.{marks-ones}
 use Rattle.answers.specs.Fits.{constant}
-use Rattle.lamp.specs.Lamp.{reply, columnOfLamp, atEnd, repaired, settled, settle, step}
-use Rattle.agreement.specs.Setting.{setting, Legal}
+use Rattle.lamp.specs.Lamp.{tableOf, reply, columnOfLamp, atEnd, repaired, settled, settle, step}
 use Rattle.agreement.specs.Demand2.{FewAgree, pointsIn, heardIn, FitsHeard, EndsHolding, Settles}
 use Rattle.agreement.specs.Demand2.{KeepsRight, RepairsRight}
 use Rattle.agreement.specs.Demand3.{Refuses}
-use Rattle.agreement.proofs.Counting.{marks-ones}
-use Rattle.agreement.proofs.Geometry.{points-fine}
 use Rattle.agreement.proofs.Tables.{none-some, one-number}
 use Rattle.agreement.proofs.Steps.{settles}
 use Rattle.agreement.proofs.Outcomes.{settled-rejects, settled-happy, settled-mended, settled-repaired}
@@ -59,7 +58,7 @@ holds-end l S v r e = record {
   left = ap (λ (z : Reply). z .lamp) e;
 }
 
-module _ (p : ℕ) (P : Prime p) (big : 16 < p) (l : Lamp) (rs : List ℕ) (h : Settles l rs) where
+module _ (p : ℕ) (P : Prime p) (l : Lamp) (rs : List ℕ) (h : Settles p l rs) where
   abbrev n : ℕ
   n = l .party .n
 
@@ -69,21 +68,24 @@ module _ (p : ℕ) (P : Prime p) (big : 16 < p) (l : Lamp) (rs : List ℕ) (h : 
   abbrev i : ℕ
   i = l .party .number
 
-  legal : Legal (setting p n t)
-  legal = record { prime = P; above = big; size = h .sized .size }
+  abbrev T : List ℕ
+  T = tableOf (l .party)
+
+  table : Stations p n T
+  table = table-facts p n T (h .valid .table)
 
   abbrev S : ℕ
   S = happySet rs
 
   pub small : length rs ≤ 16
-  small = let s = sizes-facts n t (h .sized .size) in omega (arith, h .long)
+  small = let s = sizes-facts n t (h .valid .size) in omega (arith, h .long)
 
   pub largest : Largest (agree rs) n S
   largest = subst (λ k. Largest (agree rs) k S) (h .long) (happy-is rs small)
 
   pub goes : step p l (settle rs) ≡ settled p l S
   goes =
-      settles l (h .sized) p rs
+      settles p l (h .valid) rs
       (ap₂ (λ (a b : Bool). a && b)
       (ap₂ (λ (a b : Bool). a && b) (eq-eqb (length rs) n (h .long)) (ap (λ s. eqb (stageNumber s) 2) (h .stage)))
       (eq-eqb (entry rs i) (l .sharing .report) (h .own)))
@@ -100,7 +102,7 @@ module _ (p : ℕ) (P : Prime p) (big : 16 < p) (l : Lamp) (rs : List ℕ) (h : 
       (λ (m : member S i ≡ true).
       none-some _ 8 (ap (λ (z : Reply). numberOf (z .answer)) (goes ∙ settled-happy p l S many m)) e)
       (λ (m : member S i ≡ false).
-      repaired-number (repair p n t S (l .sharing .heard))
+      repaired-number (repair p n t T S (l .sharing .heard))
       (sym (ap (λ (z : Reply). numberOf (z .answer)) (goes ∙ settled-mended p l S many m)) ∙ e))
       (true-or-false (member S i))
 
@@ -139,37 +141,38 @@ module _ (p : ℕ) (P : Prime p) (big : 16 < p) (l : Lamp) (rs : List ℕ) (h : 
             ⊎-elim
             (λ (m : member S i ≡ true). ap (λ (z : Reply). z .lamp .sharing .happy) (goes ∙ settled-happy p l S many m))
             (λ (m : member S i ≡ false).
-            ap (λ (z : Reply). z .lamp .sharing .happy) (goes ∙ settled-mended p l S many m) ∙ mended (repair p n t S (l .sharing .heard)))
+            ap (λ (z : Reply). z .lamp .sharing .happy) (goes ∙ settled-mended p l S many m)
+            ∙ mended (repair p n t T S (l .sharing .heard)))
             (true-or-false (member S i))
 
     -- ---- repair
     module _ (out : member S i ≡ false) where
       abbrev xs : List ℕ
-      xs = pointsIn n S
+      xs = pointsIn l S
 
       abbrev ys : List ℕ
       ys = heardIn l S
 
       abbrev mended : Option (List ℕ)
-      mended = repair p n t S (l .sharing .heard)
+      mended = repair p n t T S (l .sharing .heard)
 
       size-xs : length xs ≡ ones S
       size-xs =
-          length-select (tabulate (bit S) n) (points n) (length-tabulate (bit S) n ∙ sym (length-points n))
+          length-select (tabulate (bit S) n) T (length-tabulate (bit S) n ∙ sym (table .size))
           ∙ marks-ones S n (largest .within)
 
       size-ys : length ys ≡ ones S
       size-ys =
-          let s = sizes-facts n t (h .sized .size) in
+          let s = sizes-facts n t (h .valid .size) in
           let all : length (take n (l .sharing .heard)) ≡ n = length-take-le n (l .sharing .heard) (omega (arith, h .heard-all)) in
           length-select (tabulate (bit S) n) (take n (l .sharing .heard)) (length-tabulate (bit S) n ∙ sym all)
           ∙ marks-ones S n (largest .within)
 
       fine : Points p xs
-      fine = points-select p (tabulate (bit S) n) (points n) (points-fine (setting p n t) legal)
+      fine = points-select p (tabulate (bit S) n) T (table-points p n T table)
 
       enough : 3 * t + 1 ≤ length xs
-      enough = let s = sizes-facts n t (h .sized .size) in omega (arith, size-xs)
+      enough = let s = sizes-facts n t (h .valid .size) in omega (arith, size-xs)
 
       pub repair-is : mended ≡ fit p t (length xs - t) xs ys
       unfolding repair

@@ -1,8 +1,8 @@
--- One call of a lamp within the sizes: a call that its stage does not await changes nothing, and one that it awaits is accepted.
+-- One call of a lamp with a valid party: a call that its stage does not await changes nothing, and one that it awaits is accepted.
 --   awaited l c   a deal, pairs or reports that the lamp's stage takes, with all in order
-use mathlib.Core.Path.{_≡_, refl, sym, ap, ap₂, subst, _∙_}
+use mathlib.Core.Path.{_≡_, refl, sym, ap, subst, _∙_}
 use mathlib.Core.Logic.{_⊎_, inl, inr, ⊎-elim}
-use mathlib.Core.Bool.{Bool, true, false, cond, not, _&&_, and-eq-true-iff, true≢false}
+use mathlib.Core.Bool.{Bool, true, false, cond, _&&_, and-eq-true-iff, true≢false}
 use mathlib.Core.Option.{Option, none, some}
 use mathlib.Core.List.{List, [], _∷_, _++_}
 use Prim.Native.Nat.{ℕ, suc, _*_}
@@ -21,7 +21,7 @@ use Rattle.answers.specs.declared.Admission.the-variants.{Pass, Fail}
 use Rattle.lamp.specs.declared.Lamp.{Lamp}
 use Rattle.lamp.specs.declared.Reply.{Reply}
 use Rattle.answers.specs.Refusals.{refusalNumber, lowest}
-use Rattle.lamp.specs.Lamp.{Sized, reply, refuse, guard, isAt, lentTests, withDeal, saidPair, withPairs, reportFrom, settled, opening}
+use Rattle.lamp.specs.Lamp.{Valid, reply, refuse, guard, isAt, lentTests, withDeal, saidPair, withPairs, reportFrom, settled, opening}
 use Rattle.lamp.specs.Lamp.{opened}
 use Rattle.lamp.specs.Lamp.{Call, takeDeal, sayPair, hearPairs, settle, openShares, tests, step, after}
 use Rattle.agreement.specs.Calls.{Never, moves}
@@ -36,7 +36,7 @@ awaited l (openShares xs) = false
 
 -- ---- guards
 
--- The tests of a call with a lent list, of a lamp within the sizes.
+-- The tests of a call with a lent list, of a lamp with a valid party.
 abbrev lent : Bool → Bool → Admission
 lent list stage = lowest ((list, WrongLength) ∷ (stage, WrongStage) ∷ [])
 
@@ -64,89 +64,88 @@ opened-same : (l : Lamp) (o : Option (List ℕ)) → opened l o .lamp ≡ l
 opened-same l none = refl
 opened-same l (some f) = refl
 
-module _ (l : Lamp) (sized : Sized l) where
-  lent-sized : (list stage : Bool) → lowest (lentTests (l .party) list stage) ≡ lent list stage
-  lent-sized list stage = rw (sized .size, sized .party)
+module _ (p : ℕ) (l : Lamp) (valid : Valid p (l .party)) where
+  lent-valid : (list stage : Bool) → lowest (lentTests p (l .party) list stage) ≡ lent list stage
+  lent-valid list stage = rw (valid .size, valid .party, valid .table)
 
-  admitted : (list stage : Bool) (r : Reply) → (list && stage) ≡ true → guard l (lowest (lentTests (l .party) list stage)) r ≡ r
-  admitted list stage r e = ap (λ a. guard l a r) (lent-sized list stage) ∙ guard-open l list stage r e
+  admitted : (list stage : Bool) (r : Reply) → (list && stage) ≡ true → guard l (lowest (lentTests p (l .party) list stage)) r ≡ r
+  admitted list stage r e = ap (λ a. guard l a r) (lent-valid list stage) ∙ guard-open l list stage r e
 
-  shut-out : (list stage : Bool) (r : Reply) → (list && stage) ≡ false → Shut l (guard l (lowest (lentTests (l .party) list stage)) r)
-  shut-out list stage r e = subst (λ a. Shut l (guard l a r)) (sym (lent-sized list stage)) (guard-shut l list stage r e)
+  shut-out : (list stage : Bool) (r : Reply) → (list && stage) ≡ false → Shut l (guard l (lowest (lentTests p (l .party) list stage)) r)
+  shut-out list stage r e = subst (λ a. Shut l (guard l a r)) (sym (lent-valid list stage)) (guard-shut l list stage r e)
 
-  module _ (p : ℕ) where
-    -- ---- what is awaited is accepted
-    pub takes : (d : List ℕ) → awaited l (takeDeal d) ≡ true → step p l (takeDeal d) ≡ reply (withDeal l d) Done
-    unfolding step
-    takes d e = admitted (eqb (length d) (2 * suc (l .party .t))) (isAt Waiting (l .sharing)) _ e
+  -- ---- what is awaited is accepted
+  pub takes : (d : List ℕ) → awaited l (takeDeal d) ≡ true → step p l (takeDeal d) ≡ reply (withDeal l d) Done
+  unfolding step
+  takes d e = admitted (eqb (length d) (2 * suc (l .party .t))) (isAt Waiting (l .sharing)) _ e
 
-    pub hears : (hs : List ℕ) → awaited l (hearPairs hs) ≡ true
-        → step p l (hearPairs hs) ≡ reply (withPairs p l hs) (Report (reportFrom p l hs))
-    unfolding step
-    hears hs e = admitted (eqb (length hs) (2 * l .party .n)) (isAt Dealt (l .sharing)) _ e
+  pub hears : (hs : List ℕ) → awaited l (hearPairs hs) ≡ true
+      → step p l (hearPairs hs) ≡ reply (withPairs p l hs) (Report (reportFrom p l hs))
+  unfolding step
+  hears hs e = admitted (eqb (length hs) (2 * l .party .n)) (isAt Dealt (l .sharing)) _ e
 
-    -- Reports of the right length, at the stage that takes them: the lamp looks at its own.
-    pub looks : (rs : List ℕ) → (eqb (length rs) (l .party .n) && isAt Reported (l .sharing)) ≡ true
-        → step p l (settle rs)
-        ≡ cond (eqb (entry rs (l .party .number)) (l .sharing .report)) (settled p l (happySet rs)) (refuse l AlteredReport)
-    unfolding step
-    looks rs e = admitted (eqb (length rs) (l .party .n)) (isAt Reported (l .sharing)) _ e
+  -- Reports of the right length, at the stage that takes them: the lamp looks at its own.
+  pub looks : (rs : List ℕ) → (eqb (length rs) (l .party .n) && isAt Reported (l .sharing)) ≡ true
+      → step p l (settle rs)
+      ≡ cond (eqb (entry rs (l .party .number)) (l .sharing .report)) (settled p l (happySet rs)) (refuse l AlteredReport)
+  unfolding step
+  looks rs e = admitted (eqb (length rs) (l .party .n)) (isAt Reported (l .sharing)) _ e
 
-    pub settles : (rs : List ℕ) → awaited l (settle rs) ≡ true → step p l (settle rs) ≡ settled p l (happySet rs)
-    settles rs e =
-        let own : Bool = eqb (entry rs (l .party .number)) (l .sharing .report) in
-        let both = and-eq-true-iff (eqb (length rs) (l .party .n) && isAt Reported (l .sharing)) own .0 e in
-        looks rs (both .0) ∙ ap (λ b. cond b (settled p l (happySet rs)) (refuse l AlteredReport)) (both .1)
+  pub settles : (rs : List ℕ) → awaited l (settle rs) ≡ true → step p l (settle rs) ≡ settled p l (happySet rs)
+  settles rs e =
+      let own : Bool = eqb (entry rs (l .party .number)) (l .sharing .report) in
+      let both = and-eq-true-iff (eqb (length rs) (l .party .n) && isAt Reported (l .sharing)) own .0 e in
+      looks rs (both .0) ∙ ap (λ b. cond b (settled p l (happySet rs)) (refuse l AlteredReport)) (both .1)
 
-    -- A saying from the deal on, for any party.
-    pub pair-said : (j : ℕ) → isParty (l .party .n) j ≡ true → isAt Waiting (l .sharing) ≡ false
-        → step p l (sayPair j) ≡ reply l (Pair (saidPair p l j .0) (saidPair p l j .1))
-    unfolding step
-    pair-said j party e = rw (sized .size, sized .party, party, e)
+  -- A saying from the deal on, for any party.
+  pub pair-said : (j : ℕ) → isParty (l .party .n) j ≡ true → isAt Waiting (l .sharing) ≡ false
+      → step p l (sayPair j) ≡ reply l (Pair (saidPair p l j .0) (saidPair p l j .1))
+  unfolding step
+  pair-said j party e = rw (valid .size, valid .party, valid .table, party, e)
 
-    -- An opening while holding.
-    pub shares-opened : (xs : List ℕ) → length xs ≡ l .party .n → isAt Holding (l .sharing) ≡ true
-        → step p l (openShares xs) ≡ opened l (opening p l xs)
-    unfolding step
-    shares-opened xs e h =
-        admitted (eqb (length xs) (l .party .n)) (isAt Holding (l .sharing)) _
-        (and-eq-true-iff (eqb (length xs) (l .party .n)) (isAt Holding (l .sharing)) .1 (eq-eqb (length xs) (l .party .n) e, h))
+  -- An opening while holding.
+  pub shares-opened : (xs : List ℕ) → length xs ≡ l .party .n → isAt Holding (l .sharing) ≡ true
+      → step p l (openShares xs) ≡ opened l (opening p l xs)
+  unfolding step
+  shares-opened xs e h =
+      admitted (eqb (length xs) (l .party .n)) (isAt Holding (l .sharing)) _
+      (and-eq-true-iff (eqb (length xs) (l .party .n)) (isAt Holding (l .sharing)) .1 (eq-eqb (length xs) (l .party .n) e, h))
 
-    -- ---- what is not awaited changes nothing, and is refused if it is to move the lamp
-    settle-shut : (rs : List ℕ) → awaited l (settle rs) ≡ false → Shut l (step p l (settle rs))
-    unfolding step
-    settle-shut rs e =
-        let gate : Bool = eqb (length rs) (l .party .n) && isAt Reported (l .sharing) in
-        let own : Bool = eqb (entry rs (l .party .number)) (l .sharing .report) in
-        ⊎-elim
-        (λ (g : gate ≡ true).
-        let altered : own ≡ false = sym (ap (λ b. b && own) g) ∙ e in
-        let is = admitted (eqb (length rs) (l .party .n)) (isAt Reported (l .sharing)) _ g
-        ∙ ap (λ b. cond b (settled p l (happySet rs)) (refuse l AlteredReport)) altered in
-        record { why = AlteredReport; is = is; number = inr (inr refl) })
-        (λ (g : gate ≡ false). shut-out (eqb (length rs) (l .party .n)) (isAt Reported (l .sharing)) _ g)
-        (true-or-false gate)
+  -- ---- what is not awaited changes nothing, and is refused if it is to move the lamp
+  settle-shut : (rs : List ℕ) → awaited l (settle rs) ≡ false → Shut l (step p l (settle rs))
+  unfolding step
+  settle-shut rs e =
+      let gate : Bool = eqb (length rs) (l .party .n) && isAt Reported (l .sharing) in
+      let own : Bool = eqb (entry rs (l .party .number)) (l .sharing .report) in
+      ⊎-elim
+      (λ (g : gate ≡ true).
+      let altered : own ≡ false = sym (ap (λ b. b && own) g) ∙ e in
+      let is = admitted (eqb (length rs) (l .party .n)) (isAt Reported (l .sharing)) _ g
+      ∙ ap (λ b. cond b (settled p l (happySet rs)) (refuse l AlteredReport)) altered in
+      record { why = AlteredReport; is = is; number = inr (inr refl) })
+      (λ (g : gate ≡ false). shut-out (eqb (length rs) (l .party .n)) (isAt Reported (l .sharing)) _ g)
+      (true-or-false gate)
 
-    pub stray : (c : Call) → moves c ≡ true → awaited l c ≡ false → Shut l (step p l c)
-    unfolding step
-    stray (takeDeal d) m e = shut-out (eqb (length d) (2 * suc (l .party .t))) (isAt Waiting (l .sharing)) _ e
-    stray (sayPair j) m e = absurd (true≢false (sym m))
-    stray (hearPairs hs) m e = shut-out (eqb (length hs) (2 * l .party .n)) (isAt Dealt (l .sharing)) _ e
-    stray (settle rs) m e = settle-shut rs e
-    stray (openShares xs) m e = absurd (true≢false (sym m))
+  pub stray : (c : Call) → moves c ≡ true → awaited l c ≡ false → Shut l (step p l c)
+  unfolding step
+  stray (takeDeal d) m e = shut-out (eqb (length d) (2 * suc (l .party .t))) (isAt Waiting (l .sharing)) _ e
+  stray (sayPair j) m e = absurd (true≢false (sym m))
+  stray (hearPairs hs) m e = shut-out (eqb (length hs) (2 * l .party .n)) (isAt Dealt (l .sharing)) _ e
+  stray (settle rs) m e = settle-shut rs e
+  stray (openShares xs) m e = absurd (true≢false (sym m))
 
-    pub quiet : (c : Call) → awaited l c ≡ false → step p l c .lamp ≡ l
-    unfolding step
-    quiet (takeDeal d) e = ap (λ r. r .lamp) (stray (takeDeal d) refl e .is)
-    quiet (sayPair j) e = guard-same l (lowest (tests l (sayPair j))) _ refl
-    quiet (hearPairs hs) e = ap (λ r. r .lamp) (stray (hearPairs hs) refl e .is)
-    quiet (settle rs) e = ap (λ r. r .lamp) (stray (settle rs) refl e .is)
-    quiet (openShares xs) e = guard-same l (lowest (tests l (openShares xs))) _ (opened-same l (opening p l xs))
+  pub quiet : (c : Call) → awaited l c ≡ false → step p l c .lamp ≡ l
+  unfolding step
+  quiet (takeDeal d) e = ap (λ r. r .lamp) (stray (takeDeal d) refl e .is)
+  quiet (sayPair j) e = guard-same l (lowest (tests p l (sayPair j))) _ refl
+  quiet (hearPairs hs) e = ap (λ r. r .lamp) (stray (hearPairs hs) refl e .is)
+  quiet (settle rs) e = ap (λ r. r .lamp) (stray (settle rs) refl e .is)
+  quiet (openShares xs) e = guard-same l (lowest (tests p l (openShares xs))) _ (opened-same l (opening p l xs))
 
-    -- So a list of such calls changes nothing.
-    pub all-quiet : (cs : List Call) → Never (awaited l) cs → after p l cs ≡ l
-    all-quiet [] h = refl
-    all-quiet (c ∷ cs) h = ap (λ z. after p z cs) (quiet c (h .0)) ∙ all-quiet cs (h .1)
+  -- So a list of such calls changes nothing.
+  pub all-quiet : (cs : List Call) → Never (awaited l) cs → after p l cs ≡ l
+  all-quiet [] h = refl
+  all-quiet (c ∷ cs) h = ap (λ z. after p z cs) (quiet c (h .0)) ∙ all-quiet cs (h .1)
 
 pub after-append : (p : ℕ) (l : Lamp) (xs ys : List Call) → after p l (xs ++ ys) ≡ after p (after p l xs) ys
 after-append p l [] ys = refl

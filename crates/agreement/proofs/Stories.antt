@@ -1,5 +1,5 @@
--- Every plot meets the premises of demand 3; and three plots, played by the definitions themselves: one with an honest dealer, one
--- accepted with a liar and a repair, one rejected.
+-- Every plot meets the premises of demand 3; and three plots, played by the definitions themselves: one with an honest dealer, at any
+-- table, one accepted with a liar and a repair, one rejected.
 use mathlib.Core.Path.{_≡_, refl, sym, ap, ap₂, _∙_}
 use mathlib.Core.Logic.{⊎-elim}
 use mathlib.Core.Bool.{Bool, true, false, cond, not}
@@ -8,13 +8,14 @@ use mathlib.Core.List.{List, [], _∷_, zipWith}
 use Prim.Native.Nat.{ℕ, suc, _+_, _*_, _-_, _/_, _%_, _≤_}
 use native.Mathlib.Omega.{arith}
 use lib.Count.{ones}
-use lib.Dec.{eqb, leb, lit≤}
+use lib.Dec.{eqb, leb, lit≤, lit<}
 use lib.ListN.{length, replicate}
 use Rattle.lists.specs.Masks.{mask}
 use Rattle.lists.specs.Tabulate.{tabulate}
 use Rattle.lists.specs.Choices.{count}
 use Rattle.lists.proofs.Tabulate.{length-tabulate, getD-tabulate}
 use Rattle.field.specs.Modulus.{modulus}
+use Rattle.polynomial.proofs.Below.{residues-facts}
 use Rattle.mutual.specs.Agreement.{agree, agreements}
 use Rattle.happy.specs.Happy.{joins, better, best, largest, largestIn, happySet}
 use Rattle.trial.specs.Trial.{hits, pointsSent, through}
@@ -22,10 +23,13 @@ use Rattle.fit.specs.Fit.{sent, fit}
 use Rattle.interpolation.specs.Interpolation.{interpolate}
 use Rattle.bivariate.specs.Bivariate.{at}
 use Rattle.field.specs.Arithmetic.{add, sub, mul, pow, inv, invWithin}
-use Rattle.parties.specs.Parties.{sizes, isParty, parties, pointOf, notSent, entry}
+use Rattle.parties.specs.Parties.{sizes, isParty, parties, notSent, entry}
 use Rattle.parties.proofs.Parties.{party-facts}
-use Rattle.dealer.specs.Desk.{deal, dealingNumber, desk}
-use Rattle.dealer.proofs.Desk.{length-deal, desk-stretch}
+use Rattle.tables.specs.Tables.{pointAt, oneTo, Stations, isTable}
+use Rattle.tables.proofs.Tables.{table-facts, one-to-table}
+use Rattle.dealer.specs.Desk.{deal, dealingNumber, deskWith}
+use Rattle.dealer.specs.declared.Dealing.{Dealing}
+use Rattle.dealer.proofs.Desk.{length-deal, desk-writes, desk-stretch}
 use Rattle.lamp.specs.declared.Reply.{Reply}
 use Rattle.answers.specs.Answers.{numberOf, valuesOf}
 use Rattle.recovery.specs.Recovery.{repair}
@@ -33,9 +37,10 @@ use Rattle.lamp.specs.Lamp.{Call, settle, openShares, step, withDeal, withPairs
 use Rattle.consistency.specs.Deal.{firstFrom, secondFrom, sound, pairFor, confirms, reportOf}
 use Rattle.agreement.specs.Setting.{Setting, width, pairBy, reportBy, replyAt, answerAt}
 use Rattle.agreement.specs.Calls.{toReports, sinceSettling, Never, isDeal, isHearing, isSettling}
-use Rattle.agreement.specs.Demand3.{Honest, Premises, AllReject, AllAccept, Demand3}
-use Rattle.agreement.specs.Stories.{Plot, pairHeard, pairsHeard, reportsSeen, runOf, execution, anF, five, honestDealer, liar}
-use Rattle.agreement.specs.Stories.{twoDealers}
+use Rattle.agreement.specs.Demand3.{Honest, Premises, OneTable, AllReject, AllAccept, Demand3}
+use Rattle.agreement.specs.Stories.{Plot, pairHeard, pairsHeard, reportsSeen, runOf, execution, anF, fiveWith, five}
+use Rattle.agreement.specs.Stories.{honestDealer, liar, twoDealers}
+use Rattle.agreement.specs.Harbour.{stations}
 use Rattle.agreement.proofs.Agreement.{demand3}
 
 module _ (s : Setting) (q : Plot) where
@@ -100,6 +105,10 @@ module _ (s : Setting) (q : Plot) where
     same = λ i h. refl;
   }
 
+  -- All lamps have the setting's table.
+  pub one-table : Stations (s .p) (s .n) (s .table) → OneTable s (execution s q)
+  one-table points = record { table = points; loaded = λ i h. refl }
+
 -- ---- three plots for five lamps, one of them faulty, modulo 65,521
 
 -- What lamp i answers to its settling, with its set and share then; and what it answers to the list that is opened in the end.
@@ -113,27 +122,48 @@ outcome q i = (numberOf (ended q i .answer), ended q i .lamp .sharing .happy, en
 abbrev outcomes : Plot → List (Option ℕ × ℕ × ℕ)
 outcomes q = outcome q 1 ∷ outcome q 2 ∷ outcome q 4 ∷ outcome q 5 ∷ []
 
-deal-long : (i : ℕ) → length (deal modulus 2 anF i) ≡ 4
-deal-long i = length-deal modulus 2 anF refl i
+deal-long : (T : List ℕ) (i : ℕ) → length (deal modulus 2 T anF i) ≡ 4
+deal-long T i = length-deal modulus 2 T anF refl i
 
--- The dealer is honest, and lamp 3 is not: accepted, with the dealer's own F.
-pub honest-dealer-meets : Premises (five modulus) (execution (five modulus) (honestDealer modulus))
-unfolding sizes tabulate
-honest-dealer-meets = premises (five modulus) (honestDealer modulus) refl (lit≤ tt) (λ i q g. deal-long i) tt tt (λ i r. tt)
+-- The dealer is honest, and lamp 3 is not: accepted, with the dealer's own F, whatever table they all loaded.
+module _ (T : List ℕ) (table : Stations modulus 5 T) where
+  pub honest-dealer-meets : Premises (fiveWith modulus T) (execution (fiveWith modulus T) (honestDealer modulus T))
+  unfolding sizes tabulate
+  honest-dealer-meets = premises (fiveWith modulus T) (honestDealer modulus T) refl (lit≤ tt) (λ i q g. deal-long T i) tt tt (λ i r. tt)
 
-pub honest-dealer-accepted : AllAccept (five modulus) (execution (five modulus) (honestDealer modulus)) anF
-unfolding Demand3
-honest-dealer-accepted =
-    demand3 5 1 (execution (five modulus) (honestDealer modulus)) honest-dealer-meets .dealer anF (record {
-      lent = replicate 20 0;
-      written = written;
-      deals = λ i h.
-          let range = party-facts 5 i (h .party) in
-          sym (desk-stretch modulus 5 1 anF (replicate 20 0) written i (range .0) (range .1));
-    }) .0
-  where
-    written : dealingNumber (desk modulus 5 1 anF (replicate 20 0) .1) ≡ none
-    written = unfold desk sizes in refl
+  pub honest-dealer-accepted : AllAccept (fiveWith modulus T) (execution (fiveWith modulus T) (honestDealer modulus T)) anF
+  unfolding Demand3
+  honest-dealer-accepted =
+      demand3 5 1 T (execution (fiveWith modulus T) (honestDealer modulus T)) honest-dealer-meets
+      (one-table (fiveWith modulus T) (honestDealer modulus T) table) .dealer anF (record {
+        table = T;
+        loaded = refl;
+        lent = replicate 20 0;
+        written = written;
+        deals = λ i h.
+            let range = party-facts 5 i (h .party) in
+            sym (desk-stretch modulus 5 1 T anF (replicate 20 0) written i (range .0) (range .1));
+      }) .0
+    where
+      written : dealingNumber (deskWith modulus 5 1 T anF (replicate 20 0) .1) ≡ none
+      written =
+          ap (λ (q : List ℕ × Dealing). dealingNumber (q .1)) (desk-writes modulus 5 1 T anF (replicate 20 0) (record {
+            size = unfold sizes in refl;
+            square = refl;
+            long = refl;
+            table = table;
+            below = residues-facts modulus anF refl;
+          }))
+
+-- So without a table, and with the harbour's station numbers.
+five-points : Stations modulus 5 (oneTo 5)
+five-points = one-to-table modulus 5 (lit< tt)
+
+pub plain-accepted : AllAccept (five modulus) (execution (five modulus) (honestDealer modulus (oneTo 5))) anF
+plain-accepted = honest-dealer-accepted (oneTo 5) five-points
+
+pub harbour-accepted : AllAccept (fiveWith modulus stations) (execution (fiveWith modulus stations) (honestDealer modulus stations)) anF
+harbour-accepted = honest-dealer-accepted stations (table-facts modulus 5 stations (unfold isTable in refl))
 
 -- Lamp 5's deal is unsound and lamp 3 lies to it: accepted with the set of lamps 1 to 4, and lamp 5 repairs its share.
 pub liar-meets : Premises (five modulus) (execution (five modulus) (liar modulus))
@@ -142,15 +172,15 @@ liar-meets =
     premises (five modulus) (liar modulus) refl (lit≤ tt) (λ i q g. long (eqb i 5) i)
     (refl, (refl, (refl, tt))) (refl, (refl, (refl, tt))) (λ i r. (refl, (refl, tt)))
   where
-    long : (b : Bool) (i : ℕ) → length (cond b (17 ∷ 24 ∷ 22 ∷ 22 ∷ []) (deal modulus 2 anF i)) ≡ 4
+    long : (b : Bool) (i : ℕ) → length (cond b (17 ∷ 24 ∷ 22 ∷ 22 ∷ []) (deal modulus 2 (oneTo 5) anF i)) ≡ 4
     long true i = refl
-    long false i = deal-long i
+    long false i = deal-long (oneTo 5) i
 
 pub liar-outcome : outcomes (liar modulus) ≡ (none, 15, 10) ∷ (none, 15, 13) ∷ (none, 15, 19) ∷ (none, 15, 22) ∷ []
 unfolding
     pairHeard pairsHeard reportsSeen step withDeal withPairs reportFrom settled repair opening atEnd reportOf confirms pairFor
-    sound sizes isParty pointOf notSent deal fit pointsSent hits sent through interpolate zipWith happySet largestIn largest best better
-    joins agreements agree mask tabulate at pow add sub mul inv invWithin ones
+    sound sizes isParty isTable pointAt notSent deal fit pointsSent hits sent through interpolate zipWith happySet largestIn largest
+    best better joins agreements agree mask tabulate at pow add sub mul inv invWithin ones
 liar-outcome = refl
 
 -- Lamp 1's opening, which ignores the 0 in its own place and lamp 3's 999.
@@ -160,8 +190,8 @@ settledOne = sinceSettling (runOf (five modulus) (liar modulus) 1) []
 pub liar-opened : valuesOf (answerAt (five modulus) 1 settledOne (openShares (0 ∷ 13 ∷ 999 ∷ 19 ∷ 22 ∷ []))) ≡ 7 ∷ []
 unfolding
     pairHeard pairsHeard reportsSeen step withDeal withPairs reportFrom settled repair opening atEnd reportOf confirms pairFor
-    sound sizes isParty pointOf notSent deal fit pointsSent hits sent through interpolate zipWith happySet largestIn largest best better
-    joins agreements agree mask tabulate at pow add sub mul inv invWithin ones
+    sound sizes isParty isTable pointAt notSent deal fit pointsSent hits sent through interpolate zipWith happySet largestIn largest
+    best better joins agreements agree mask tabulate at pow add sub mul inv invWithin ones
 liar-opened = refl
 
 -- Two polynomials were dealt: rejected by everyone.
@@ -169,15 +199,15 @@ pub two-dealers-meet : Premises (five modulus) (execution (five modulus) (twoDea
 unfolding sizes tabulate
 two-dealers-meet = premises (five modulus) (twoDealers modulus) refl (lit≤ tt) (λ i q g. long (leb i 2) i) tt tt (λ i r. tt)
   where
-    long : (b : Bool) (i : ℕ) → length (cond b (deal modulus 2 anF i) (deal modulus 2 (8 ∷ 9 ∷ 3 ∷ 1 ∷ []) i)) ≡ 4
-    long true i = deal-long i
-    long false i = length-deal modulus 2 (8 ∷ 9 ∷ 3 ∷ 1 ∷ []) refl i
+    long : (b : Bool) (i : ℕ) → length (cond b (deal modulus 2 (oneTo 5) anF i) (deal modulus 2 (oneTo 5) (8 ∷ 9 ∷ 3 ∷ 1 ∷ []) i)) ≡ 4
+    long true i = deal-long (oneTo 5) i
+    long false i = length-deal modulus 2 (oneTo 5) (8 ∷ 9 ∷ 3 ∷ 1 ∷ []) refl i
 
 pub two-dealers-outcome : outcomes (twoDealers modulus) ≡ (some 8, 0, 0) ∷ (some 8, 0, 0) ∷ (some 8, 0, 0) ∷ (some 8, 0, 0) ∷ []
 unfolding
     pairHeard pairsHeard reportsSeen step withDeal withPairs reportFrom settled repair opening atEnd reportOf confirms pairFor
-    sound sizes isParty pointOf notSent deal fit pointsSent hits sent through interpolate zipWith happySet largestIn largest best better
-    joins agreements agree mask tabulate at pow add sub mul inv invWithin ones
+    sound sizes isParty isTable pointAt notSent deal fit pointsSent hits sent through interpolate zipWith happySet largestIn largest
+    best better joins agreements agree mask tabulate at pow add sub mul inv invWithin ones
 two-dealers-outcome = refl
 
 pub two-dealers-rejected : AllReject (five modulus) (execution (five modulus) (twoDealers modulus))
@@ -185,7 +215,8 @@ unfolding Demand3
 two-dealers-rejected =
     ⊎-elim (λ all. all)
     (λ one. absurd (none-eight (sym (one .1 .hold 1 first .answered .0) ∙ ap (λ os. head os) two-dealers-outcome)))
-    (demand3 5 1 (execution (five modulus) (twoDealers modulus)) two-dealers-meet .one-verdict)
+    (demand3 5 1 (oneTo 5) (execution (five modulus) (twoDealers modulus)) two-dealers-meet
+    (one-table (five modulus) (twoDealers modulus) five-points) .one-verdict)
   where
     first : Honest (five modulus) (execution (five modulus) (twoDealers modulus)) 1
     first = record { party = unfold isParty in refl; good = refl }

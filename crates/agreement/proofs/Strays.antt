@@ -9,8 +9,8 @@ use Rattle.lamp.specs.declared.Lamp.{Lamp}
 use Rattle.lamp.specs.declared.Reply.{Reply}
 use Rattle.answers.specs.Refusals.{refusalNumber}
 use Rattle.answers.specs.Answers.{numberOf}
-use Rattle.lamp.specs.Lamp.{Sized, refuse, Call, takeDeal, hearPairs, settle, step, after}
-use Rattle.agreement.specs.Setting.{Setting, madeFor, lampAt, replyAt, answerAt}
+use Rattle.lamp.specs.Lamp.{Valid, refuse, Call, takeDeal, hearPairs, settle, step, after}
+use Rattle.agreement.specs.Setting.{Setting, lampAt, replyAt, answerAt}
 use Rattle.agreement.specs.Calls.{Run, toDeal, toPairs, toReports, At, Never, moves}
 use Rattle.agreement.specs.Demand3.{Brings, Stray, Refuses}
 use Rattle.agreement.proofs.Steps.{awaited, Shut, stray, all-quiet}
@@ -48,20 +48,20 @@ module _ (s : Setting) (i : ℕ) where
       number : {k : ℕ} → replyAt s i xs c ≡ refuse l (shut .why) → refusalNumber (shut .why) ≡ k → Refuses (answerAt s i xs c) k
       number is k = ap (λ (r : Reply). numberOf (r .answer)) is ∙ ap some k
 
-  module _ (sized : Sized (madeFor s i)) (cs : List Call) (r : Run) (b : Brings s i cs r) where
+  module _ (ready : one.Ready s i) (cs : List Call) (r : Run) (b : Brings s i cs r) where
     -- A call within a stretch of calls that the lamp l does not await.
-    within : (xs ws : List Call) (c : Call) (zs stretch : List Call) (l : Lamp) → Sized l → Never (awaited l) stretch
+    within : (xs ws : List Call) (c : Call) (zs stretch : List Call) (l : Lamp) → Valid (s .p) (l .party) → Never (awaited l) stretch
         → ws ++ c ∷ zs ≡ stretch
         → lampAt s i xs ≡ after (s .p) l ws → moves c ≡ true → Stray s i xs c
     within xs ws c zs stretch l good never cut here m =
         let k = never-at (awaited l) ws c zs (subst (Never (awaited l)) (sym cut) never) in
-        shut-stray xs c l (here ∙ all-quiet l good (s .p) ws (k .0)) (stray l good (s .p) c m (k .1))
+        shut-stray xs c l (here ∙ all-quiet (s .p) l good ws (k .0)) (stray (s .p) l good c m (k .1))
 
     -- Before the deal, between deal and pairs, between pairs and reports, and behind the reports.
     before-deal : (xs : List Call) (c : Call) (zs : List Call) → toDeal r ≡ xs ++ c ∷ zs → moves c ≡ true → Stray s i xs c
     before-deal xs c zs cut m =
-        within xs xs c zs (toDeal r) (one.start s i sized cs r b) sized
-        (one.start-never s i sized cs r b) (sym cut) refl m
+        within xs xs c zs (toDeal r) (one.start s i ready cs r b) (one.made-valid s i ready)
+        (one.start-never s i ready cs r b) (sym cut) refl m
 
     before-pairs : (xs : List Call) (c : Call) (zs : List Call) → toPairs r ≡ xs ++ c ∷ zs → moves c ≡ true
         → (xs ≡ toDeal r → ⊥) → Stray s i xs c
@@ -70,9 +70,9 @@ module _ (s : Setting) (i : ℕ) where
           | inl h ↦ before-deal xs c (h .0) (h .1) m
           | inr (inl h) ↦ absurd (not-deal h)
           | inr (inr h) ↦
-              within xs (h .0) c zs (r .beforePairs) (one.dealt s i sized cs r b) (one.dealt-sized s i sized cs r b)
-              (one.dealt-never s i sized cs r b) (h .2)
-              (ap (lampAt s i) (h .1) ∙ one.since-deal s i sized cs r b (h .0)) m
+              within xs (h .0) c zs (r .beforePairs) (one.dealt s i ready cs r b) (one.dealt-valid s i ready cs r b)
+              (one.dealt-never s i ready cs r b) (h .2)
+              (ap (lampAt s i) (h .1) ∙ one.since-deal s i ready cs r b (h .0)) m
         ]
 
     before-reports : (xs : List Call) (c : Call) (zs : List Call) → toReports r ≡ xs ++ c ∷ zs → moves c ≡ true
@@ -82,9 +82,9 @@ module _ (s : Setting) (i : ℕ) where
           | inl h ↦ before-pairs xs c (h .0) (h .1) m not-deal
           | inr (inl h) ↦ absurd (not-pairs h)
           | inr (inr h) ↦
-              within xs (h .0) c zs (r .beforeReports) (one.reported s i sized cs r b) (one.reported-sized s i sized cs r b)
-              (one.reported-never s i sized cs r b) (h .2)
-              (ap (lampAt s i) (h .1) ∙ one.since-pairs s i sized cs r b (h .0)) m
+              within xs (h .0) c zs (r .beforeReports) (one.reported s i ready cs r b) (one.reported-valid s i ready cs r b)
+              (one.reported-never s i ready cs r b) (h .2)
+              (ap (lampAt s i) (h .1) ∙ one.since-pairs s i ready cs r b (h .0)) m
         ]
 
     pub others : (xs : List Call) (c : Call) → At cs xs c → moves c ≡ true
@@ -94,7 +94,7 @@ module _ (s : Setting) (i : ℕ) where
           | inl h ↦ before-reports xs c (h .0) (h .1) m not-deal not-pairs
           | inr (inl h) ↦ absurd (not-reports h)
           | inr (inr h) ↦
-              within xs [] c [] (c ∷ []) (one.outcome s i sized cs r b .lamp) (one.ended-sized s i sized cs r b)
-              (one.ended-never s i sized cs r b (c ∷ [])) refl
-              (ap (lampAt s i) (h .1) ∙ one.since-settling s i sized cs r b (h .0)) m
+              within xs [] c [] (c ∷ []) (one.outcome s i ready cs r b .lamp) (one.ended-valid s i ready cs r b)
+              (one.ended-never s i ready cs r b (c ∷ [])) refl
+              (ap (lampAt s i) (h .1) ∙ one.since-settling s i ready cs r b (h .0)) m
         ]

@@ -4,14 +4,18 @@
 --   Left T k x        x is what k leaves
 --   Given T k         k stands in T, it applies, and nothing before it does
 --   exactly           a number is given exactly so, and the call is accepted exactly if none applies
+--   Unused T k        no row with the number k applies where none before it does; not-given: then k is not given
+--   skipped           a row that does not apply where none before it does may be left out
 --   once              a table determines the number, and what a refusal leaves
-use mathlib.Core.Path.{_≡_, refl, sym, ap, _∙_}
+use mathlib.Core.Path.{_≡_, refl, sym, ap, subst, _∙_}
 use mathlib.Core.Logic.{_⊎_, _↔_, inl, inr}
 use mathlib.Core.Bool.{Bool, true, false}
 use mathlib.Core.Option.{Option, none, some}
-use mathlib.Core.List.{[], _∷_}
+use mathlib.Core.List.{[], _∷_, _++_}
 use Prim.Native.Nat.{ℕ}
 use native.Mathlib.Omega.{arith}
+use lib.Dec.{eqb}
+use borrow.Author.Tests.{eq-eqb}
 use Rattle.lists.proofs.Cases.{not-both}
 use Rattle.agreement.specs.Demand1.{Table, Follows}
 
@@ -50,6 +54,20 @@ abbrev pub NoneApplies : {X : Type 0} → Table X → Type 0
 NoneApplies [] = Unit
 NoneApplies ((j, applies, left) ∷ more) = (applies → ⊥) × NoneApplies more
 
+-- No row with the number k applies where none before it does.
+abbrev pub Barred : Bool → Type 0 → Type 0
+Barred true applies = applies → ⊥
+Barred false applies = Unit
+
+abbrev pub Unused : {X : Type 0} → Table X → ℕ → Type 0
+Unused [] k = Unit
+Unused ((j, applies, left) ∷ more) k = Barred (eqb j k) applies × ((applies → ⊥) → Unused more k)
+
+unused-not : {X : Type 0} (T : Table X) (k : ℕ) → Unused T k → Given T k → ⊥
+unused-not [] k h g = g
+unused-not ((j, applies, left) ∷ T) k h (inl g) = subst (λ b. Barred b applies) (eq-eqb j k (g .1)) (h .0) (g .0)
+unused-not ((j, applies, left) ∷ T) k h (inr g) = unused-not T k (h .1 (g .0)) (g .1)
+
 abbrev pub Left : {X : Type 0} → Table X → ℕ → X → Type 0
 Left [] k x = ⊥
 Left ((j, applies, left) ∷ more) k x = ((j ≡ k) × (x ≡ left)) ⊎ Left more k x
@@ -80,6 +98,18 @@ module _ {X : Type 0} (done : Type 0) (o : Option ℕ) (x : X) where
   -- "Number k is answered exactly if k applies and nothing lower does; otherwise the call is accepted."
   pub exactly : (T : Table X) → Follows T done o x → ((k : ℕ) → (o ≡ some k) ↔ Given T k) × ((o ≡ none) ↔ NoneApplies T)
   exactly T f = (λ k. (given T f k, gives T f k), (free T f, λ h. frees T f h .0))
+
+  pub not-given : (T : Table X) → Follows T done o x → (k : ℕ) → Unused T k → o ≡ some k → ⊥
+  not-given T f k h e = unused-not T k h (given T f k e)
+
+  -- A row that does not apply where none before it does may be left out.
+  pub skipped : (before : Table X) (k : ℕ) (applies : Type 0) (left : X) (more : Table X) → (NoneApplies before → applies → ⊥)
+      → Follows (before ++ (k, applies, left) ∷ more) done o x → Follows (before ++ more) done o x
+  skipped [] k applies left more h (inl f) = absurd (h tt (f .0))
+  skipped [] k applies left more h (inr f) = f .1
+  skipped ((j, a, l) ∷ before) k applies left more h (inl f) = inl f
+  skipped ((j, a, l) ∷ before) k applies left more h (inr f) =
+      inr (f .0, skipped before k applies left more (λ none. h (f .0, none)) (f .1))
 
   -- An accepted call says what it is to say; a refusal leaves what its row has.
   pub accepted : (T : Table X) → Follows T done o x → NoneApplies T → done

@@ -7,22 +7,25 @@
 --   Sizes, Among, Lengths      the protocol's sizes and numbers, and the lengths of a record's lists
 --   dealt, reported, Fresh     the lamp that a deal or a hearing leaves, and one as made; that of a settling is demand 2's `standing`
 --   refusals p l c             the table of a lamp's call; NoColumnFits, NoOpeningFits: when 9 and 10 apply
---   Sound p i row column       party i's deal is sound; IsSound p l: the lamp's is
+--   Sound p T i row column     party i's deal is sound, by its point in the table T; IsSound p l: the lamp's is
+--   pointIn l j                party j's point, as the lamp l has it
 --   Says p l j a               the answer a is the lamp's pair for j; SaysNothing: both its numbers are "not sent"
 --   Confirms, Reports          what a one in a report says, and which report is given
 --   accepts p l c r            what the reply r to an accepted call says, beside demand 2
 --   makingRefusals, deskRefusals, readerRefusals, writerRefusals   the tables of the other calls
---   Demand1 p                  the demand, for arithmetic modulo p
+--   Demand1 p                  the demand, for arithmetic modulo p and any table
 use mathlib.Core.Path.{_≡_}
 use mathlib.Core.Logic.{_⊎_, _↔_}
 use mathlib.Core.Bool.{true, false}
 use mathlib.Core.Option.{Option, none, some}
 use mathlib.Core.List.{List, [], _∷_}
 use Prim.Native.Nat.{ℕ, suc, _+_, _*_, _^_, _≤_, _<_}
-use lib.ListN.{length}
+use lib.ListN.{length, replicate}
+use Rattle.lists.specs.Tabulate.{pad}
 use Rattle.polynomial.specs.Polynomial.{Residues, value}
 use Rattle.happy.specs.Happy.{happySet}
-use Rattle.parties.specs.Parties.{pointOf, member, entry}
+use Rattle.parties.specs.Parties.{member, entry}
+use Rattle.tables.specs.Tables.{pointAt, Stations}
 use Rattle.record.specs.declared.Reading.the-variants.{Fine}
 use Rattle.record.specs.Bytes.{over}
 use Rattle.record.specs.Record as records
@@ -35,7 +38,8 @@ use Rattle.consistency.specs.Deal.{firstFrom, secondFrom}
 use Rattle.lamp.specs.declared.Lamp.{Lamp}
 use Rattle.lamp.specs.declared.Reply.{Reply}
 use Rattle.answers.specs.Answers.{numberOf, writingNumber}
-use Rattle.lamp.specs.Lamp.{made, rowOfLamp, columnOfLamp, Call, takeDeal, sayPair, hearPairs, settle, openShares, step, make}
+use Rattle.lamp.specs.Lamp.{madeWith, tableOf, rowOfLamp, columnOfLamp, Call, takeDeal, sayPair, hearPairs, settle, openShares}
+use Rattle.lamp.specs.Lamp.{step, makeWith}
 use Rattle.agreement.specs.Setting.{Setting, setting, width, deskFor}
 use Rattle.agreement.specs.Demand2.{FewAgree, FitsHeard, FitsShares, standing}
 use Rattle.agreement.specs.Demand3.{Gives}
@@ -99,20 +103,28 @@ reported l heard report = record {
   };
 }
 
--- A lamp as made: waiting, share 0, no happy set.
-pub record Fresh (n t i : ℕ) (l : Lamp) : Type 0 where
+-- A lamp as made: waiting, share 0, no happy set, and the table with zeros behind it, or zeros alone, which are none, for one of another
+-- length.
+pub record Fresh (n t i : ℕ) (T : List ℕ) (l : Lamp) : Type 0 where
   pub same-n : l .party .n ≡ n
   pub same-t : l .party .t ≡ t
   pub same-number : l .party .number ≡ i
   pub waiting : l .sharing .stage ≡ Waiting
   pub no-share : l .sharing .share ≡ 0
   pub no-set : l .sharing .happy ≡ 0
+  pub same-table : n ≤ 16 → length T ≡ n → tableOf (l .party) ≡ T
+  pub zeros-behind : n ≤ 16 → length T ≡ n → l .party .table ≡ pad 16 T
+  pub no-table : ((n ≤ 16) × (length T ≡ n) → ⊥) → l .party .table ≡ replicate 16 0
 
--- "every number is below 65,521 and the row at i equals the column at i"
-pub record Sound (p i : ℕ) (row column : List ℕ) : Type 0 where
+-- "every number is below 65,521 and the row at i equals the column at i", i standing for party i's point
+pub record Sound (p : ℕ) (T : List ℕ) (i : ℕ) (row column : List ℕ) : Type 0 where
   pub row-below : Residues p row
   pub column-below : Residues p column
-  pub crossing : value p row (pointOf i) ≡ value p column (pointOf i)
+  pub crossing : value p row (pointAt T i) ≡ value p column (pointAt T i)
+
+-- Party j's point, as the lamp l has it.
+abbrev pub pointIn : Lamp → ℕ → ℕ
+pointIn l j = pointAt (tableOf (l .party)) j
 
 -- ---- a lamp's calls
 module _ (p : ℕ) where
@@ -123,29 +135,37 @@ module _ (p : ℕ) where
   abbrev pub NoOpeningFits : Lamp → List ℕ → Type 0
   NoOpeningFits l xs = (f : List ℕ) → FitsShares p l xs f → ⊥
 
+  -- 14, right after 3: the lamp's points are no table.
+  abbrev pub NoTable : Lamp → Type 0
+  NoTable l = Stations p (l .party .n) (tableOf (l .party)) → ⊥
+
   abbrev pub refusals : Lamp → Call → Table Lamp
   refusals l (takeDeal d) =
       (1, Sizes (l .party .n) (l .party .t) → ⊥, l)
       ∷ (2, Among (l .party .n) (l .party .number) → ⊥, l)
       ∷ (3, length d ≡ 2 * suc (l .party .t) → ⊥, l)
+      ∷ (14, NoTable l, l)
       ∷ (4, l .sharing .stage ≡ Waiting → ⊥, l)
       ∷ []
   refusals l (sayPair j) =
       (1, Sizes (l .party .n) (l .party .t) → ⊥, l)
       ∷ (2, Among (l .party .n) (l .party .number) → ⊥, l)
       ∷ (2, Among (l .party .n) j → ⊥, l)
+      ∷ (14, NoTable l, l)
       ∷ (4, l .sharing .stage ≡ Waiting, l)
       ∷ []
   refusals l (hearPairs hs) =
       (1, Sizes (l .party .n) (l .party .t) → ⊥, l)
       ∷ (2, Among (l .party .n) (l .party .number) → ⊥, l)
       ∷ (3, length hs ≡ 2 * l .party .n → ⊥, l)
+      ∷ (14, NoTable l, l)
       ∷ (4, l .sharing .stage ≡ Dealt → ⊥, l)
       ∷ []
   refusals l (settle rs) =
       (1, Sizes (l .party .n) (l .party .t) → ⊥, l)
       ∷ (2, Among (l .party .n) (l .party .number) → ⊥, l)
       ∷ (3, length rs ≡ l .party .n → ⊥, l)
+      ∷ (14, NoTable l, l)
       ∷ (4, l .sharing .stage ≡ Reported → ⊥, l)
       ∷ (7, entry rs (l .party .number) ≡ l .sharing .report → ⊥, l)
       ∷ (8, FewAgree (l .party .n) (l .party .t) rs, standing l Closed 0 0)
@@ -155,13 +175,14 @@ module _ (p : ℕ) where
       (1, Sizes (l .party .n) (l .party .t) → ⊥, l)
       ∷ (2, Among (l .party .n) (l .party .number) → ⊥, l)
       ∷ (3, length xs ≡ l .party .n → ⊥, l)
+      ∷ (14, NoTable l, l)
       ∷ (4, l .sharing .stage ≡ Holding → ⊥, l)
       ∷ (10, NoOpeningFits l xs, l)
       ∷ []
 
   -- The lamp's deal is sound.
   abbrev pub IsSound : Lamp → Type 0
-  IsSound l = Sound p (l .party .number) (rowOfLamp l) (columnOfLamp l)
+  IsSound l = Sound p (tableOf (l .party)) (l .party .number) (rowOfLamp l) (columnOfLamp l)
 
   -- "Both numbers are 65,535"; modulo a wider prime, the same number that is no residue.
   abbrev pub SaysNothing : Answer → Type 0
@@ -172,14 +193,14 @@ module _ (p : ℕ) where
     pub itself : l .party .number ≡ j → SaysNothing a
     pub unsound : (IsSound l → ⊥) → SaysNothing a
     pub sound : (l .party .number ≡ j → ⊥) → IsSound l
-        → Gives a (value p (rowOfLamp l) (pointOf j) ∷ value p (columnOfLamp l) (pointOf j) ∷ [])
+        → Gives a (value p (rowOfLamp l) (pointIn l j) ∷ value p (columnOfLamp l) (pointIn l j) ∷ [])
 
   -- "j is another lamp, its deal is sound, j's first number equals its column at j, and j's second equals its row at j"
   pub record Confirms (l : Lamp) (hs : List ℕ) (j : ℕ) : Type 0 where
     pub other : l .party .number ≡ j → ⊥
     pub soundly : IsSound l
-    pub first-right : firstFrom hs j ≡ value p (columnOfLamp l) (pointOf j)
-    pub second-right : secondFrom hs j ≡ value p (rowOfLamp l) (pointOf j)
+    pub first-right : firstFrom hs j ≡ value p (columnOfLamp l) (pointIn l j)
+    pub second-right : secondFrom hs j ≡ value p (rowOfLamp l) (pointIn l j)
 
   -- The report on the pairs hs: bit j−1 is one exactly so, and no bit stands behind the last lamp's.
   pub record Reports (l : Lamp) (hs : List ℕ) (report : ℕ) : Type 0 where
@@ -196,10 +217,12 @@ module _ (p : ℕ) where
   accepts l (openShares xs) r = r .lamp ≡ l
 
 -- ---- the other calls
-abbrev pub makingRefusals : ℕ → ℕ → ℕ → Table Lamp
-makingRefusals n t i =
-    (1, Sizes n t → ⊥, made n t i)
-    ∷ (2, Among n i → ⊥, made n t i)
+abbrev pub makingRefusals : ℕ → ℕ → ℕ → ℕ → List ℕ → Table Lamp
+makingRefusals p n t i T =
+    (1, Sizes n t → ⊥, madeWith n t i T)
+    ∷ (2, Among n i → ⊥, madeWith n t i T)
+    ∷ (3, length T ≡ n → ⊥, madeWith n t i T)
+    ∷ (14, Stations p n T → ⊥, madeWith n t i T)
     ∷ []
 
 abbrev pub deskRefusals : Setting → List ℕ → List ℕ → Table (List ℕ)
@@ -207,6 +230,8 @@ deskRefusals s F out =
     (1, Sizes (s .n) (s .t) → ⊥, out)
     ∷ (3, length F ≡ width s * width s → ⊥, out)
     ∷ (3, length out ≡ s .n * (2 * width s) → ⊥, out)
+    ∷ (3, length (s .table) ≡ s .n → ⊥, out)
+    ∷ (14, Stations (s .p) (s .n) (s .table) → ⊥, out)
     ∷ (5, Residues (s .p) F → ⊥, out)
     ∷ []
 
@@ -234,10 +259,11 @@ writerRefusals n t deals pairs reports shares out =
 
 -- DEMAND 1, for arithmetic modulo p, at every state (its array of numbers heard has sixteen) and with every argument.
 pub record Demand1 (p : ℕ) : Type 0 where
-  pub makes : (n t i : ℕ) → Replies (makingRefusals n t i) (λ r. Gives (r .answer) [] × (r .lamp ≡ made n t i)) (make n t i)
-  pub fresh : (n t i : ℕ) → Fresh n t i (made n t i)
+  pub makes : (n t i : ℕ) (T : List ℕ)
+      → Replies (makingRefusals p n t i T) (λ r. Gives (r .answer) [] × (r .lamp ≡ madeWith n t i T)) (makeWith p n t i T)
+  pub fresh : (n t i : ℕ) (T : List ℕ) → Fresh n t i T (madeWith n t i T)
   pub calls : (l : Lamp) → length (l .sharing .heard) ≡ 16 → (c : Call) → Replies (refusals p l c) (accepts p l c) (step p l c)
-  pub deals : (n t : ℕ) (F out : List ℕ) → let s = setting p n t in let r = deskFor s F out in
+  pub deals : (n t : ℕ) (T F out : List ℕ) → let s = setting p n t T in let r = deskFor s F out in
       Follows (deskRefusals s F out) (length (r .0) ≡ length out) (desks.dealingNumber (r .1)) (r .0)
   pub reads : (bytes : List ℕ) → Follows (readerRefusals bytes)
       (records.IsRecord bytes × (records.reading bytes ≡ Fine (records.nOf bytes) (records.tOf bytes)))

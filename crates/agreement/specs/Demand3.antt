@@ -1,15 +1,16 @@
 -- Demand 3, one type: the agreement of all honest lamps. Each record is a bullet of the protocol's "The lamps of demand 3", or a part of
 -- one.
---   Execution          who is honest, the calls of each lamp, and the reports that all see
+--   Execution          who is honest, the table that each lamp loaded, the calls of each, and the reports that all see
+--   own s e i          the setting as lamp i has it, with its own table
 --   Honest s e i       lamp i is one of the honest ones
 --   Brings s i cs r    the list cs brings lamp i a deal, pairs and reports, as r has them
---   Premises s e       all that demand 3 supposes; HonestDealer s e F: what it supposes of an honest dealer
+--   Premises s e       what demand 3 supposes; OneTable s e: and of tables; HonestDealer s e F: and of an honest dealer
 --   HearEachOther, SameReports   two of these: honest pairs are unaltered, and all see the same reports
 --   Gives, Refuses     an answer's values, or its number
 --   Speaks, Rejects, Accepts   what it concludes of each lamp; Stray: of a call that changes nothing; Stays: from settling to the end
 --   OnF s e F, shareOf s e j   the honest happy rows and columns lie on F; lamp j's share
 --   AllReject, AllAccept       what it concludes of all together; Conclusions: all of it
---   Demand3 p          the demand, for arithmetic modulo p
+--   Demand3 p          the demand, for arithmetic modulo p and any table
 use mathlib.Core.Path.{_≡_}
 use mathlib.Core.Logic.{_⊎_}
 use mathlib.Core.Bool.{Bool, true, not}
@@ -23,6 +24,7 @@ use Rattle.happy.specs.Clique.{Largest}
 use Rattle.happy.specs.Happy.{happySet}
 use Rattle.lists.specs.Choices.{count}
 use Rattle.parties.specs.Parties.{sizes, isParty, parties, member, entry}
+use Rattle.tables.specs.Tables.{Stations}
 use Rattle.dealer.specs.Desk as desks
 use Rattle.answers.specs.declared.Stage.{Stage}
 use Rattle.answers.specs.declared.Stage.the-variants.{Holding, Closed}
@@ -30,7 +32,7 @@ use Rattle.answers.specs.declared.Answer.{Answer}
 use Rattle.answers.specs.Answers.{numberOf, valuesOf}
 use Rattle.consistency.specs.Deal.{firstFrom, secondFrom}
 use Rattle.lamp.specs.Lamp.{Call, takeDeal, sayPair, hearPairs, settle, openShares}
-use Rattle.agreement.specs.Setting.{Setting, setting, width, point, valueOf, rowFor, columnFor, deskFor}
+use Rattle.agreement.specs.Setting.{Setting, setting, withTable, width, point, valueOf, rowFor, columnFor, deskFor}
 use Rattle.agreement.specs.Setting.{dealtRow, dealtColumn, pairBy, reportBy, lampAt, replyAt, answerAt}
 use Rattle.agreement.specs.Calls.{Run, toDeal, toPairs, toReports, whole, sinceDeal, sinceSettling, At, Begins, Never}
 use Rattle.agreement.specs.Calls.{isDeal, isHearing, isSettling, moves}
@@ -42,12 +44,19 @@ Gives a vs = (numberOf a ≡ none) × (valuesOf a ≡ vs)
 abbrev pub Refuses : Answer → ℕ → Type 0
 Refuses a k = numberOf a ≡ some k
 
--- Which lamps are honest, the calls of each, the same taken apart, and the reports that all see.
+-- Which lamps are honest, the table that each was made with (1 to n where it loaded none), the calls of each, the same taken apart, and
+-- the reports that all see.
 pub record Execution : Type 0 where
   pub honest : ℕ → Bool
+  pub tables : ℕ → List ℕ
   pub calls : ℕ → List Call
   pub run : ℕ → Run
   pub seen : List ℕ
+
+-- (For the conclusions.) The call c of lamp i, after the calls xs, is refused with 3, 4 or 7, and nothing is changed.
+pub record Stray (s : Setting) (i : ℕ) (xs : List Call) (c : Call) : Type 0 where
+  pub unchanged : replyAt s i xs c .lamp ≡ lampAt s i xs
+  pub refused : Refuses (answerAt s i xs c) 3 ⊎ Refuses (answerAt s i xs c) 4 ⊎ Refuses (answerAt s i xs c) 7
 
 module _ (s : Setting) where
   -- ---- PREMISES
@@ -63,11 +72,6 @@ module _ (s : Setting) where
     pub reports-length : length (r .itsReports) ≡ s .n
     pub reports-own : entry (r .itsReports) i ≡ reportBy s i (r .itsDeal) (r .itsPairs)
     pub reports-first : Never (isSettling s i (reportBy s i (r .itsDeal) (r .itsPairs))) (r .beforeReports)
-
-  -- (For the conclusions.) The call c of lamp i, after the calls xs, is refused with 3, 4 or 7, and nothing is changed.
-  pub record Stray (i : ℕ) (xs : List Call) (c : Call) : Type 0 where
-    pub unchanged : replyAt s i xs c .lamp ≡ lampAt s i xs
-    pub refused : Refuses (answerAt s i xs c) 3 ⊎ Refuses (answerAt s i xs c) 4 ⊎ Refuses (answerAt s i xs c) 7
 
   module _ (e : Execution) where
     -- Lamp i is one of the honest ones.
@@ -86,7 +90,7 @@ module _ (s : Setting) where
     abbrev pub SameReports : Type 0
     SameReports = (i : ℕ) → Honest i → e .run i .itsReports ≡ e .seen
 
-    -- All that demand 3 supposes: at most t lamps are faulty, and the lists of the others are as above.
+    -- The protocol's premises: at most t lamps are faulty, and the lists of the others are as above.
     pub record Premises : Type 0 where
       pub size : sizes (s .n) (s .t) ≡ true
       pub few : count (λ i. not (e .honest i)) (parties (s .n)) ≤ s .t
@@ -94,19 +98,32 @@ module _ (s : Setting) where
       pub hear : HearEachOther
       pub same : SameReports
 
-    -- "each honest lamp's deal is its stretch as the desk writes it for a list that the desk does not refuse"
+    -- "agreement of honest lamps has the further premise that all of them .. loaded the same one": the setting's, which is a table.
+    pub record OneTable : Type 0 where
+      pub table : Stations (s .p) (s .n) (s .table)
+      pub loaded : (i : ℕ) → Honest i → e .tables i ≡ s .table
+
+    -- "each honest lamp's deal is its stretch as the desk writes it for a list that the desk does not refuse"; "and a dealer counted as
+    -- honest, loaded the same" table.
     pub record HonestDealer (F : List ℕ) : Type 0 where
+      pub table : List ℕ
+      pub loaded : table ≡ s .table
       pub lent : List ℕ
-      pub written : desks.dealingNumber (deskFor s F lent .1) ≡ none
-      pub deals : (i : ℕ) → Honest i → e .run i .itsDeal ≡ desks.stretch (width s) (deskFor s F lent .0) i
+      pub written : desks.dealingNumber (deskFor (withTable s table) F lent .1) ≡ none
+      pub deals : (i : ℕ) → Honest i → e .run i .itsDeal ≡ desks.stretch (width s) (deskFor (withTable s table) F lent .0) i
 
     -- ---- CONCLUSIONS
 
+    -- The setting as lamp i has it, with the table that it loaded.
+    abbrev pub own : ℕ → Setting
+    own i = withTable s (e .tables i)
+
     -- Lamp j's share, at the end of its list.
     abbrev pub shareOf : ℕ → ℕ
-    shareOf j = lampAt s j (e .calls j) .sharing .share
+    shareOf j = lampAt (own j) j (e .calls j) .sharing .share
 
-    module _ (i : ℕ) where
+    -- What is concluded of lamp i, o being the setting as it has it.
+    module _ (o : Setting) (i : ℕ) where
       -- Its list of calls, taken apart.
       abbrev r : Run
       r = e .run i
@@ -114,32 +131,32 @@ module _ (s : Setting) where
       -- The pair is answered at every saying from the deal on, the report is given out, and all other calls to deal, hear or settle are
       -- stray.
       pub record Speaks : Type 0 where
-        pub takes : Gives (answerAt s i (toDeal r) (takeDeal (r .itsDeal))) []
+        pub takes : Gives (answerAt o i (toDeal r) (takeDeal (r .itsDeal))) []
         pub says : (xs : List Call) (j : ℕ) → isParty (s .n) j ≡ true → At (e .calls i) (sinceDeal r xs) (sayPair j)
-            → Gives (answerAt s i (sinceDeal r xs) (sayPair j)) (pairBy s i (r .itsDeal) j .0 ∷ pairBy s i (r .itsDeal) j .1 ∷ [])
-        pub reports : Gives (answerAt s i (toPairs r) (hearPairs (r .itsPairs))) (reportBy s i (r .itsDeal) (r .itsPairs) ∷ [])
+            → Gives (answerAt o i (sinceDeal r xs) (sayPair j)) (pairBy s i (r .itsDeal) j .0 ∷ pairBy s i (r .itsDeal) j .1 ∷ [])
+        pub reports : Gives (answerAt o i (toPairs r) (hearPairs (r .itsPairs))) (reportBy s i (r .itsDeal) (r .itsPairs) ∷ [])
         pub others : (xs : List Call) (c : Call) → At (e .calls i) xs c → moves c ≡ true
-            → (xs ≡ toDeal r → ⊥) → (xs ≡ toPairs r → ⊥) → (xs ≡ toReports r → ⊥) → Stray i xs c
+            → (xs ≡ toDeal r → ⊥) → (xs ≡ toPairs r → ⊥) → (xs ≡ toReports r → ⊥) → Stray o i xs c
 
       -- From settling to the end of the list the lamp has this stage, happy set and share.
       pub record Stays (stage : Stage) (S v : ℕ) : Type 0 where
-        pub stages : (xs : List Call) → Begins (e .calls i) (sinceSettling r xs) → lampAt s i (sinceSettling r xs) .sharing .stage ≡ stage
-        pub sets : (xs : List Call) → Begins (e .calls i) (sinceSettling r xs) → lampAt s i (sinceSettling r xs) .sharing .happy ≡ S
-        pub shares : (xs : List Call) → Begins (e .calls i) (sinceSettling r xs) → lampAt s i (sinceSettling r xs) .sharing .share ≡ v
+        pub stages : (xs : List Call) → Begins (e .calls i) (sinceSettling r xs) → lampAt o i (sinceSettling r xs) .sharing .stage ≡ stage
+        pub sets : (xs : List Call) → Begins (e .calls i) (sinceSettling r xs) → lampAt o i (sinceSettling r xs) .sharing .happy ≡ S
+        pub shares : (xs : List Call) → Begins (e .calls i) (sinceSettling r xs) → lampAt o i (sinceSettling r xs) .sharing .share ≡ v
 
       -- Settling gives 8, and the lamp stays closed, with the empty set and share 0.
       pub record Rejects : Type 0 where
-        pub answered : Refuses (answerAt s i (toReports r) (settle (r .itsReports))) 8
+        pub answered : Refuses (answerAt o i (toReports r) (settle (r .itsReports))) 8
         pub stays : Stays Closed 0 0
 
       -- Settling accepts; the lamp stays holding, with the happy set and F(i, 0); and every opening of n numbers in which each other
       -- honest lamp's place holds that lamp's share answers F(0, 0).
       pub record Accepts (F : List ℕ) : Type 0 where
-        pub answered : Gives (answerAt s i (toReports r) (settle (r .itsReports))) []
+        pub answered : Gives (answerAt o i (toReports r) (settle (r .itsReports))) []
         pub stays : Stays Holding (happySet (e .seen)) (valueOf s F (point s i) 0)
         pub opens : (xs : List Call) (ys : List ℕ) → At (e .calls i) (sinceSettling r xs) (openShares ys) → length ys ≡ s .n
             → ((j : ℕ) → Honest j → (j ≡ i → ⊥) → entry ys j ≡ shareOf j)
-            → Gives (answerAt s i (sinceSettling r xs) (openShares ys)) (valueOf s F 0 0 ∷ [])
+            → Gives (answerAt o i (sinceSettling r xs) (openShares ys)) (valueOf s F 0 0 ∷ [])
 
     -- F has (t + 1)² coefficients below p, and every honest happy lamp's row and column, as dealt, lie on it.
     pub record OnF (F : List ℕ) : Type 0 where
@@ -149,21 +166,23 @@ module _ (s : Setting) where
 
     -- Every honest lamp rejects the dealer.
     abbrev pub AllReject : Type 0
-    AllReject = (i : ℕ) → Honest i → Rejects i
+    AllReject = (i : ℕ) → Honest i → Rejects (own i) i
 
     -- Exactly this F, and every honest lamp accepts with it; the happy set is the one of step 4.
     pub record AllAccept (F : List ℕ) : Type 0 where
       pub set-right : Largest (agree (e .seen)) (s .n) (happySet (e .seen))
       pub on : OnF F
       pub only : (G : List ℕ) → OnF G → G ≡ F
-      pub hold : (i : ℕ) → Honest i → Accepts i F
+      pub hold : (i : ℕ) → Honest i → Accepts (own i) i F
 
     -- One verdict; an honest dealer is accepted, with F its own, and F(0, 0) is its secret, the number at place 0.
     pub record Conclusions : Type 0 where
-      pub speak : (i : ℕ) → Honest i → Speaks i
+      pub speak : (i : ℕ) → Honest i → Speaks (own i) i
       pub one-verdict : AllReject ⊎ ((F : List ℕ) × AllAccept F)
       pub dealer : (F : List ℕ) → HonestDealer F → AllAccept F × (valueOf s F 0 0 ≡ getD F 0 0)
 
--- DEMAND 3, for arithmetic modulo p.
+-- DEMAND 3, for arithmetic modulo p, with any table.
 unfoldable pub Demand3 : ℕ → Type 0
-Demand3 p = (n t : ℕ) (e : Execution) → Premises (setting p n t) e → Conclusions (setting p n t) e
+Demand3 p =
+    (n t : ℕ) (T : List ℕ) (e : Execution)
+    → Premises (setting p n t T) e → OneTable (setting p n t T) e → Conclusions (setting p n t T) e

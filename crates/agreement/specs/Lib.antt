@@ -5,3 +5,5 @@ pub mod Demand1
 pub mod Demand3
 pub mod Marked
 pub mod Stories
+pub mod Plain
+pub mod Harbour

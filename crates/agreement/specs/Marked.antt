@@ -12,7 +12,8 @@ use lib.Dec.{eqb}
 use lib.ListN.{replicate}
 use Rattle.lists.specs.Tabulate.{pad}
 use Rattle.polynomial.specs.Polynomial.{value}
-use Rattle.parties.specs.Parties.{pointOf, entry}
+use Rattle.parties.specs.Parties.{entry}
+use Rattle.tables.specs.Tables.{pointAt, oneTo, inArray}
 use Rattle.dealer.specs.Desk as desks
 use Rattle.answers.specs.declared.Stage.the-variants.{Reported, Holding}
 use Rattle.answers.specs.declared.Answer.{Answer}
@@ -59,7 +60,7 @@ pub data Case : Type 0 where
 -- A lamp that holds the share v, and one that was dealt a column, heard these first numbers and reported r.
 abbrev pub holder : ℕ → ℕ → ℕ → ℕ → Lamp
 holder n t i v = record {
-  party = record { n = n; t = t; number = i };
+  party = record { n = n; t = t; number = i; table = inArray n (oneTo n) };
   sharing = record {
     stage = Holding;
     row = replicate 4 0;
@@ -73,7 +74,7 @@ holder n t i v = record {
 
 abbrev pub reporter : ℕ → List ℕ → List ℕ → ℕ → Lamp
 reporter i column heard r = record {
-  party = record { n = 5; t = 1; number = i };
+  party = record { n = 5; t = 1; number = i; table = inArray 5 (oneTo 5) };
   sharing = record {
     stage = Reported;
     row = replicate 4 0;
@@ -104,11 +105,11 @@ holds p (settling i column heard rs number set share stage) =
 holds p (playing i d hs rs number set share stage) =
     leaves (step p (after p (made 5 1 i) (takeDeal d ∷ hearPairs hs ∷ [])) (settle rs)) number set share stage
 holds p (sizing n t number) =
-    sameNumber (numberOf (make n t 1 .answer)) number
+    sameNumber (numberOf (make p n t 1 .answer)) number
     && sameNumber (desks.dealingNumber (desks.desk p n t (replicate (suc t * suc t) 0) (replicate (n * (2 * suc t)) 0) .1)) number
 holds p (refusing F number) = sameNumber (desks.dealingNumber (desks.desk p 5 1 F (replicate 20 0) .1)) number
-holds p (crossing i row column ok) = Bool·beq (sound p i row column) ok
-holds p (meeting i row j column) = eqb (value p row (pointOf j)) (value p column (pointOf i))
+holds p (crossing i row column ok) = Bool·beq (sound p (oneTo 5) i row column) ok
+holds p (meeting i row j column) = eqb (value p row (pointAt (oneTo 5) j)) (value p column (pointAt (oneTo 5) i))
 holds p (answering i cs c number values) = answers (step p (after p (made 5 1 i) cs) c .answer) number values
 
 -- All cases of a list hold.

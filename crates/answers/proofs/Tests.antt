@@ -2,9 +2,10 @@
 --   alsoAll       tests asked one after the other, as code asks them; in-order: that is the lowest refusal
 --   AllPass       every test passes; lowest-pass: where none is refused they do
 --   also-failed, also-fails   the two ways to fail
-use mathlib.Core.Path.{_≡_, refl}
+--   lowest-first, lowest-then   the tests of two lists: the first of them settles it, or all of them pass; lowest-also: one test more
+use mathlib.Core.Path.{_≡_, refl, sym}
 use mathlib.Core.Bool.{Bool, true, false}
-use mathlib.Core.List.{List, [], _∷_}
+use mathlib.Core.List.{List, [], _∷_, _++_}
 use Prim.Native.Nat.{ℕ}
 use native.Mathlib.Omega.{arith}
 use Rattle.answers.specs.declared.Refusal.{Refusal}
@@ -45,3 +46,20 @@ pub lowest-pass : (tests : List Test) → lowest tests ≡ Pass → AllPass test
 lowest-pass [] e = tt
 lowest-pass ((true, w) ∷ tests) e = (refl, lowest-pass tests e)
 lowest-pass ((false, w) ∷ tests) e = fail-pass e
+
+-- ---- one list of tests behind another
+pub lowest-first : (first more : List Test) {why : Refusal} → lowest first ≡ Fail why → lowest (first ++ more) ≡ Fail why
+lowest-first [] more e = fail-pass (sym e)
+lowest-first ((true, w) ∷ first) more e = lowest-first first more e
+lowest-first ((false, w) ∷ first) more e = e
+
+pub lowest-then : (first more : List Test) → lowest first ≡ Pass → lowest (first ++ more) ≡ lowest more
+lowest-then [] more e = refl
+lowest-then ((true, w) ∷ first) more e = lowest-then first more e
+lowest-then ((false, w) ∷ first) more e = fail-pass e
+
+-- And one test behind a list.
+pub lowest-also : (first : List Test) (pass : Bool) (why : Refusal) → lowest (first ++ (pass, why) ∷ []) ≡ also (lowest first) pass why
+lowest-also [] pass why = refl
+lowest-also ((true, w) ∷ first) pass why = lowest-also first pass why
+lowest-also ((false, w) ∷ first) pass why = refl

@@ -17,6 +17,7 @@ pub enum Refusal {
     DealerRejected,
     NoColumn,
     NoOpening,
+    WrongTable,
 }
 
 // Whether a call is admitted.
@@ -77,6 +78,7 @@ pub fn refusal_number(why: Refusal) -> u8
         Refusal::DealerRejected => 8,
         Refusal::NoColumn => 9,
         Refusal::NoOpening => 10,
+        Refusal::WrongTable => 14,
     }
 }
 

@@ -1,12 +1,12 @@
 -- What follows from a party's deal: whether it is sound, the pairs it says, the report it gives.
 --   rowOf t d, columnOf t d         row and column in a deal of 2(t + 1) numbers
 --   firstFrom hs j, secondFrom hs j   the two numbers heard from party j, in a list of n pairs
---   sound p i row column            the deal is sound (docs/PROTOCOL.md, "A lamp")
---   pairFor p i row column j        party i's pair for j
+--   sound p T i row column          the deal is sound (docs/PROTOCOL.md, "A lamp"), by party i's point in the table T
+--   pairFor p T i row column j      party i's pair for j
 --   said q                          a pair as the code answers it
---   confirms p i row column hs j    party i has a one for j
---   reportOf p n i row column hs    party i's report
---   reportIn p n i row column hs    the same for every input: noReport, which no party reports, where it cannot be made
+--   confirms p T i row column hs j  party i has a one for j
+--   reportOf p n T i row column hs  party i's report
+--   reportIn p n T i row column hs  the same for every input: noReport, which no party reports, where it cannot be made
 -- Laws: proofs/Reports.
 use mathlib.Core.Bool.{Bool, cond, not, _&&_}
 use mathlib.Core.List.{List}
@@ -15,7 +15,8 @@ use lib.Dec.{eqb, leb}
 use lib.ListN.{length, take, drop, getD}
 use Rattle.lists.specs.Masks.{mask}
 use Rattle.polynomial.specs.Polynomial.{residues, value}
-use Rattle.parties.specs.Parties.{isParty, pointOf, notSent}
+use Rattle.parties.specs.Parties.{isParty, notSent}
+use Rattle.tables.specs.Tables.{pointAt}
 use Rattle.consistency.specs.declared.Pair.{Pair}
 
 -- The row comes first in a deal, the column behind it.
@@ -32,35 +33,35 @@ firstFrom hs j = getD hs (2 * (j - 1)) 0
 abbrev pub secondFrom : List ℕ → ℕ → ℕ
 secondFrom hs j = getD hs (2 * (j - 1) + 1) 0
 
--- "every number is below 65,521 and the row at i equals the column at i"
-unfoldable pub sound : ℕ → ℕ → List ℕ → List ℕ → Bool
-sound p i row column = residues p row && residues p column && eqb (value p row (pointOf i)) (value p column (pointOf i))
+-- "every number is below 65,521 and the row at i equals the column at i", i standing for party i's point
+unfoldable pub sound : ℕ → List ℕ → ℕ → List ℕ → List ℕ → Bool
+sound p T i row column = residues p row && residues p column && eqb (value p row (pointAt T i)) (value p column (pointAt T i))
 
 -- "row at j, column at j"; "for itself, or with an unsound deal, both numbers are 65,535"
-unfoldable pub pairFor : ℕ → ℕ → List ℕ → List ℕ → ℕ → ℕ × ℕ
-pairFor p i row column j =
-    cond (not (eqb i j) && sound p i row column) (value p row (pointOf j), value p column (pointOf j)) (notSent p, notSent p)
+unfoldable pub pairFor : ℕ → List ℕ → ℕ → List ℕ → List ℕ → ℕ → ℕ × ℕ
+pairFor p T i row column j =
+    cond (not (eqb i j) && sound p T i row column) (value p row (pointAt T j), value p column (pointAt T j)) (notSent p, notSent p)
 
 -- A pair as the code answers it.
 abbrev pub said : ℕ × ℕ → Pair
 said q = record { first = q .0; second = q .1 }
 
 -- "j is another lamp, its deal is sound, j's first number equals its column at j, and j's second equals its row at j"
-unfoldable pub confirms : ℕ → ℕ → List ℕ → List ℕ → List ℕ → ℕ → Bool
-confirms p i row column hs j =
-    not (eqb i j) && sound p i row column
-    && eqb (firstFrom hs j) (value p column (pointOf j)) && eqb (secondFrom hs j) (value p row (pointOf j))
+unfoldable pub confirms : ℕ → List ℕ → ℕ → List ℕ → List ℕ → List ℕ → ℕ → Bool
+confirms p T i row column hs j =
+    not (eqb i j) && sound p T i row column
+    && eqb (firstFrom hs j) (value p column (pointAt T j)) && eqb (secondFrom hs j) (value p row (pointAt T j))
 
 -- Bit j − 1 for party j.
-unfoldable pub reportOf : ℕ → ℕ → ℕ → List ℕ → List ℕ → List ℕ → ℕ
-reportOf p n i row column hs = mask (λ k. confirms p i row column hs (suc k)) n
+unfoldable pub reportOf : ℕ → ℕ → List ℕ → ℕ → List ℕ → List ℕ → List ℕ → ℕ
+reportOf p n T i row column hs = mask (λ k. confirms p T i row column hs (suc k)) n
 
 -- All sixteen ones, so one for the party itself: no report of a party.
 abbrev pub noReport : ℕ
 noReport = 65535
 
 -- A report has sixteen bits, and its party is one of n; a list that does not hold n pairs is not reported on.
-unfoldable pub reportIn : ℕ → ℕ → ℕ → List ℕ → List ℕ → List ℕ → ℕ
-reportIn p n i row column hs =
-    let given = reportOf p n i row column hs in
+unfoldable pub reportIn : ℕ → ℕ → List ℕ → ℕ → List ℕ → List ℕ → List ℕ → ℕ
+reportIn p n T i row column hs =
+    let given = reportOf p n T i row column hs in
     cond (leb n 16 && isParty n i && eqb (length hs) (2 * n)) given noReport

@@ -15,9 +15,9 @@ pub struct Pair {
     pub second: u16,
 }
 
-// Whether party i's deal is sound: residues, and row and column meet at its own point.
-pub fn sound(i: u8, row: &[u16], column: &[u16]) -> bool
-    ensures { λ r. ⌜ r ≡ sound modulus i (now (row .entry)) (now (column .entry)) ⌝ }
+// Whether party i's deal is sound: residues, and row and column meet at its own point, which the table has.
+pub fn sound(table: &[u16], i: u8, row: &[u16], column: &[u16]) -> bool
+    ensures { λ r. ⌜ r ≡ sound modulus (now (table .entry)) i (now (row .entry)) (now (column .entry)) ⌝ }
 {
     if !polynomial::residues(row) {
         return false;
@@ -25,13 +25,13 @@ pub fn sound(i: u8, row: &[u16], column: &[u16]) -> bool
     if !polynomial::residues(column) {
         return false;
     }
-    let point = parties::point(i);
+    let point = tables::point_at(table, i);
     polynomial::value(row, point) == polynomial::value(column, point)
 }
 
 // Party i's pair for party j: for itself, or with an unsound deal, nothing is sent.
-pub fn pair_for(i: u8, row: &[u16], column: &[u16], j: u8) -> Pair
-    ensures { λ r. ⌜ r ≡ said (pairFor modulus i (now (row .entry)) (now (column .entry)) j) ⌝ }
+pub fn pair_for(table: &[u16], i: u8, row: &[u16], column: &[u16], j: u8) -> Pair
+    ensures { λ r. ⌜ r ≡ said (pairFor modulus (now (table .entry)) i (now (row .entry)) (now (column .entry)) j) ⌝ }
 {
     if j == i {
         return Pair {
@@ -39,28 +39,28 @@ pub fn pair_for(i: u8, row: &[u16], column: &[u16], j: u8) -> Pair
             second: parties::NOT_SENT,
         };
     }
-    if !sound(i, row, column) {
+    if !sound(table, i, row, column) {
         return Pair {
             first: parties::NOT_SENT,
             second: parties::NOT_SENT,
         };
     }
-    let point = parties::point(j);
+    let point = tables::point_at(table, j);
     let first = polynomial::value(row, point);
     let second = polynomial::value(column, point);
     Pair { first, second }
 }
 
 // Whether party i, whose deal is sound, has a one for party j.
-fn confirms(i: u8, row: &[u16], column: &[u16], pairs: &[u16], j: u8) -> bool
-    requires { ⌜ (1 ≤ j) × (2 * j ≤ length (now pairs)) × (sound modulus i (now row) (now column) ≡ true) ⌝ }
-    ensures { λ r. ⌜ r ≡ confirms modulus i (now (row .entry)) (now (column .entry)) (now (pairs .entry)) j ⌝ }
+fn confirms(table: &[u16], i: u8, row: &[u16], column: &[u16], pairs: &[u16], j: u8) -> bool
+    requires { ⌜ (1 ≤ j) × (2 * j ≤ length (now pairs)) × (sound modulus (now table) i (now row) (now column) ≡ true) ⌝ }
+    ensures { λ r. ⌜ r ≡ confirms modulus (now (table .entry)) i (now (row .entry)) (now (column .entry)) (now (pairs .entry)) j ⌝ }
 {
     if i == j {
         return false;
     }
     let at = 2 * (j as usize - 1);
-    let point = parties::point(j);
+    let point = tables::point_at(table, j);
     if pairs[at] != polynomial::value(column, point) {
         return false;
     }
@@ -68,14 +68,14 @@ fn confirms(i: u8, row: &[u16], column: &[u16], pairs: &[u16], j: u8) -> bool
 }
 
 // The parties that party i, whose deal is sound, has a one for.
-fn confirmed(n: u8, i: u8, row: &[u16], column: &[u16], pairs: &[u16]) -> u16
-    requires { ⌜ (n ≤ 16) × (length (now pairs) ≡ 2 * n) × (sound modulus i (now row) (now column) ≡ true) ⌝ }
-    ensures { λ r. ⌜ r ≡ reportOf modulus n i (now (row .entry)) (now (column .entry)) (now (pairs .entry)) ⌝ }
+fn confirmed(n: u8, table: &[u16], i: u8, row: &[u16], column: &[u16], pairs: &[u16]) -> u16
+    requires { ⌜ (n ≤ 16) × (length (now pairs) ≡ 2 * n) × (sound modulus (now table) i (now row) (now column) ≡ true) ⌝ }
+    ensures { λ r. ⌜ r ≡ reportOf modulus n (now (table .entry)) i (now (row .entry)) (now (column .entry)) (now (pairs .entry)) ⌝ }
 {
     let mut bits: u16 = 0;
     for k in 0..n {
         let j = k + 1;
-        if confirms(i, row, column, pairs, j) {
+        if confirms(table, i, row, column, pairs, j) {
             bits += 1u16 << k;
         }
     }
@@ -84,8 +84,8 @@ fn confirmed(n: u8, i: u8, row: &[u16], column: &[u16], pairs: &[u16]) -> u16
 
 // Party i's report on n pairs: with an unsound deal it has a one for nobody. Where i is none of n parties, these are more than the report
 // has bits, or other than n pairs are told, there is no report.
-pub fn report(n: u8, i: u8, row: &[u16], column: &[u16], pairs: &[u16]) -> u16
-    ensures { λ r. ⌜ r ≡ reportIn modulus n i (now (row .entry)) (now (column .entry)) (now (pairs .entry)) ⌝ }
+pub fn report(n: u8, table: &[u16], i: u8, row: &[u16], column: &[u16], pairs: &[u16]) -> u16
+    ensures { λ r. ⌜ r ≡ reportIn modulus n (now (table .entry)) i (now (row .entry)) (now (column .entry)) (now (pairs .entry)) ⌝ }
 {
     if 16 < n {
         return NO_REPORT;
@@ -96,8 +96,8 @@ pub fn report(n: u8, i: u8, row: &[u16], column: &[u16], pairs: &[u16]) -> u16
     if pairs.len() != 2 * n as usize {
         return NO_REPORT;
     }
-    if !sound(i, row, column) {
+    if !sound(table, i, row, column) {
         return 0;
     }
-    confirmed(n, i, row, column, pairs)
+    confirmed(n, table, i, row, column, pairs)
 }

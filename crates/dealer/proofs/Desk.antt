@@ -3,7 +3,7 @@ use mathlib.Core.Path.{_≡_, refl, sym, ap, ap₂, _∙_}
 use mathlib.Core.Logic.{⊎-elim}
 use mathlib.Core.Bool.{true}
 use mathlib.Core.Option.{none}
-use mathlib.Core.List.{List}
+use mathlib.Core.List.{List, [], _∷_, _++_}
 use Prim.Native.Nat.{ℕ, zero, suc, _+_, _*_, _-_, _<_, _≤_}
 use native.Mathlib.Nat.{mul-le-mul-right, eq-or-lt-of-le, le-of-suc-le-suc}
 use native.Mathlib.Omega.{arith}
@@ -11,67 +11,71 @@ use lib.ListN.{length, take, drop, length-append}
 use lib.Seq.{take-at, drop-at, take-all}
 use borrow.Author.Tests.{eqb-true, eq-eqb}
 use Rattle.lists.proofs.InPlace.{part-in-front}
-use Rattle.polynomial.specs.Polynomial.{Residues}
+use Rattle.polynomial.specs.Polynomial.{Residues, residues}
 use Rattle.polynomial.proofs.Below.{residues-facts, residues-true}
 use Rattle.bivariate.specs.Bivariate.{row, column}
 use Rattle.bivariate.proofs.Crossing.{length-row, length-column}
-use Rattle.parties.specs.Parties.{sizes, pointOf}
+use Rattle.parties.specs.Parties.{sizes}
+use Rattle.parties.proofs.Parties.{sizes-facts}
+use Rattle.tables.specs.Tables.{pointAt, oneTo, Stations, tableTests}
+use Rattle.tables.proofs.Tables.{table-facts, table-true, tests-pass, one-to-table}
 use Rattle.answers.specs.declared.Refusal.{Refusal}
+use Rattle.answers.specs.declared.Refusal.the-variants.{NotResidue}
 use Rattle.answers.specs.declared.Admission.{Admission}
 use Rattle.answers.specs.declared.Admission.the-variants.{Pass, Fail}
-use Rattle.answers.specs.Refusals.{lowest}
-use Rattle.answers.proofs.Tests.{lowest-pass}
-use Rattle.dealer.specs.Desk.{deal, deals, stretch, deskTests, dealingNumber, dealtBy, desk}
+use Rattle.answers.specs.Refusals.{Test, lowest, also}
+use Rattle.answers.proofs.Tests.{lowest-pass, lowest-first, lowest-then, lowest-also}
+use Rattle.dealer.specs.Desk.{deal, deals, stretch, sizeTests, deskTests, dealingNumber, dealtBy, deskWith}
 use Rattle.dealer.specs.declared.Dealing.{Dealing}
 use Rattle.dealer.specs.declared.Dealing.the-variants.{Written, Refused}
 
 -- ---- The deals
 
-module _ (p w : ℕ) (F : List ℕ) where
+module _ (p w : ℕ) (T F : List ℕ) where
   -- A deal taken apart.
-  pub take-deal : (i : ℕ) → take w (deal p w F i) ≡ row p w w F (pointOf i)
+  pub take-deal : (i : ℕ) → take w (deal p w T F i) ≡ row p w w F (pointAt T i)
   unfolding deal
-  take-deal i = take-at (row p w w F (pointOf i)) (column p w w F (pointOf i)) w (length-row p w w F (pointOf i))
+  take-deal i = take-at (row p w w F (pointAt T i)) (column p w w F (pointAt T i)) w (length-row p w w F (pointAt T i))
 
-  pub drop-deal : (i : ℕ) → drop w (deal p w F i) ≡ column p w w F (pointOf i)
+  pub drop-deal : (i : ℕ) → drop w (deal p w T F i) ≡ column p w w F (pointAt T i)
   unfolding deal
-  drop-deal i = drop-at (row p w w F (pointOf i)) (column p w w F (pointOf i)) w (length-row p w w F (pointOf i))
+  drop-deal i = drop-at (row p w w F (pointAt T i)) (column p w w F (pointAt T i)) w (length-row p w w F (pointAt T i))
 
   module _ (square : length F ≡ w * w) where
-    pub length-deal : (i : ℕ) → length (deal p w F i) ≡ 2 * w
+    pub length-deal : (i : ℕ) → length (deal p w T F i) ≡ 2 * w
     unfolding deal
     length-deal i =
-        length-append (row p w w F (pointOf i)) (column p w w F (pointOf i))
-        ∙ ap₂ _+_ (length-row p w w F (pointOf i)) (length-column p w w F (pointOf i) square)
+        length-append (row p w w F (pointAt T i)) (column p w w F (pointAt T i))
+        ∙ ap₂ _+_ (length-row p w w F (pointAt T i)) (length-column p w w F (pointAt T i) square)
         ∙ omega arith
 
-    pub length-deals : (n : ℕ) → length (deals p w F n) ≡ n * (2 * w)
+    pub length-deals : (n : ℕ) → length (deals p w T F n) ≡ n * (2 * w)
     unfolding deals
     length-deals zero = omega arith
     length-deals (suc n) =
-        length-append (deals p w F n) _ ∙ ap₂ _+_ (length-deals n) (length-deal _) ∙ omega arith
+        length-append (deals p w T F n) _ ∙ ap₂ _+_ (length-deals n) (length-deal _) ∙ omega arith
 
-    place : (n k : ℕ) → k < n → take (2 * w) (drop (k * (2 * w)) (deals p w F n)) ≡ deal p w F (suc k)
+    place : (n k : ℕ) → k < n → take (2 * w) (drop (k * (2 * w)) (deals p w T F n)) ≡ deal p w T F (suc k)
     unfolding deals
     place zero k h = absurd (omega arith)
     place (suc n) k h =
-        let new : List ℕ = deal p w F (suc n) in
+        let new : List ℕ = deal p w T F (suc n) in
         ⊎-elim
         (λ (e : k ≡ n).
-        ap (λ z. take (2 * w) z) (drop-at (deals p w F n) new (k * (2 * w)) (length-deals n ∙ ap (λ z. z * (2 * w)) (sym e)))
+        ap (λ z. take (2 * w) z) (drop-at (deals p w T F n) new (k * (2 * w)) (length-deals n ∙ ap (λ z. z * (2 * w)) (sym e)))
         ∙ take-all (2 * w) new (omega (arith, length-deal (suc n)))
-        ∙ ap (λ z. deal p w F (suc z)) (sym e))
+        ∙ ap (λ z. deal p w T F (suc z)) (sym e))
         (λ (l : k < n).
-        part-in-front (k * (2 * w)) (2 * w) (deals p w F n) new
+        part-in-front (k * (2 * w)) (2 * w) (deals p w T F n) new
         (omega (arith, length-deals n, mul-le-mul-right {m = suc k} {n = n} (2 * w) l))
         ∙ place n k l)
         (eq-or-lt-of-le (le-of-suc-le-suc h))
 
     -- Each party's own part is its deal.
-    pub deals-at : (n i : ℕ) → 1 ≤ i → i ≤ n → stretch w (deals p w F n) i ≡ deal p w F i
+    pub deals-at : (n i : ℕ) → 1 ≤ i → i ≤ n → stretch w (deals p w T F n) i ≡ deal p w T F i
     deals-at n i a b =
         let same : suc (i - 1) ≡ i = omega arith in
-        place n (i - 1) (omega arith) ∙ ap (deal p w F) same
+        place n (i - 1) (omega arith) ∙ ap (deal p w T F) same
 
 -- ---- The answer, and the list after it
 
@@ -87,53 +91,83 @@ module _ (new out : List ℕ) where
   dealt-refused e = rw e
 
 -- All tests pass: what that says.
-pub record Deals (p n t : ℕ) (F : List ℕ) (room : ℕ) : Type 0 where
+pub record Deals (p n t : ℕ) (T F : List ℕ) (room : ℕ) : Type 0 where
   pub size : sizes n t ≡ true
   pub square : length F ≡ suc t * suc t
   pub long : room ≡ n * (2 * suc t)
+  pub table : Stations p n T
   pub below : Residues p F
 
-pub desk-passed : (p n t : ℕ) (F : List ℕ) (room : ℕ) → lowest (deskTests p n t F room) ≡ Pass → Deals p n t F room
-desk-passed p n t F room e =
-    let all = lowest-pass (deskTests p n t F room) e in
+pub desk-passed : (p n t : ℕ) (T F : List ℕ) (room : ℕ) → lowest (deskTests p n t T F room) ≡ Pass → Deals p n t T F room
+desk-passed p n t T F room e =
+    let all = lowest-pass (deskTests p n t T F room) e in
     record {
       size = all .0;
       square = eqb-true _ _ (all .1 .0);
       long = eqb-true _ _ (all .1 .1 .0);
-      below = residues-facts p F (all .1 .1 .1 .0);
+      table = table-facts p n T (all .1 .1 .1 .1 .0);
+      below = residues-facts p F (all .1 .1 .1 .1 .1 .0);
     }
+
+-- ---- The tests, list by list
+module _ (p n t : ℕ) (T F : List ℕ) (room : ℕ) where
+  abbrev last : List Test
+  last = (residues p F, NotResidue) ∷ []
+
+  -- The first tests settle it.
+  pub sizes-fail : {why : Refusal} → lowest (sizeTests n t (length F) room) ≡ Fail why → Fail why ≡ lowest (deskTests p n t T F room)
+  sizes-fail e = sym (lowest-first (sizeTests n t (length F) room) (tableTests p n T ++ last) e)
+
+  -- Or those of the table and of the list do.
+  pub sizes-pass : lowest (sizeTests n t (length F) room) ≡ Pass
+      → also (lowest (tableTests p n T)) (residues p F) NotResidue ≡ lowest (deskTests p n t T F room)
+  sizes-pass e =
+      sym (lowest-also (tableTests p n T) (residues p F) NotResidue)
+      ∙ sym (lowest-then (sizeTests n t (length F) room) (tableTests p n T ++ last) e)
+
+-- 1 to n passes.
+pub plain-pass : (p n t : ℕ) (F : List ℕ) (room : ℕ) → 16 < p → lowest (sizeTests n t (length F) room) ≡ Pass
+    → also Pass (residues p F) NotResidue ≡ lowest (deskTests p n t (oneTo n) F room)
+plain-pass p n t F room big e =
+    let size = sizes-facts n t (lowest-pass (sizeTests n t (length F) room) e .0) in
+    let table = one-to-table p n (omega arith) in
+    ap (λ a. also a (residues p F) NotResidue)
+    (sym (tests-pass p n (oneTo n) table))
+    ∙ sizes-pass p n t (oneTo n) F room e
 
 -- ---- The desk
 
-module _ (p n t : ℕ) (F out : List ℕ) where
+module _ (p n t : ℕ) (T F out : List ℕ) where
   -- It writes exactly if all tests pass.
-  pub desk-written : dealingNumber (desk p n t F out .1) ≡ none → Deals p n t F (length out)
-  unfolding desk
-  desk-written e = desk-passed p n t F (length out) (dealt-none (deals p (suc t) F n) out _ e)
+  pub desk-written : dealingNumber (deskWith p n t T F out .1) ≡ none → Deals p n t T F (length out)
+  unfolding deskWith
+  desk-written e = desk-passed p n t T F (length out) (dealt-none (deals p (suc t) T F n) out _ e)
 
-  pub desk-writes : Deals p n t F (length out) → desk p n t F out ≡ (deals p (suc t) F n, Written)
-  unfolding desk
+  pub desk-writes : Deals p n t T F (length out) → deskWith p n t T F out ≡ (deals p (suc t) T F n, Written)
+  unfolding deskWith
   desk-writes d =
       rw (
         d .size,
         eq-eqb (length F) (suc t * suc t) (d .square),
         eq-eqb (length out) (n * (2 * suc t)) (d .long),
+        eq-eqb (length T) n (d .table .size),
+        table-true p n T (d .table),
         residues-true p F (d .below),
       )
 
   -- Then the list is the deals, each party's in its own part.
-  pub desk-list : dealingNumber (desk p n t F out .1) ≡ none → desk p n t F out .0 ≡ deals p (suc t) F n
+  pub desk-list : dealingNumber (deskWith p n t T F out .1) ≡ none → deskWith p n t T F out .0 ≡ deals p (suc t) T F n
   desk-list e = ap (λ (q : List ℕ × Dealing). q .0) (desk-writes (desk-written e))
 
-  pub desk-stretch : dealingNumber (desk p n t F out .1) ≡ none → (i : ℕ) → 1 ≤ i → i ≤ n
-      → stretch (suc t) (desk p n t F out .0) i ≡ deal p (suc t) F i
-  desk-stretch e i a b = ap (λ l. stretch (suc t) l i) (desk-list e) ∙ deals-at p (suc t) F (desk-written e .square) n i a b
+  pub desk-stretch : dealingNumber (deskWith p n t T F out .1) ≡ none → (i : ℕ) → 1 ≤ i → i ≤ n
+      → stretch (suc t) (deskWith p n t T F out .0) i ≡ deal p (suc t) T F i
+  desk-stretch e i a b = ap (λ l. stretch (suc t) l i) (desk-list e) ∙ deals-at p (suc t) T F (desk-written e .square) n i a b
 
   -- The desk by what its tests find.
-  pub desk-by-pass : lowest (deskTests p n t F (length out)) ≡ Pass → (deals p (suc t) F n, Written) ≡ desk p n t F out
-  unfolding desk
-  desk-by-pass e = dealt-written (deals p (suc t) F n) out e
+  pub desk-by-pass : lowest (deskTests p n t T F (length out)) ≡ Pass → (deals p (suc t) T F n, Written) ≡ deskWith p n t T F out
+  unfolding deskWith
+  desk-by-pass e = dealt-written (deals p (suc t) T F n) out e
 
-  pub desk-by-fail : (why : Refusal) → lowest (deskTests p n t F (length out)) ≡ Fail why → (out, Refused why) ≡ desk p n t F out
-  unfolding desk
-  desk-by-fail why e = dealt-refused (deals p (suc t) F n) out e
+  pub desk-by-fail : (why : Refusal) → lowest (deskTests p n t T F (length out)) ≡ Fail why → (out, Refused why) ≡ deskWith p n t T F out
+  unfolding deskWith
+  desk-by-fail why e = dealt-refused (deals p (suc t) T F n) out e

@@ -13,17 +13,17 @@ use Rattle.lists.proofs.InPlace.{lent-rest, put-rest}
 use Rattle.bivariate.specs.Bivariate.{row, column, rowIn, columnIn}
 use Rattle.bivariate.proofs.Lent.{row-in, column-in}
 use Rattle.bivariate.proofs.Crossing.{length-row}
-use Rattle.parties.specs.Parties.{pointOf}
+use Rattle.tables.specs.Tables.{pointAt}
 use Rattle.dealer.specs.Desk.{deal, deals}
 use Rattle.dealer.proofs.Desk.{length-deal}
 
 module _ (p : ℕ) where
-  module _ (w : ℕ) (F : List ℕ) where
+  module _ (w : ℕ) (T F : List ℕ) where
     -- ---- `write_deal`: f into the first w numbers, then g into those behind them
-    pub both-written : (i x : ℕ) (out f g : List ℕ) → x ≡ pointOf i → length F ≡ w * w → length out ≡ 2 * w
+    pub both-written : (i x : ℕ) (out f g : List ℕ) → x ≡ pointAt T i → length F ≡ w * w → length out ≡ 2 * w
         → f ≡ rowIn p F x (take w out)
         → g ≡ columnIn p F x (take (length (f ++ drop w out) - w) (drop w (f ++ drop w out)))
-        → putMid w (length (f ++ drop w out) - w) (f ++ drop w out) g ≡ deal p w F i
+        → putMid w (length (f ++ drop w out) - w) (f ++ drop w out) g ≡ deal p w T F i
     unfolding deal
     both-written i x out f g at square size ef eg =
         let front : length (take w out) ≡ w = length-take-le w out (omega arith) in
@@ -47,7 +47,7 @@ module _ (p : ℕ) where
       pub within : i ≤ n
       pub size : length out ≡ n * (2 * w)
       pub place : start ≡ i * (2 * w)
-      pub goal : take start out ≡ deals p w F i
+      pub goal : take start out ≡ deals p w T F i
 
     module _ (n : ℕ) (out : List ℕ) where
       pub deals-start : length F ≡ w * w → length out ≡ n * (2 * w) → DealsLoop n out 0 0
@@ -62,12 +62,12 @@ module _ (p : ℕ) where
         pub deals-part : i < n → length (take (start + 2 * w - start) (drop start out)) ≡ 2 * w
         deals-part h = mid-len start (start + 2 * w) out (deals-room h) ∙ omega arith
 
-        pub deals-next : (new : List ℕ) → i < n → new ≡ deal p w F (i + 1)
+        pub deals-next : (new : List ℕ) → i < n → new ≡ deal p w T F (i + 1)
             → DealsLoop n (putMid start (start + 2 * w - start) out new) (i + 1) (start + 2 * w)
         unfolding deals
         deals-next new h e =
             let rest : List ℕ = drop (start + 2 * w - start) (drop start out) in
-            let wide : length new ≡ 2 * w = ap length e ∙ length-deal p w F (k .square) (i + 1) in
+            let wide : length new ≡ 2 * w = ap length e ∙ length-deal p w T F (k .square) (i + 1) in
             let front : length (take start out) ≡ start = length-take-le start out (omega (arith, deals-room h)) in
             let both : length (take start out ++ new) ≡ start + 2 * w = length-append (take start out) new ∙ ap₂ _+_ front wide in
             record {
@@ -78,12 +78,12 @@ module _ (p : ℕ) where
               goal =
                   ap (take (start + 2 * w)) (sym (append-assoc (take start out) new rest))
                   ∙ take-at (take start out ++ new) rest (start + 2 * w) both
-                  ∙ ap₂ _++_ (k .goal) (e ∙ ap (deal p w F) (add-one i))
-                  ∙ ap (deals p w F) (sym (add-one i));
+                  ∙ ap₂ _++_ (k .goal) (e ∙ ap (deal p w T F) (add-one i))
+                  ∙ ap (deals p w T F) (sym (add-one i));
             }
 
-        pub deals-end : n ≤ i → out ≡ deals p w F n
+        pub deals-end : n ≤ i → out ≡ deals p w T F n
         deals-end h =
             let all : i ≡ n = omega (arith, k .within) in
             let last : length out ≡ start = k .size ∙ ap (λ z. z * (2 * w)) (sym all) ∙ sym (k .place) in
-            sym (take-all start out (omega arith)) ∙ k .goal ∙ ap (deals p w F) all
+            sym (take-all start out (omega arith)) ∙ k .goal ∙ ap (deals p w T F) all

@@ -1,10 +1,12 @@
 -- The lamp (docs/PROTOCOL.md, "A lamp"): one party's state and its calls, refused or not, at every state.
---   made n t i        the lamp as made
---   Sized l           its size and number are within the protocol's
---   Call, tests l c   a call, and what it is looked at for, in the order of the refusals' numbers
+--   madeWith n t i T  the lamp as made with the table T; made n t i: without one
+--   tableOf a         the points of a party a's lamps
+--   Valid p a         the party's size, number and table are the protocol's
+--   Call, tests p l c a call, and what it is looked at for, in the order of the refusals
 --   settled p l S     what settling with the happy set S gives
 --   outcome p l c     the reply to a call that no test refuses; step p l c: the reply to any call
 --   after p l cs      the lamp after a list of calls
+--   makeWith, make    the reply to a making, with a table and without
 -- Laws: proofs/Calls, proofs/Checks, proofs/Outcomes.
 use mathlib.Core.Path.{_≡_}
 use mathlib.Core.Bool.{Bool, true, cond, not}
@@ -17,13 +19,14 @@ use lib.ListN.{length, take, replicate}
 use Rattle.lists.specs.Tabulate.{tabulate, pad}
 use Rattle.happy.specs.Happy.{happySet}
 use Rattle.parties.specs.Parties.{sizes, isParty, member, entry}
+use Rattle.tables.specs.Tables.{oneTo, isTable, tableTests, inArray}
 use Rattle.consistency.specs.Deal.{rowOf, columnOf, firstFrom, pairFor, reportOf}
 use Rattle.recovery.specs.Recovery.{repair, openingWith}
 use Rattle.answers.specs.declared.Stage.{Stage}
 use Rattle.answers.specs.declared.Stage.the-variants.{Waiting, Dealt, Reported, Holding, Closed}
 use Rattle.answers.specs.declared.Refusal.{Refusal}
 use Rattle.answers.specs.declared.Refusal.the-variants.{WrongSize, WrongNumber, WrongLength, WrongStage, AlteredReport, DealerRejected}
-use Rattle.answers.specs.declared.Refusal.the-variants.{NoColumn, NoOpening}
+use Rattle.answers.specs.declared.Refusal.the-variants.{NoColumn, NoOpening, WrongTable}
 use Rattle.answers.specs.declared.Answer.{Answer}
 use Rattle.answers.specs.declared.Answer.the-variants.{Done, Pair, Report, Accepted, Opened, Refused}
 use Rattle.answers.specs.declared.Admission.{Admission}
@@ -38,10 +41,10 @@ use Rattle.lamp.specs.declared.Sharing.{Sharing}
 use Rattle.lamp.specs.declared.Lamp.{Lamp}
 use Rattle.lamp.specs.declared.Reply.{Reply}
 
--- The lamp as made for n, t and its number.
-abbrev pub made : ℕ → ℕ → ℕ → Lamp
-made n t i = record {
-  party = record { n = n; t = t; number = i };
+-- A lamp that nothing was done with, with its table in an array.
+abbrev pub waiting : ℕ → ℕ → ℕ → List ℕ → Lamp
+waiting n t i array = record {
+  party = record { n = n; t = t; number = i; table = array };
   sharing = record {
     stage = Waiting;
     row = replicate 4 0;
@@ -53,10 +56,23 @@ made n t i = record {
   };
 }
 
--- The lamp's size and number are within the protocol's.
-pub record Sized (l : Lamp) : Type 0 where
-  pub size : sizes (l .party .n) (l .party .t) ≡ true
-  pub party : isParty (l .party .n) (l .party .number) ≡ true
+-- The lamp as made for n, t and its number, with the table T.
+abbrev pub madeWith : ℕ → ℕ → ℕ → List ℕ → Lamp
+madeWith n t i T = waiting n t i (inArray n T)
+
+-- Without a table the points are 1 to n.
+abbrev pub made : ℕ → ℕ → ℕ → Lamp
+made n t i = madeWith n t i (oneTo n)
+
+-- "Only the first n entries of a state count."
+abbrev pub tableOf : Party → List ℕ
+tableOf a = take (a .n) (a .table)
+
+-- The party's size, number and table are the protocol's.
+pub record Valid (p : ℕ) (a : Party) : Type 0 where
+  pub size : sizes (a .n) (a .t) ≡ true
+  pub party : isParty (a .n) (a .number) ≡ true
+  pub table : isTable p (a .n) (tableOf a) ≡ true
 
 -- ---- replies
 
@@ -78,13 +94,19 @@ guard l (Fail why) r = refuse l why
 abbrev pub partyTests : Party → List Test
 partyTests a = (sizes (a .n) (a .t), WrongSize) ∷ (isParty (a .n) (a .number), WrongNumber) ∷ []
 
--- Then 3, whether the lent list fits, and 4, whether the stage takes the call.
-abbrev pub lentTests : Party → Bool → Bool → List Test
-lentTests a fits takes = partyTests a ++ (fits, WrongLength) ∷ (takes, WrongStage) ∷ []
+-- Then 3, whether the lent list fits; 14, right after it, whether the points are a table; and 4, whether the stage takes the call.
+abbrev pub lentTests : ℕ → Party → Bool → Bool → List Test
+lentTests p a fits takes =
+    partyTests a ++ (fits, WrongLength) ∷ (isTable p (a .n) (tableOf a), WrongTable) ∷ (takes, WrongStage) ∷ []
 
 -- A saying is lent no list, and names a party.
-abbrev pub sayingTests : Party → Bool → Bool → List Test
-sayingTests a named takes = partyTests a ++ (named, WrongNumber) ∷ (takes, WrongStage) ∷ []
+abbrev pub sayingTests : ℕ → Party → Bool → Bool → List Test
+sayingTests p a named takes =
+    partyTests a ++ (named, WrongNumber) ∷ (isTable p (a .n) (tableOf a), WrongTable) ∷ (takes, WrongStage) ∷ []
+
+-- A making is lent the table.
+abbrev pub makingTests : ℕ → Party → List ℕ → List Test
+makingTests p a T = partyTests a ++ tableTests p (a .n) T
 
 -- The sharing is at this stage.
 abbrev pub isAt : Stage → Sharing → Bool
@@ -117,7 +139,7 @@ withDeal l d = record {
 -- ---- 2. saying the pair for party j
 
 unfoldable pub saidPair : ℕ → Lamp → ℕ → ℕ × ℕ
-saidPair p l j = pairFor p (l .party .number) (rowOfLamp l) (columnOfLamp l) j
+saidPair p l j = pairFor p (tableOf (l .party)) (l .party .number) (rowOfLamp l) (columnOfLamp l) j
 
 -- ---- 3. hearing n pairs
 
@@ -126,7 +148,7 @@ abbrev pub firsts : ℕ → List ℕ → List ℕ
 firsts n hs = tabulate (λ k. firstFrom hs (suc k)) n
 
 unfoldable pub reportFrom : ℕ → Lamp → List ℕ → ℕ
-reportFrom p l hs = reportOf p (l .party .n) (l .party .number) (rowOfLamp l) (columnOfLamp l) hs
+reportFrom p l hs = reportOf p (l .party .n) (tableOf (l .party)) (l .party .number) (rowOfLamp l) (columnOfLamp l) hs
 
 unfoldable pub withPairs : ℕ → Lamp → List ℕ → Lamp
 withPairs p l hs = record {
@@ -173,7 +195,7 @@ repairedBy l S (decoding.Refused why) v = refuse l why
 -- Below n − t ones the dealer is rejected; a happy party's share is its column's constant.
 unfoldable pub settled : ℕ → Lamp → ℕ → Reply
 settled p l S =
-    let mended = repaired l S (repair p (l .party .n) (l .party .t) S (l .sharing .heard)) in
+    let mended = repaired l S (repair p (l .party .n) (l .party .t) (tableOf (l .party)) S (l .sharing .heard)) in
     cond (leb (l .party .n - l .party .t) (ones S))
     (cond (member S (l .party .number)) (reply (atEnd l Holding S (constant (columnOfLamp l))) Accepted) mended)
     (reply (atEnd l Closed 0 0) (Refused DealerRejected))
@@ -182,7 +204,7 @@ settled p l S =
 
 -- The polynomial that fits the published shares, the lamp's own share in its own place: at most t of them differ.
 unfoldable pub opening : ℕ → Lamp → List ℕ → Option (List ℕ)
-opening p l xs = openingWith p (l .party .n) (l .party .t) (l .party .number) (l .sharing .share) xs
+opening p l xs = openingWith p (l .party .n) (l .party .t) (tableOf (l .party)) (l .party .number) (l .sharing .share) xs
 
 abbrev pub opened : Lamp → Option (List ℕ) → Reply
 opened l none = refuse l NoOpening
@@ -205,12 +227,12 @@ pub data Call : Type 0 where
   openShares : List ℕ → Call
 
 -- What a call is looked at for.
-abbrev pub tests : Lamp → Call → List Test
-tests l (takeDeal d) = lentTests (l .party) (eqb (length d) (2 * suc (l .party .t))) (isAt Waiting (l .sharing))
-tests l (sayPair j) = sayingTests (l .party) (isParty (l .party .n) j) (not (isAt Waiting (l .sharing)))
-tests l (hearPairs hs) = lentTests (l .party) (eqb (length hs) (2 * l .party .n)) (isAt Dealt (l .sharing))
-tests l (settle rs) = lentTests (l .party) (eqb (length rs) (l .party .n)) (isAt Reported (l .sharing))
-tests l (openShares xs) = lentTests (l .party) (eqb (length xs) (l .party .n)) (isAt Holding (l .sharing))
+abbrev pub tests : ℕ → Lamp → Call → List Test
+tests p l (takeDeal d) = lentTests p (l .party) (eqb (length d) (2 * suc (l .party .t))) (isAt Waiting (l .sharing))
+tests p l (sayPair j) = sayingTests p (l .party) (isParty (l .party .n) j) (not (isAt Waiting (l .sharing)))
+tests p l (hearPairs hs) = lentTests p (l .party) (eqb (length hs) (2 * l .party .n)) (isAt Dealt (l .sharing))
+tests p l (settle rs) = lentTests p (l .party) (eqb (length rs) (l .party .n)) (isAt Reported (l .sharing))
+tests p l (openShares xs) = lentTests p (l .party) (eqb (length xs) (l .party .n)) (isAt Holding (l .sharing))
 
 -- The reply where every test passes.
 abbrev pub outcome : ℕ → Lamp → Call → Reply
@@ -224,11 +246,15 @@ outcome p l (openShares xs) = opened l (opening p l xs)
 
 -- One call.
 unfoldable pub step : ℕ → Lamp → Call → Reply
-step p l c = let r = outcome p l c in guard l (lowest (tests l c)) r
+step p l c = let r = outcome p l c in guard l (lowest (tests p l c)) r
 
--- Making: 1 or 2 for a bad size or number, with a state all the same.
-unfoldable pub make : ℕ → ℕ → ℕ → Reply
-make n t i = let l = made n t i in guard l (lowest (partyTests (l .party))) (reply l Done)
+-- Making: 1 or 2 for a bad size or number, 3 or 14 for a bad table, with a state all the same.
+unfoldable pub makeWith : ℕ → ℕ → ℕ → ℕ → List ℕ → Reply
+makeWith p n t i T = let l = madeWith n t i T in guard l (lowest (makingTests p (l .party) T)) (reply l Done)
+
+-- Without a table.
+abbrev pub make : ℕ → ℕ → ℕ → ℕ → Reply
+make p n t i = makeWith p n t i (oneTo n)
 
 -- The lamp after a list of calls.
 abbrev pub after : ℕ → Lamp → List Call → Lamp

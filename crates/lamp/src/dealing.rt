@@ -47,13 +47,21 @@ pub(crate) fn with_deal(lamp: Lamp, deal: &[u16]) -> Lamp
     }
 }
 
-// The pair for party j from arrays, whose first t + 1 numbers are the row and the column.
-pub(crate) fn said_pair(i: u8, t: u8, row: [u16; 4], column: [u16; 4], j: u8) -> Answer
-    requires { ⌜ t ≤ 3 ⌝ }
-    ensures { λ r. ⌜ r ≡ Answer.Pair (pairFor modulus i (take (suc t) row) (take (suc t) column) j .0)
-        (pairFor modulus i (take (suc t) row) (take (suc t) column) j .1) ⌝ }
+// The pair for party j from arrays, whose first n numbers are the table, and whose first t + 1 the row and the column.
+pub(crate) fn said_pair(
+    n: u8,
+    t: u8,
+    table: [u16; 16],
+    i: u8,
+    row: [u16; 4],
+    column: [u16; 4],
+    j: u8,
+) -> Answer
+    requires { ⌜ (n ≤ 16) × (t ≤ 3) ⌝ }
+    ensures { λ r. ⌜ r ≡ Answer.Pair (pairFor modulus (take n table) i (take (suc t) row) (take (suc t) column) j .0)
+        (pairFor modulus (take n table) i (take (suc t) row) (take (suc t) column) j .1) ⌝ }
 {
     let width = t as usize + 1;
-    let pair = consistency::pair_for(i, &row[..width], &column[..width], j);
+    let pair = consistency::pair_for(&table[..n as usize], i, &row[..width], &column[..width], j);
     Answer::Pair(pair.first, pair.second)
 }

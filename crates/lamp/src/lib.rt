@@ -7,10 +7,11 @@ mod settling;
 
 ghost use mathlib.Core.Path.{_≡_};
 ghost use Rattle.field.specs.Modulus.{modulus};
-ghost use Rattle.lamp.specs.Lamp.{make, refuse, step, takeDeal, sayPair, hearPairs, settle, openShares};
+ghost use Rattle.lamp.specs.Lamp.{waiting, make, makeWith, refuse, step, takeDeal, sayPair, hearPairs, settle, openShares};
 use admission::is_stage;
 use admission::legal;
 use admission::lent;
+use admission::making;
 use admission::saying;
 use answers::Admission;
 use answers::Answer;
@@ -22,11 +23,12 @@ use opening::opened;
 use reporting::heard;
 use settling::settled;
 
-// Who a lamp is.
+// Who a lamp is. The first n numbers of the table are the parties' points.
 pub struct Party {
     pub n: u8,
     pub t: u8,
     pub number: u8,
+    pub table: [u16; 16],
 }
 
 // What it has of one sharing: row and column as dealt, with zeros behind them; the first number heard from each party; the report
@@ -60,30 +62,54 @@ fn refuse(lamp: Lamp, why: Refusal) -> Reply
     }
 }
 
+// A lamp that nothing was done with.
+fn waiting(n: u8, t: u8, number: u8, table: [u16; 16]) -> Lamp
+    ensures { λ r. ⌜ r ≡ waiting n t number table ⌝ }
+{
+    let party = Party {
+        n: n,
+        t: t,
+        number: number,
+        table: table,
+    };
+    let sharing = Sharing {
+        stage: Stage::Waiting,
+        row: [0; 4],
+        column: [0; 4],
+        heard: [0; 16],
+        report: 0,
+        happy: 0,
+        share: 0,
+    };
+    Lamp {
+        party: party,
+        sharing: sharing,
+    }
+}
+
 impl Lamp {
-    // A lamp for n, t and its number, waiting. A bad size or number is answered, and refused again at every call.
-    pub fn make(n: u8, t: u8, number: u8) -> Reply
-        ensures { λ r. ⌜ r ≡ make n t number ⌝ }
+    // A lamp for n, t and its number, waiting, with the parties' points in a table. A bad size, number or table is answered, and refused
+    // again at every call.
+    pub fn make_with(n: u8, t: u8, number: u8, table: &[u16]) -> Reply
+        ensures { λ r. ⌜ r ≡ makeWith modulus n t number (now (table .entry)) ⌝ }
     {
-        let party = Party {
-            n: n,
-            t: t,
-            number: number,
-        };
-        let sharing = Sharing {
-            stage: Stage::Waiting,
-            row: [0; 4],
-            column: [0; 4],
-            heard: [0; 16],
-            report: 0,
-            happy: 0,
-            share: 0,
-        };
-        let lamp = Lamp {
-            party: party,
-            sharing: sharing,
-        };
-        let admitted = legal(party);
+        let lamp = waiting(n, t, number, tables::in_array(n, table));
+        let admitted = making(lamp.party, table);
+        match admitted {
+            Admission::Fail(why) => refuse(lamp, why),
+            Admission::Pass => Reply {
+                lamp: lamp,
+                answer: Answer::Done,
+            },
+        }
+    }
+
+    // The same at the points 1 to n, which are not looked at.
+    pub fn make(n: u8, t: u8, number: u8) -> Reply
+        ensures { λ r. ⌜ r ≡ make modulus n t number ⌝ }
+    {
+        let lamp = waiting(n, t, number, tables::one_to(n));
+        let admitted = legal(lamp.party);
         match admitted {
             Admission::Fail(why) => refuse(lamp, why),
             Admission::Pass => Reply {
@@ -127,7 +153,8 @@ impl Lamp {
             Admission::Pass => {
                 let row = sharing.row;
                 let column = sharing.column;
-                let pair = said_pair(party.number, party.t, row, column, j);
+                let table = party.table;
+                let pair = said_pair(party.n, party.t, table, party.number, row, column, j);
                 Reply {
                     lamp: self,
                     answer: pair,

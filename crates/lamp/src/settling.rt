@@ -3,7 +3,7 @@ ghost use mathlib.Core.Path.{_≡_};
 ghost use Prim.Native.Nat.{_≤_, _<_, _^_};
 ghost use Rattle.field.specs.Modulus.{modulus};
 ghost use Rattle.parties.specs.Parties.{member};
-ghost use Rattle.lamp.specs.Lamp.{atEnd, settled, repairedBy, Sized};
+ghost use Rattle.lamp.specs.Lamp.{atEnd, settled, repairedBy, Valid};
 use crate::Lamp;
 use crate::Reply;
 use crate::Sharing;
@@ -62,7 +62,7 @@ fn repaired_by(lamp: Lamp, set: u16, outcome: Decoding, constant: u16) -> Reply
 
 // The outcome of settling with the happy set.
 pub(crate) fn settled(lamp: Lamp, set: u16) -> Reply
-    requires { ⌜ Sized lamp × (set < 2 ^ lamp .party .n) ⌝ }
+    requires { ⌜ Valid modulus (lamp .party) × (set < 2 ^ lamp .party .n) ⌝ }
     ensures { λ r. ⌜ r ≡ settled modulus lamp set ⌝ }
 {
     let party = lamp.party;
@@ -81,7 +81,8 @@ pub(crate) fn settled(lamp: Lamp, set: u16) -> Reply
         };
     }
     let heard = lamp.sharing.heard;
-    let fitted = recovery::repair(party.n, party.t, set, heard);
+    let table = party.table;
+    let fitted = recovery::repair(party.n, party.t, table, set, heard);
     let outcome = fitted.outcome;
     let mended = fitted.coefficients;
     repaired_by(lamp, set, outcome, mended[0])

@@ -1,6 +1,6 @@
-// The parties of a sharing: how many there may be, their numbers and their points.
+// The parties of a sharing: how many there may be, and their numbers.
 ghost use mathlib.Core.Path.{_≡_};
-ghost use Rattle.parties.specs.Parties.{sizes, isParty, pointOf, points};
+ghost use Rattle.parties.specs.Parties.{sizes, isParty};
 
 // What a sender writes for a number that it does not send.
 pub const NOT_SENT: u16 = 65535;
@@ -29,22 +29,4 @@ pub fn is_party(n: u8, i: u8) -> bool
         return false;
     }
     i <= n
-}
-
-// Party i's point.
-pub fn point(i: u8) -> u16
-    ensures { λ r. ⌜ r ≡ pointOf i ⌝ }
-{
-    i as u16
-}
-
-// The points of sixteen parties; those of n parties are the first n.
-pub fn points() -> [u16; 16]
-    ensures { λ r. ⌜ r ≡ points 16 ⌝ }
-{
-    let mut list = [0u16; 16];
-    for k in 0..16 {
-        list[k as usize] = point(k + 1);
-    }
-    list
 }

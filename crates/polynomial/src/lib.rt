@@ -1,7 +1,7 @@
 // Polynomials modulo the field's prime: lists of coefficients, the constant first.
 ghost use mathlib.Core.Path.{_≡_};
 ghost use Rattle.field.specs.Modulus.{modulus};
-ghost use Rattle.polynomial.specs.Polynomial.{residues, absent, distinctResidues, value};
+ghost use Rattle.polynomial.specs.Polynomial.{residues, value};
 
 // Whether every number of the list is below the modulus.
 pub fn residues(list: &[u16]) -> bool
@@ -12,45 +12,6 @@ pub fn residues(list: &[u16]) -> bool
         i -= 1;
         if field::MODULUS <= list[i] {
             return false;
-        }
-    }
-    true
-}
-
-// Whether x is none of the numbers of the list.
-fn absent(x: u16, list: &[u16]) -> bool
-    ensures { λ r. ⌜ r ≡ absent x (now (list .entry)) ⌝ }
-{
-    let mut i = list.len();
-    while 0 < i {
-        i -= 1;
-        if list[i] == x {
-            return false;
-        }
-    }
-    true
-}
-
-// Whether the numbers of the list are distinct residues. A number below all those behind it is none of them: in a list that rises
-// nothing is compared twice.
-pub fn distinct_residues(list: &[u16]) -> bool
-    ensures { λ r. ⌜ r ≡ distinctResidues modulus (now (list .entry)) ⌝ }
-{
-    let mut low = field::MODULUS;
-    let mut i = list.len();
-    while 0 < i {
-        let behind = i;
-        i -= 1;
-        let x = list[i];
-        if x < low {
-            low = x;
-        } else {
-            if field::MODULUS <= x {
-                return false;
-            }
-            if !absent(x, &list[behind..]) {
-                return false;
-            }
         }
     }
     true

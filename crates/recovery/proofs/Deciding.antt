@@ -28,8 +28,10 @@ use Rattle.fit.specs.Fit.{fit}
 use Rattle.fit.proofs.Decoding.{fit-sound}
 use Rattle.fit.proofs.Rule.{fits-iff, near-found, near-none}
 use Rattle.fit.proofs.Selection.{points-select}
-use Rattle.parties.specs.Parties.{sizes, isParty, points}
-use Rattle.parties.proofs.Parties.{sizes-facts, length-points, points-below, points-distinct}
+use Rattle.parties.specs.Parties.{sizes, isParty}
+use Rattle.parties.proofs.Parties.{sizes-facts}
+use Rattle.tables.specs.Tables.{Stations}
+use Rattle.tables.proofs.Tables.{table-points}
 use Rattle.recovery.specs.Recovery.{repair, openingOf, repairIn, publishedIn, openingIn}
 use Rattle.recovery.specs.Deciding.{Decides}
 use Rattle.recovery.proofs.Fitting.{repair-admitted, published-admitted, opening-admitted}
@@ -60,39 +62,37 @@ marked-members S (suc n) =
 pub marks-ones : (S n : ℕ) → S < 2 ^ n → marked (tabulate (bit S) n) ≡ ones S
 marks-ones S n h = marked-members S n ∙ sym (ones-members n S h)
 
-module _ (n t : ℕ) (sized : sizes n t ≡ true) where
+module _ (n t : ℕ) (T : List ℕ) (sized : sizes n t ≡ true) (table : Stations modulus n T) where
   facts : (1 ≤ t) × (t ≤ 3) × (4 * t + 1 ≤ n) × (n ≤ 16)
   facts = sizes-facts n t sized
 
-  fine : Points modulus (points n)
-  fine = (points-below modulus n (facts .3) (omega arith), points-distinct n)
+  fine : Points modulus T
+  fine = table-points modulus n T table
 
   -- A column is repaired exactly if one is near the points of the set.
   pub repair-decides : (S : ℕ) (heard : List ℕ) → S < 2 ^ n → 3 * t + 1 ≤ ones S → n ≤ length heard
       → let happy = tabulate (bit S) n in
-      Decides modulus t (select happy (points n)) (select happy (take n heard)) (repairIn n t S heard)
+      Decides modulus t (select happy T) (select happy (take n heard)) (repairIn n t T S heard)
   unfolding repair
   repair-decides S heard inside many long =
       let happy : List Bool = tabulate (bit S) n in
       let marks : marked happy ≡ ones S = marks-ones S n inside in
       let width : length happy ≡ n = length-tabulate (bit S) n in
-      let size-x : length (select happy (points n)) ≡ marked happy = length-select happy (points n) (width ∙ sym (length-points n)) in
+      let size-x : length (select happy T) ≡ marked happy = length-select happy T (width ∙ sym (table .size)) in
       let size-y : length (select happy (take n heard)) ≡ marked happy =
       length-select happy (take n heard) (width ∙ sym (length-take-le n heard long)) in
-      decides t (ones S - t) (select happy (points n)) (select happy (take n heard)) (points-select modulus happy (points n) fine)
-      (size-x ∙ sym size-y) (omega arith) (omega arith) (repairIn n t S heard) (repair-admitted n t S heard sized inside many)
+      decides t (ones S - t) (select happy T) (select happy (take n heard)) (points-select modulus happy T fine)
+      (size-x ∙ sym size-y) (omega arith) (omega arith) (repairIn n t T S heard) (repair-admitted n t T S heard sized inside many)
 
   -- Published shares open exactly if a polynomial is near them.
-  pub published-decides : (xs : List ℕ) → length xs ≡ n → Decides modulus t (points n) xs (publishedIn n t xs)
+  pub published-decides : (xs : List ℕ) → length xs ≡ n → Decides modulus t T xs (publishedIn n t T xs)
   published-decides xs l =
-      let size : length (points n) ≡ n = length-points n in
-      decides t (n - t) (points n) xs fine (size ∙ sym l) (omega (arith, facts)) (omega arith) (publishedIn n t xs)
-      (published-admitted n t xs sized l)
+      decides t (n - t) T xs fine (table .size ∙ sym l) (omega (arith, facts, table .size)) (omega (arith, table .size)) (publishedIn n t T xs)
+      (published-admitted n t T xs sized l)
 
   -- The same with a party's own share in its own place.
   pub opening-decides : (i v : ℕ) (xs : List ℕ) → isParty n i ≡ true → length xs ≡ n
-      → Decides modulus t (points n) (set xs (i - 1) v) (openingIn n t i v xs)
+      → Decides modulus t T (set xs (i - 1) v) (openingIn n t T i v xs)
   opening-decides i v xs party l =
-      let size : length (points n) ≡ n = length-points n in
-      decides t (n - t) (points n) (set xs (i - 1) v) fine (size ∙ sym (length-set xs (i - 1) v ∙ l)) (omega (arith, facts)) (omega arith)
-      (openingIn n t i v xs) (opening-admitted n t i v xs sized party l)
+      decides t (n - t) T (set xs (i - 1) v) fine (table .size ∙ sym (length-set xs (i - 1) v ∙ l)) (omega (arith, facts, table .size)) (omega (arith, table .size))
+      (openingIn n t T i v xs) (opening-admitted n t T i v xs sized party l)

@@ -1,7 +1,7 @@
 -- What is fitted to the parties' points (the protocol's fit: at most t of them differ).
---   repair p n t S heard            the column repaired from the points (j, first number heard from j) for j in S
---   openingOf p n t xs              the opening of the published shares xs by themselves
---   openingWith p n t i v xs        the same with party i's own share v in its own place
+--   repair p n t T S heard          the column repaired from j's point in the table T and the first number heard from j, for j in S
+--   openingOf p n t T xs            the opening of the published shares xs by themselves
+--   openingWith p n t T i v xs      the same with party i's own share v in its own place
 --   repairIn, publishedIn, openingIn   what the code answers for every input: a refusal, or what is decoded
 -- Laws: proofs/Fitting, what is answered; proofs/Deciding, what that says of the points.
 use mathlib.Core.Option.{Option}
@@ -19,37 +19,38 @@ use Rattle.answers.specs.declared.Fitted.{Fitted}
 use Rattle.answers.specs.Refusals.{lowest}
 use Rattle.fit.specs.Fit.{fit}
 use Rattle.fit.specs.Admitted.{decodedIf}
-use Rattle.parties.specs.Parties.{sizes, isParty, points}
+use Rattle.parties.specs.Parties.{sizes, isParty}
 
--- The column that fits the points (j, first number heard from j) for j in S, a set of the n parties: at most t of them differ.
-unfoldable pub repair : ℕ → ℕ → ℕ → ℕ → List ℕ → Option (List ℕ)
-repair p n t S heard =
+-- The column that fits the points (j, first number heard from j) for j in S, a set of the n parties: at most t of them differ. The j in
+-- a point is j's entry of the table.
+unfoldable pub repair : ℕ → ℕ → ℕ → List ℕ → ℕ → List ℕ → Option (List ℕ)
+repair p n t T S heard =
     let happy = tabulate (bit S) n in
-    fit p t (ones S - t) (select happy (points n)) (select happy (take n heard))
+    fit p t (ones S - t) (select happy T) (select happy (take n heard))
 
 -- The polynomial that fits the published shares of n parties: at most t of them differ.
-abbrev pub openingOf : ℕ → ℕ → ℕ → List ℕ → Option (List ℕ)
-openingOf p n t xs = fit p t (n - t) (points n) xs
+abbrev pub openingOf : ℕ → ℕ → ℕ → List ℕ → List ℕ → Option (List ℕ)
+openingOf p n t T xs = fit p t (n - t) T xs
 
 -- The same with a party's own share in its own place.
-abbrev pub openingWith : ℕ → ℕ → ℕ → ℕ → ℕ → List ℕ → Option (List ℕ)
-openingWith p n t i v xs = openingOf p n t (set xs (i - 1) v)
+abbrev pub openingWith : ℕ → ℕ → ℕ → List ℕ → ℕ → ℕ → List ℕ → Option (List ℕ)
+openingWith p n t T i v xs = openingOf p n t T (set xs (i - 1) v)
 
--- The tests of a call, in the order of their numbers: the sizes; that the set names none but the n parties; that they are enough.
-unfoldable pub repairIn : ℕ → ℕ → ℕ → List ℕ → Fitted
-repairIn n t S heard =
+-- What is answered with a table, which the caller has looked at. The tests, in the order of their numbers: the sizes; that the set names none but the n parties; that they are enough.
+unfoldable pub repairIn : ℕ → ℕ → List ℕ → ℕ → List ℕ → Fitted
+repairIn n t T S heard =
     decodedIf
     (lowest ((sizes n t, WrongSize) ∷ (ltb S (2 ^ n), WrongNumber) ∷ (leb (3 * t + 1) (ones S), WrongLength) ∷ []))
-    (repair modulus n t S heard)
+    (repair modulus n t T S heard)
 
 -- The sizes; a share for each party.
-unfoldable pub publishedIn : ℕ → ℕ → List ℕ → Fitted
-publishedIn n t xs =
-    decodedIf (lowest ((sizes n t, WrongSize) ∷ (eqb (length xs) n, WrongLength) ∷ [])) (openingOf modulus n t xs)
+unfoldable pub publishedIn : ℕ → ℕ → List ℕ → List ℕ → Fitted
+publishedIn n t T xs =
+    decodedIf (lowest ((sizes n t, WrongSize) ∷ (eqb (length xs) n, WrongLength) ∷ [])) (openingOf modulus n t T xs)
 
 -- The sizes; the party's own number; a share for each party.
-unfoldable pub openingIn : ℕ → ℕ → ℕ → ℕ → List ℕ → Fitted
-openingIn n t i v xs =
+unfoldable pub openingIn : ℕ → ℕ → List ℕ → ℕ → ℕ → List ℕ → Fitted
+openingIn n t T i v xs =
     decodedIf
     (lowest ((sizes n t, WrongSize) ∷ (isParty n i, WrongNumber) ∷ (eqb (length xs) n, WrongLength) ∷ []))
-    (openingWith modulus n t i v xs)
+    (openingWith modulus n t T i v xs)

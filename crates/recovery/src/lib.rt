@@ -9,7 +9,8 @@ ghost use Rattle.lists.specs.Tabulate.{tabulate};
 ghost use Rattle.field.specs.Modulus.{modulus};
 ghost use Rattle.answers.specs.Fits.{decoded};
 ghost use Rattle.fit.specs.Fit.{fit};
-ghost use Rattle.parties.specs.Parties.{points, notSent};
+ghost use Rattle.parties.specs.Parties.{notSent};
+ghost use Rattle.tables.specs.Tables.{Stations};
 ghost use Rattle.recovery.specs.Recovery.{repairIn, publishedIn, openingIn};
 use answers::Fitted;
 use answers::Refusal;
@@ -32,13 +33,12 @@ fn heard_from(n: u8, set: u16, heard: [u16; 16]) -> [u16; 16]
 }
 
 // The polynomial of degree at most t that agrees with at least `need` of the n values at the parties' points, if one does.
-fn fit_parties(n: u8, t: u8, need: usize, values: &[u16]) -> Fitted
-    requires { ⌜ (n ≤ 16) × (t ≤ 3) × (t < need) × (length (now values) ≡ n) ⌝ }
-    ensures { λ r. ⌜ r ≡ decoded (fit modulus t need (points n) (now (values .entry))) ⌝ }
+fn fit_parties(n: u8, t: u8, table: [u16; 16], need: usize, values: &[u16]) -> Fitted
+    requires { ⌜ (n ≤ 16) × (t ≤ 3) × (t < need) × (length (now values) ≡ n) × Stations modulus n (take n table) ⌝ }
+    ensures { λ r. ⌜ r ≡ decoded (fit modulus t need (take n table) (now (values .entry))) ⌝ }
 {
     let count = n as usize;
-    let xs = parties::points();
-    fit::fit(t as usize, need, &xs[..count], values)
+    fit::fit(t as usize, need, &table[..count], values)
 }
 
 // Whether the set has none but the first n parties.
@@ -50,9 +50,10 @@ fn within(n: u8, set: u16) -> bool
 }
 
 // The column that fits what the parties of the set said first, if one does. Refused: a bad size, a party above n in the set, fewer
-// than 3t + 1 parties.
-pub fn repair(n: u8, t: u8, set: u16, heard: [u16; 16]) -> Fitted
-    ensures { λ r. ⌜ r ≡ repairIn n t set heard ⌝ }
+// than 3t + 1 parties. That the first n numbers are a table is the caller's to show, here and below.
+pub fn repair(n: u8, t: u8, table: [u16; 16], set: u16, heard: [u16; 16]) -> Fitted
+    requires { ⌜ Stations modulus n (take n table) ⌝ }
+    ensures { λ r. ⌜ r ≡ repairIn n t (take n table) set heard ⌝ }
 {
     if !parties::sizes(n, t) {
         return answers::refused_fit(Refusal::WrongSize);
@@ -66,7 +67,7 @@ pub fn repair(n: u8, t: u8, set: u16, heard: [u16; 16]) -> Fitted
         return answers::refused_fit(Refusal::WrongLength);
     }
     let values = heard_from(n, set, heard);
-    fit_parties(n, t, count - faulty, &values[..n as usize])
+    fit_parties(n, t, table, count - faulty, &values[..n as usize])
 }
 
 // The shares with party i's own in its own place, first in an array.
@@ -84,8 +85,9 @@ fn with_own(i: u8, share: u16, shares: &[u16]) -> [u16; 16]
 }
 
 // The polynomial that fits the published shares by themselves, if one does. Refused: a bad size, a share too many or too few.
-pub fn published(n: u8, t: u8, shares: &[u16]) -> Fitted
-    ensures { λ r. ⌜ r ≡ publishedIn n t (now (shares .entry)) ⌝ }
+pub fn published(n: u8, t: u8, table: [u16; 16], shares: &[u16]) -> Fitted
+    requires { ⌜ Stations modulus n (take n table) ⌝ }
+    ensures { λ r. ⌜ r ≡ publishedIn n t (take n table) (now (shares .entry)) ⌝ }
 {
     if !parties::sizes(n, t) {
         return answers::refused_fit(Refusal::WrongSize);
@@ -93,12 +95,13 @@ pub fn published(n: u8, t: u8, shares: &[u16]) -> Fitted
     if shares.len() != n as usize {
         return answers::refused_fit(Refusal::WrongLength);
     }
-    fit_parties(n, t, (n - t) as usize, shares)
+    fit_parties(n, t, table, (n - t) as usize, shares)
 }
 
 // The same with party i's own share in its own place. Refused also: a number that is no party's.
-pub fn opening(n: u8, t: u8, i: u8, share: u16, shares: &[u16]) -> Fitted
-    ensures { λ r. ⌜ r ≡ openingIn n t i share (now (shares .entry)) ⌝ }
+pub fn opening(n: u8, t: u8, table: [u16; 16], i: u8, share: u16, shares: &[u16]) -> Fitted
+    requires { ⌜ Stations modulus n (take n table) ⌝ }
+    ensures { λ r. ⌜ r ≡ openingIn n t (take n table) i share (now (shares .entry)) ⌝ }
 {
     if !parties::sizes(n, t) {
         return answers::refused_fit(Refusal::WrongSize);
@@ -111,5 +114,5 @@ pub fn opening(n: u8, t: u8, i: u8, share: u16, shares: &[u16]) -> Fitted
         return answers::refused_fit(Refusal::WrongLength);
     }
     let values = with_own(i, share, shares);
-    fit_parties(n, t, (n - t) as usize, &values[..count])
+    fit_parties(n, t, table, (n - t) as usize, &values[..count])
 }

@@ -5,6 +5,7 @@ ghost use Prim.Native.Nat.{_+_, _≤_};
 ghost use lib.ListN.{length, take, drop};
 ghost use Rattle.field.specs.Modulus.{modulus};
 ghost use Rattle.answers.specs.Fits.{decoded};
+ghost use Rattle.tables.specs.Tables.{oneTo};
 ghost use Rattle.recovery.specs.Recovery.{openingOf};
 ghost use Rattle.lamp.specs.Lamp.{made, after};
 ghost use Rattle.record.specs.declared.Reading.the-variants.{Fine};
@@ -105,11 +106,11 @@ fn put_lamps(out: &mut [u8], at: usize, bytes: &[u8], reports: &[u16], n: u8, t:
 // The polynomial that fits the published shares.
 fn fitted(bytes: &[u8], n: u8, t: u8) -> Fitted
     requires { ⌜ reading (now bytes) ≡ Fine n t ⌝ }
-    ensures { λ r. ⌜ r ≡ decoded (openingOf modulus n t (numbersOf (now (bytes .entry)) 3)) ⌝ }
+    ensures { λ r. ⌜ r ≡ decoded (openingOf modulus n t (oneTo n) (numbersOf (now (bytes .entry)) 3)) ⌝ }
 {
     let count = n as usize;
     let list = part(bytes, 3, 0, count);
-    recovery::published(n, t, &list[..count])
+    recovery::published(n, t, tables::one_to(n), &list[..count])
 }
 
 // Puts what the published shares open, or the refusal after a rejected dealer.

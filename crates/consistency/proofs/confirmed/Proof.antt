@@ -11,21 +11,21 @@ use Rattle.consistency.proofs.confirmed.Statement.{statement}
 use Rattle.consistency.proofs.confirmed.Tie as tie
 
 abbrev Inv-loop : tie.InvT-loop
-Inv-loop n i row column pairs bits₀ k₀ bits k = (k ≤ n) × (bits ≡ reportTo modulus i row column pairs k)
+Inv-loop n table i row column pairs bits₀ k₀ bits k = (k ≤ n) × (bits ≡ reportTo modulus table i row column pairs k)
 
 abbrev μ-loop : tie.MeasureT-loop
-μ-loop n i row column pairs bits₀ k₀ bits k = n - k
+μ-loop n table i row column pairs bits₀ k₀ bits k = n - k
 
 loop-holds : tie.Need-loop-holds Inv-loop μ-loop
-loop-holds c = let a = c .before .before .before .args in
-    (search needs, report-start modulus (a .i) (a .row .now) (a .column .now) (a .pairs .now))
+loop-holds c = let a = c .before .before .before .before .args in
+    (search needs, report-start modulus (a .table .now) (a .i) (a .row .now) (a .column .now) (a .pairs .now))
 
 add-j : tie.Need-add-j Inv-loop μ-loop
 add-j c = search needs
 
 confirms-requires : tie.Need-confirms-requires Inv-loop μ-loop
 confirms-requires c κs =
-    (search needs, omega arith, c .before .before .before .before .before .pre .2)
+    (search needs, omega arith, c .before .before .before .before .before .before .pre .2)
 
 cast-bits : tie.Need-cast-bits Inv-loop μ-loop
 cast-bits c = search needs
@@ -36,9 +36,9 @@ shl-bits c = search needs
 add-bits : tie.Need-add-bits Inv-loop μ-loop
 add-bits c =
     let k = c .before .before .before in
-    let a = k .before .before .before .before .args in
+    let a = k .before .before .before .before .before .args in
     record {
-      fits = report-room modulus (a .i) (a .row .now) (a .column .now) (a .pairs .now) (k .loop .bits) (k .loop .k)
+      fits = report-room modulus (a .table .now) (a .i) (a .row .now) (a .column .now) (a .pairs .now) (k .loop .bits) (k .loop .k)
           (k .loop .inv .1) (omega arith);
     }
 
@@ -52,13 +52,13 @@ loop-again : tie.Need-loop-again Inv-loop μ-loop
 loop-again c =
     let f = c .before in
     let k = f .before .before in
-    let a = k .before .before .before .before .args in
+    let a = k .before .before .before .before .before .args in
     let l = k .loop in (
       search needs,
       ⊎-elim
-          (λ w. w .1 ∙ report-one modulus (a .i) (a .row .now) (a .column .now) (a .pairs .now) (l .bits) (l .k) (f .confirms .result)
+          (λ w. w .1 ∙ report-one modulus (a .table .now) (a .i) (a .row .now) (a .column .now) (a .pairs .now) (l .bits) (l .k) (f .confirms .result)
           (l .inv .1) (f .confirms .ensures) (omega arith) (w .0 .taken))
-          (λ w. w .1 ∙ report-zero modulus (a .i) (a .row .now) (a .column .now) (a .pairs .now) (l .bits) (l .k) (f .confirms .result)
+          (λ w. w .1 ∙ report-zero modulus (a .table .now) (a .i) (a .row .now) (a .column .now) (a .pairs .now) (l .bits) (l .k) (f .confirms .result)
           (l .inv .1) (f .confirms .ensures) (w .0 .left))
           (c .if1 .came),
     )
@@ -67,9 +67,9 @@ returns : tie.Need-returns Inv-loop μ-loop
 unfolding reportOf
 returns c =
     let k = c .before .loop in
-    let a = c .before .before .before .before .before .args in
+    let a = c .before .before .before .before .before .before .args in
     let e : k .k ≡ a .n = omega arith in
-    k .inv .1 ∙ ap (reportTo modulus (a .i) (a .row .now) (a .column .now) (a .pairs .now)) e
+    k .inv .1 ∙ ap (reportTo modulus (a .table .now) (a .i) (a .row .now) (a .column .now) (a .pairs .now)) e
 
 pub confirmed-spec : {M : Type 1} → statement M
 confirmed-spec =

@@ -8,8 +8,8 @@ use borrow.Author.Needs.{needs}
 use Rattle.dealer.proofs.write_deal.Statement.{statement}
 use Rattle.dealer.proofs.write_deal.Tie as tie
 
-point-requires : tie.Need-point-requires
-point-requires c κs = search needs
+point-at-requires : tie.Need-point-at-requires
+point-at-requires c κs = search needs
 
 slice-relend-prefix-row : tie.Need-slice-relend-prefix-row
 slice-relend-prefix-row c = search needs
@@ -41,8 +41,8 @@ same-length c = search needs
 returns : tie.Need-returns
 returns c =
     let r = c .before .before .before .before .before .before in
-    let a = r .before .before .before .before .before .args in
-    both-written modulus (a .width) (a .list .now) (a .i) _ (a .out .now) _ _ (r .before .before .point .ensures) (search needs)
+    let a = r .before .before .before .before .before .before .args in
+    both-written modulus (a .width) (a .table .now) (a .list .now) (a .i) _ (a .out .now) _ _ (r .before .before .point-at .ensures) (search needs)
     (search needs)
     (r .row .ensures)
     (c .before .before .column .ensures)
@@ -51,7 +51,7 @@ pub write-deal-spec : {M : Type 1} → statement M
 write-deal-spec =
     tie.close
     (tie.spec
-    point-requires
+    point-at-requires
     slice-relend-prefix-row
     slice-aggregate-row
     row-requires

@@ -9,18 +9,18 @@ use Rattle.dealer.proofs.write_deals.Statement.{statement}
 use Rattle.dealer.proofs.write_deals.Tie as tie
 
 abbrev Inv-loop : tie.InvT-loop
-Inv-loop n list width out₀ i₀ start₀ out i start = DealsLoop modulus width list n out i start
+Inv-loop n table list width out₀ i₀ start₀ out i start = DealsLoop modulus width table list n out i start
 
 abbrev μ-loop : tie.MeasureT-loop
-μ-loop n list width out₀ i₀ start₀ out i start = n - i
+μ-loop n table list width out₀ i₀ start₀ out i start = n - i
 
 loop-holds : tie.Need-loop-holds Inv-loop μ-loop
-loop-holds c = deals-start modulus _ _ _ _ (search needs) (search needs)
+loop-holds c = deals-start modulus _ _ _ _ _ (search needs) (search needs)
 
 -- There is room for one more deal.
 room : (c : tie.In-loop Inv-loop μ-loop)
-    → c .before .loop .start + 2 * c .before .before .before .before .args .width ≤ length (c .before .loop .out)
-room c = deals-room modulus _ _ _ _ _ _ (c .before .loop .inv) (omega arith)
+    → c .before .loop .start + 2 * c .before .before .before .before .before .args .width ≤ length (c .before .loop .out)
+room c = deals-room modulus _ _ _ _ _ _ _ (c .before .loop .inv) (omega arith)
 
 mul-end : tie.Need-mul-end Inv-loop μ-loop
 mul-end c = omega (arith, room c)
@@ -46,7 +46,7 @@ part-write-deal-end c = omega (arith, room c)
 write-deal-requires : tie.Need-write-deal-requires Inv-loop μ-loop
 write-deal-requires c κs =
     let k = c .before .before .loop in
-    (search needs, k .inv .square, deals-part modulus _ _ _ _ _ _ (k .inv) (omega arith))
+    (search needs, k .inv .square, deals-part modulus _ _ _ _ _ _ _ (k .inv) (omega arith))
 
 loop-less : tie.Need-loop-less Inv-loop μ-loop
 loop-less c = search needs
@@ -54,7 +54,7 @@ loop-less c = search needs
 loop-again : tie.Need-loop-again Inv-loop μ-loop
 loop-again c =
     let k = c .before .before .before .before .before .loop in
-    deals-next modulus _ _ _ (k .out) (k .i) (k .start) (k .inv) _ (omega arith) (c .before .before .write-deal .ensures)
+    deals-next modulus _ _ _ _ (k .out) (k .i) (k .start) (k .inv) _ (omega arith) (c .before .before .write-deal .ensures)
 
 same-length : tie.Need-same-length Inv-loop μ-loop
 same-length c = search needs
@@ -62,7 +62,7 @@ same-length c = search needs
 returns : tie.Need-returns Inv-loop μ-loop
 returns c =
     let k = c .before .loop in
-    deals-end modulus _ _ _ (k .out) (k .i) (k .start) (k .inv) (omega arith)
+    deals-end modulus _ _ _ _ (k .out) (k .i) (k .start) (k .inv) (omega arith)
 
 pub write-deals-spec : {M : Type 1} → statement M
 write-deals-spec =

@@ -7,7 +7,6 @@ use native.Mathlib.Omega.{arith}
 use borrow.Author.Tests.{eqb-true}
 use lib.Dec.{ltb, eqb}
 use Rattle.field.specs.Modulus.{modulus}
-use Rattle.polynomial.proofs.Below.{distinct-residues-true}
 use Rattle.answers.specs.Fits.{decoded}
 use Rattle.fit.specs.Fit.{fit}
 use Rattle.fit.specs.Grouping.{Grouping}
@@ -33,7 +32,7 @@ grouping c =
     let counted = counting c in
     let s = start counted in
     groups-start modulus (omega arith) _ _ _ _ _ (s .pre .1) (s .pre .0) (counted .sent .ensures) (c .before .if1 .left)
-    (c .if2 .taken) (distinct-residues-true modulus (s .args .xs .now) (s .pre .3)) (s .pre .2)
+    (c .if2 .taken) (s .pre .3) (s .pre .2)
 
 -- Cubics, with three wrong points.
 cubics : (t wrong n : ℕ) → eqb t 3 && eqb wrong 3 && ltb n 16 ≡ true → (t ≡ 3) × (wrong ≡ 3)

@@ -1,5 +1,6 @@
--- `lamp::admission::saying` meets its contract: two tests more behind those of the party.
+-- `lamp::admission::saying` meets its contract: three tests more behind those of the party.
 use mathlib.Core.Path.{sym, _∙_}
+use Rattle.field.specs.Modulus.{modulus}
 use Rattle.answers.proofs.Tests.{in-order}
 use Rattle.lamp.specs.Lamp.{partyTests, sayingTests}
 use borrow.Author.Needs.{needs}
@@ -12,15 +13,28 @@ legal-requires c κs = search needs
 also-requires : tie.Need-also-requires
 also-requires c κs = search needs
 
+is-table-requires : tie.Need-is-table-requires
+is-table-requires c κs = search needs
+
 also-requires-2 : tie.Need-also-requires-2
 also-requires-2 c κs = search needs
 
+also-requires-3 : tie.Need-also-requires-3
+also-requires-3 c κs = search needs
+
 returns : tie.Need-returns
 returns c =
-    let legal = c .before .before in
-    let a = legal .before .args in
-    rw (c .also2 .ensures, c .before .also .ensures, legal .legal .ensures ∙ sym (in-order (partyTests (a .party))))
-    (in-order (sayingTests (a .party) (a .named) (a .takes)))
+    let table = c .before .before in
+    let legal = table .before .before in
+    let a = legal .before .before .args in
+    rw (
+      c .also3 .ensures,
+      c .before .also2 .ensures,
+      table .is-table .ensures,
+      table .before .also .ensures,
+      legal .legal .ensures ∙ sym (in-order (partyTests (a .party))),
+    )
+    (in-order (sayingTests modulus (a .party) (a .named) (a .takes)))
 
 pub saying-spec : {M : Type 1} → statement M
 saying-spec =
@@ -28,5 +42,7 @@ saying-spec =
     (tie.spec
     legal-requires
     also-requires
+    is-table-requires
     also-requires-2
+    also-requires-3
     returns)

@@ -1,22 +1,22 @@
--- `polynomial::distinct_residues` meets its contract. The loop goes from the end: the numbers from i on are distinct residues, none
--- below `low`.
+-- `tables::is_table` meets its contract. The loop goes from the end: the numbers from i on are distinct residues, and `low` is the
+-- lowest of them, or the modulus where there are none.
 use borrow.Author.Needs.{needs}
 use native.Mathlib.Omega.{arith}
 use mathlib.Core.Path.{_≡_, refl, sym, ap, ap₂, subst, _∙_}
 use mathlib.Core.Bool.{Bool, true, false, not, _&&_, and-false}
 use mathlib.Core.List.{List, [], _∷_}
-use Prim.Native.Nat.{ℕ, _-_, _≤_, _<_}
-use lib.Dec.{ltb}
+use Prim.Native.Nat.{ℕ, zero, suc, _-_, _≤_, _<_}
+use lib.Dec.{ltb, eqb}
 use lib.ListN.{length, getD, drop}
 use lib.Seq.{drop-length}
-use borrow.Author.Tests.{lt-ltb, le-ltb, ne-eqb, not-true, not-false}
+use borrow.Author.Tests.{lt-ltb, le-ltb, eq-eqb, ne-eqb, not-true, not-false}
 use Rattle.lists.specs.All.{All}
 use Rattle.lists.proofs.InPlace.{lent-rest, drop-back}
 use Rattle.lists.proofs.FromEnd.{Passed, passed-start, passed-next, passed-not, passed-end}
 use Rattle.field.specs.Modulus.{modulus}
-use Rattle.polynomial.specs.Polynomial.{absent, distinctResidues}
-use Rattle.polynomial.proofs.distinct_residues.Statement.{statement}
-use Rattle.polynomial.proofs.distinct_residues.Tie as tie
+use Rattle.tables.specs.Tables.{absent, distinctResidues, isTable}
+use Rattle.tables.proofs.is_table.Statement.{statement}
+use Rattle.tables.proofs.is_table.Tie as tie
 
 -- What is asked of one number, before the rest.
 abbrev fine : ℕ → List ℕ → Bool
@@ -43,6 +43,25 @@ lowered : (x low : ℕ) (xs : List ℕ) → x ≤ low → Above low xs → Above
 lowered x low [] h k = k
 lowered x low (a ∷ xs) h (l, k) = (omega arith, lowered x low xs h k)
 
+not-absent : (x : ℕ) (xs : List ℕ) → absent x (x ∷ xs) ≡ false
+not-absent x xs = ap (λ b. not b && absent x xs) (eq-eqb x x refl)
+
+later-absent : (x a : ℕ) (xs : List ℕ) → absent x xs ≡ false → absent x (a ∷ xs) ≡ false
+later-absent x a xs e = ap (λ b. not (eqb a x) && b) e ∙ and-false (not (eqb a x))
+
+-- What is left to be said of a list: no number stands twice, or is no residue, and the lowest is not 0.
+module _ (xs : List ℕ) where
+  no-table : false ≡ distinctResidues modulus xs → false ≡ isTable modulus (length xs) xs
+  unfolding isTable
+  no-table e = rw (eq-eqb (length xs) (length xs) refl, sym e)
+
+  a-table : (low : ℕ) → true ≡ distinctResidues modulus xs → Above low xs → (low < modulus → absent low xs ≡ false)
+      → ltb 0 low ≡ isTable modulus (length xs) xs
+  unfolding isTable
+  a-table zero e above there = rw (eq-eqb (length xs) (length xs) refl, sym e, there (omega arith))
+  a-table (suc low) e above there =
+      rw (lt-ltb 0 (suc low) (omega arith), eq-eqb (length xs) (length xs) refl, sym e, below-absent 0 (suc low) xs (omega arith) above)
+
 -- With the number before place i.
 above-back : (low i : ℕ) (xs : List ℕ) → 0 < i → i ≤ length xs → low ≤ getD xs (i - 1) 0 → Above low (drop i xs)
     → Above low (drop (i - 1) xs)
@@ -52,6 +71,7 @@ record Rising (xs : List ℕ) (low i : ℕ) : Type 0 where
   passed : Passed (distinctResidues modulus) xs i
   residue : low ≤ modulus
   above : Above low (drop i xs)
+  there : low < modulus → absent low (drop i xs) ≡ false
 
 abbrev Inv-loop : tie.InvT-loop
 Inv-loop list low₀ i₀ low i = Rising list low i
@@ -64,15 +84,16 @@ abbrev turn : tie.After-absent Inv-loop μ-loop → tie.At-loop Inv-loop μ-loop
 turn looked = looked .before .before .before .before .before .before
 
 abbrev listOf : tie.At-loop Inv-loop μ-loop → List ℕ
-listOf k = k .before .before .args .list .now
+listOf k = k .before .before .args .table .now
 
 loop-holds : tie.Need-loop-holds Inv-loop μ-loop
 loop-holds c =
-    let xs = c .before .args .list .now in
+    let xs = c .before .args .table .now in
     record {
       passed = passed-start fine (distinctResidues modulus) refl (λ a xs. refl) xs;
       residue = omega arith;
       above = subst (Above modulus) (sym (drop-length xs)) tt;
+      there = λ h. absurd (omega arith);
     }
 
 sub-i : tie.Need-sub-i Inv-loop μ-loop
@@ -102,14 +123,15 @@ loop-again c =
       above =
           above-back x (k .i) xs (omega arith) (p .within) (omega arith)
           (lowered x (k .low) (drop (k .i) xs) (omega arith) (k .inv .above));
+      there = λ h. ap (absent x) (drop-back xs (k .i) 0 (omega arith) (p .within)) ∙ not-absent x (drop (k .i) xs);
     }
 
 returns : tie.Need-returns Inv-loop μ-loop
 returns c =
     let k = c .before .before .before .before .loop in
     let xs = listOf (c .before .before .before .before) in
-    passed-not fine (distinctResidues modulus) refl (λ a xs. refl) xs (k .i) (omega arith) (k .inv .passed .within)
-    (large _ (drop (k .i) xs) (c .if2 .taken))
+    no-table xs (passed-not fine (distinctResidues modulus) refl (λ a xs. refl) xs (k .i) (omega arith) (k .inv .passed .within)
+    (large _ (drop (k .i) xs) (c .if2 .taken)))
 
 mul-absent : tie.Need-mul-absent Inv-loop μ-loop
 mul-absent c = search needs
@@ -131,9 +153,9 @@ returns-2 c =
     let looked = c .before in
     let k = turn looked .loop in
     let xs = listOf (turn looked) in
-    passed-not fine (distinctResidues modulus) refl (λ a xs. refl) xs (k .i) (omega arith) (k .inv .passed .within)
+    no-table xs (passed-not fine (distinctResidues modulus) refl (λ a xs. refl) xs (k .i) (omega arith) (k .inv .passed .within)
     (twice _ (drop (k .i) xs)
-    (ap (absent _) (sym (lent-rest (k .i) xs)) ∙ sym (looked .absent .ensures) ∙ not-true (looked .absent .result) (c .if3 .taken)))
+    (ap (absent _) (sym (lent-rest (k .i) xs)) ∙ sym (looked .absent .ensures) ∙ not-true (looked .absent .result) (c .if3 .taken))))
 
 loop-less-2 : tie.Need-loop-less-2 Inv-loop μ-loop
 loop-less-2 c = search needs
@@ -151,15 +173,22 @@ loop-again-2 c =
           (ap (absent _) (sym (lent-rest (k .i) xs)) ∙ sym (looked .absent .ensures) ∙ not-false (looked .absent .result) (c .if3 .left)));
       residue = k .inv .residue;
       above = above-back (k .low) (k .i) xs (omega arith) (p .within) (c .before .before .before .before .if1 .left) (k .inv .above);
+      there = λ h.
+          ap (absent (k .low)) (drop-back xs (k .i) 0 (omega arith) (p .within))
+          ∙ later-absent (k .low) (getD xs (k .i - 1) 0) (drop (k .i) xs) (k .inv .there h);
     }
 
 returns-3 : tie.Need-returns-3 Inv-loop μ-loop
 returns-3 c =
     let k = c .before .loop in
-    passed-end fine (distinctResidues modulus) refl (λ a xs. refl) _ (k .i) (omega arith) (k .inv .passed)
+    let xs = listOf (c .before) in
+    let all : k .i ≡ 0 = omega arith in
+    a-table xs (k .low) (passed-end fine (distinctResidues modulus) refl (λ a xs. refl) xs (k .i) all (k .inv .passed))
+    (subst (λ z. Above (k .low) (drop z xs)) all (k .inv .above))
+    (λ h. ap (λ z. absent (k .low) (drop z xs)) (sym all) ∙ k .inv .there h)
 
-pub distinct-residues-spec : {M : Type 1} → statement M
-distinct-residues-spec =
+pub is-table-spec : {M : Type 1} → statement M
+is-table-spec =
     tie.close
     (tie.spec
     Inv-loop

@@ -1,0 +1,121 @@
+-- Laws of the tables of points: the test is right, 1 to n is a table, and what a lamp keeps of one.
+--   table-facts, table-true, short-not, table-points   what the test says of a list; tests-pass: the tests of one that is lent
+--   points-of, point-at                     the table is the list of its parties' points
+--   one-to-table, one-to-point              1 to n is a table, and i is party i's point in it
+--   kept-front, kept-not                    the array that holds a table, and one of another length
+use mathlib.Core.Path.{_≡_, refl, sym, ap, ap₂, _∙_}
+use mathlib.Core.Bool.{true, false, not, _&&_, and-eq-true-iff}
+use mathlib.Core.List.{List, [], _∷_, map}
+use Prim.Native.Nat.{ℕ, suc, _-_, _<_, _≤_}
+use native.Mathlib.Omega.{arith}
+use lib.Dec.{ltb, eqb}
+use lib.ListN.{length, getD, take, replicate}
+use lib.Seq.{ext-getD, take-at, take-all}
+use borrow.Author.Tests.{lt-ltb, ltb-true, ne-eqb, eqb-false, eqb-true, eq-eqb, le-leb, lt-leb, not-true}
+use Rattle.lists.specs.All.{All}
+use Rattle.lists.specs.Tabulate.{tabulate, pad}
+use Rattle.lists.proofs.Tabulate.{length-tabulate, getD-tabulate, all-tabulate, map-tabulate, distinct-tabulate}
+use Rattle.answers.specs.declared.Admission.the-variants.{Pass}
+use Rattle.answers.specs.Refusals.{lowest}
+use Rattle.polynomial.specs.Polynomial.{Points}
+use Rattle.parties.specs.Parties.{isParty, parties}
+use Rattle.parties.proofs.Parties.{party-facts}
+use Rattle.tables.specs.Tables.{pointAt, oneTo, Stations, absent, distinctResidues, isTable, tableTests, inArray}
+
+-- ---- a number that is none of a list
+pub absent-true : (x : ℕ) (xs : List ℕ) → All (λ z. z ≡ x → ⊥) xs → absent x xs ≡ true
+absent-true x [] h = refl
+absent-true x (z ∷ xs) h = ap₂ _&&_ (ap not (ne-eqb z x (h .0))) (absent-true x xs (h .1))
+
+absent-facts : (x : ℕ) (xs : List ℕ) → absent x xs ≡ true → All (λ z. z ≡ x → ⊥) xs
+absent-facts x [] e = tt
+absent-facts x (z ∷ xs) e =
+    let (here, rest) = and-eq-true-iff (not (eqb z x)) (absent x xs) .0 e in
+    (eqb-false z x (not-true (eqb z x) here), absent-facts x xs rest)
+
+-- ---- distinct residues
+module _ (p : ℕ) where
+  distinct-residues-true : (xs : List ℕ) → Points p xs → distinctResidues p xs ≡ true
+  distinct-residues-true [] h = refl
+  distinct-residues-true (a ∷ xs) h =
+      ap₂ _&&_ (ap₂ _&&_ (lt-ltb a p (h .0 .0)) (absent-true a xs (h .1 .0))) (distinct-residues-true xs (h .0 .1, h .1 .1))
+
+  distinct-residues-facts : (xs : List ℕ) → distinctResidues p xs ≡ true → Points p xs
+  distinct-residues-facts [] e = (tt, tt)
+  distinct-residues-facts (a ∷ xs) e =
+      let (here, rest) = and-eq-true-iff (ltb a p && absent a xs) (distinctResidues p xs) .0 e in
+      let (below, fresh) = and-eq-true-iff (ltb a p) (absent a xs) .0 here in
+      let (residues, distinct) = distinct-residues-facts xs rest in
+      ((ltb-true a p below, residues), (absent-facts a xs fresh, distinct))
+
+-- ---- the test for a table
+module _ (p n : ℕ) (T : List ℕ) where
+  pub table-facts : isTable p n T ≡ true → Stations p n T
+  unfolding isTable
+  table-facts e =
+      let (fine, zero) = and-eq-true-iff (eqb (length T) n && distinctResidues p T) (absent 0 T) .0 e in
+      let (size, numbers) = and-eq-true-iff (eqb (length T) n) (distinctResidues p T) .0 fine in
+      let points = distinct-residues-facts p T numbers in
+      record { size = eqb-true (length T) n size; below = points .0; not-zero = absent-facts 0 T zero; once = points .1 }
+
+  pub table-true : Stations p n T → isTable p n T ≡ true
+  unfolding isTable
+  table-true h =
+      rw (eq-eqb (length T) n (h .size), distinct-residues-true p T (h .below, h .once), absent-true 0 T (h .not-zero))
+
+  -- A shorter list has no front that is one.
+  pub short-not : length T < n → false ≡ isTable p n (take n T)
+  unfolding isTable
+  short-not h = rw (take-all n T (omega arith), ne-eqb (length T) n (λ e. omega arith))
+
+  pub table-points : Stations p n T → Points p T
+  table-points h = (h .below, h .once)
+
+  -- All tests of a table that is lent pass.
+  pub tests-pass : Stations p n T → lowest (tableTests p n T) ≡ Pass
+  tests-pass h = rw (eq-eqb (length T) n (h .size), table-true h)
+
+-- ---- the points
+pub point-at : (T : List ℕ) (k : ℕ) → getD T k 0 ≡ pointAt T (suc k)
+unfolding pointAt
+point-at T k = let place : k ≡ suc k - 1 = omega arith in ap (λ z. getD T z 0) place
+
+-- The points of parties 1 to n are the table.
+pub points-of : (n : ℕ) (T : List ℕ) → length T ≡ n → map (pointAt T) (parties n) ≡ T
+points-of n T l =
+    let long : length (tabulate (λ k. pointAt T (suc k)) n) ≡ n = length-tabulate (λ k. pointAt T (suc k)) n in
+    map-tabulate (pointAt T) suc n
+    ∙ ext-getD 0 (tabulate (λ k. pointAt T (suc k)) n) T (long ∙ sym l) (λ k h.
+    getD-tabulate (λ k. pointAt T (suc k)) n k 0 (omega arith) ∙ sym (point-at T k))
+
+-- ---- 1 to n
+pub length-one-to : (n : ℕ) → length (oneTo n) ≡ n
+length-one-to n = length-tabulate suc n
+
+pub one-to-table : (p n : ℕ) → n < p → Stations p n (oneTo n)
+one-to-table p n h = record {
+  size = length-one-to n;
+  below = all-tabulate suc (λ x. x < p) n (λ k b. omega arith);
+  not-zero = all-tabulate suc (λ x. x ≡ 0 → ⊥) n (λ k b e. omega arith);
+  once = distinct-tabulate suc (λ i j e. omega arith) n;
+}
+
+pub one-to-point : (n i : ℕ) → isParty n i ≡ true → pointAt (oneTo n) i ≡ i
+unfolding pointAt
+one-to-point n i party =
+    let f = party-facts n i party in
+    let same : suc (i - 1) ≡ i = omega arith in
+    getD-tabulate suc n (i - 1) 0 (omega arith) ∙ same
+
+-- ---- a table in an array
+pub kept-front : (n : ℕ) (T : List ℕ) → n ≤ 16 → length T ≡ n → take n (inArray n T) ≡ T
+kept-front n T h l = rw (le-leb n 16 h, eq-eqb (length T) n l) (take-at T (replicate (16 - length T) 0) n l)
+
+pub kept-whole : (n : ℕ) (T : List ℕ) → n ≤ 16 → length T ≡ n → pad 16 T ≡ inArray n T
+kept-whole n T h l = rw (le-leb n 16 h, eq-eqb (length T) n l)
+
+pub kept-many : (n : ℕ) (T : List ℕ) → 16 < n → replicate 16 0 ≡ inArray n T
+kept-many n T h = rw (lt-leb n 16 h)
+
+pub kept-not : (n : ℕ) (T : List ℕ) → n ≤ 16 → (length T ≡ n → ⊥) → replicate 16 0 ≡ inArray n T
+kept-not n T h d = rw (le-leb n 16 h, ne-eqb (length T) n d)

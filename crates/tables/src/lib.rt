@@ -1,0 +1,121 @@
+// The parties' points: the table that is loaded, or 1 to n.
+ghost use mathlib.Core.Path.{_≡_};
+ghost use Prim.Native.Nat.{_≤_};
+ghost use lib.ListN.{length, getD};
+ghost use Rattle.lists.specs.Tabulate.{pad};
+ghost use Rattle.field.specs.Modulus.{modulus};
+ghost use Rattle.answers.specs.Refusals.{lowest};
+ghost use Rattle.tables.specs.Tables.{pointAt, oneTo, absent, isTable, tableTests, inArray};
+use answers::Admission;
+use answers::Refusal;
+
+// Whether x is none of the numbers of the list.
+fn absent(x: u16, list: &[u16]) -> bool
+    ensures { λ r. ⌜ r ≡ absent x (now (list .entry)) ⌝ }
+{
+    let mut i = list.len();
+    while 0 < i {
+        i -= 1;
+        if list[i] == x {
+            return false;
+        }
+    }
+    true
+}
+
+// Whether the numbers are a table: none 0, none the modulus or above, none twice. A number below all those behind it is none of them: in
+// a table that rises nothing is compared twice.
+pub fn is_table(table: &[u16]) -> bool
+    ensures { λ r. ⌜ r ≡ isTable modulus (length (now (table .entry))) (now (table .entry)) ⌝ }
+{
+    let mut low = field::MODULUS;
+    let mut i = table.len();
+    while 0 < i {
+        let behind = i;
+        i -= 1;
+        let x = table[i];
+        if x < low {
+            low = x;
+        } else {
+            if field::MODULUS <= x {
+                return false;
+            }
+            if !absent(x, &table[behind..]) {
+                return false;
+            }
+        }
+    }
+    0 < low
+}
+
+// Whether a table lent for n parties is one.
+pub fn admission(n: u8, table: &[u16]) -> Admission
+    ensures { λ r. ⌜ r ≡ lowest (tableTests modulus n (now (table .entry))) ⌝ }
+{
+    if table.len() != n as usize {
+        return Admission::Fail(Refusal::WrongLength);
+    }
+    if !is_table(table) {
+        return Admission::Fail(Refusal::WrongTable);
+    }
+    Admission::Pass
+}
+
+// The number at the place, 0 where there is none.
+fn at(list: &[u16], place: usize) -> u16
+    ensures { λ r. ⌜ r ≡ getD (now (list .entry)) place 0 ⌝ }
+{
+    if list.len() <= place {
+        return 0;
+    }
+    list[place]
+}
+
+// Party i's point; 0, which is no party's, where the table has no entry for it.
+pub fn point_at(table: &[u16], i: u8) -> u16
+    ensures { λ r. ⌜ r ≡ pointAt (now (table .entry)) i ⌝ }
+{
+    if i == 0 {
+        return at(table, 0);
+    }
+    at(table, i as usize - 1)
+}
+
+// The list with zeros behind it.
+fn padded(list: &[u16]) -> [u16; 16]
+    requires { ⌜ length (now list) ≤ 16 ⌝ }
+    ensures { λ r. ⌜ r ≡ pad 16 (now (list .entry)) ⌝ }
+{
+    let mut array = [0u16; 16];
+    for k in 0..list.len() {
+        array[k] = list[k];
+    }
+    array
+}
+
+// The table as it is kept for n parties; zeros where it is of another length.
+pub fn in_array(n: u8, table: &[u16]) -> [u16; 16]
+    ensures { λ r. ⌜ r ≡ inArray n (now (table .entry)) ⌝ }
+{
+    if 16 < n {
+        return [0; 16];
+    }
+    if table.len() != n as usize {
+        return [0; 16];
+    }
+    padded(table)
+}
+
+// The table 1 to n as it is kept; zeros for more than sixteen parties.
+pub fn one_to(n: u8) -> [u16; 16]
+    ensures { λ r. ⌜ r ≡ inArray n (oneTo n) ⌝ }
+{
+    let mut array = [0u16; 16];
+    if 16 < n {
+        return array;
+    }
+    for k in 0..n {
+        array[k as usize] = k as u16 + 1;
+    }
+    array
+}
