@@ -17,6 +17,7 @@ use Rattle.answers.specs.Refusals.{refusalNumber}
 use Rattle.answers.specs.Answers.{numberOf}
 use Rattle.answers.specs.Fits.{decoded}
 use Rattle.answers.proofs.Fits.{found-is, nothing-is, decoded-not-refused}
+use Rattle.tables.specs.Tables.{oneTo}
 use Rattle.recovery.specs.Recovery.{openingOf}
 use Rattle.lamp.specs.declared.Reply.{Reply}
 use Rattle.lines.specs.Lines.{lampLine, openedLine}
@@ -38,17 +39,17 @@ module _ (n t : ℕ) (shares : List ℕ) (b : Bool) where
       by false e = refl
 
   -- The dealer is accepted, and the decoding answers r.
-  module _ (e : not b ≡ false) (r : Fitted) (is : r ≡ decoded (openingOf modulus n t shares)) where
-    accepted-line : openingLine (openingOf modulus n t shares) ≡ lastLine b n t shares
+  module _ (e : not b ≡ false) (r : Fitted) (is : r ≡ decoded (openingOf modulus n t (oneTo n) shares)) where
+    accepted-line : openingLine (openingOf modulus n t (oneTo n) shares) ≡ lastLine b n t shares
     unfolding lastLine
     accepted-line = by b e
       where
-        by : (b : Bool) → not b ≡ false → openingLine (openingOf modulus n t shares) ≡ lastLine b n t shares
+        by : (b : Bool) → not b ≡ false → openingLine (openingOf modulus n t (oneTo n) shares) ≡ lastLine b n t shares
         by true e = refl
         by false e = absurd (true≢false e)
 
     abbrev opened : Option (List ℕ)
-    opened = openingOf modulus n t shares
+    opened = openingOf modulus n t (oneTo n) shares
 
     told : r .outcome ≡ decoded opened .outcome
     told = ap (λ (a : Fitted). a .outcome) is

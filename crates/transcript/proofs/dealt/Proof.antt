@@ -5,6 +5,7 @@ use native.Mathlib.Omega.{arith}
 use lib.ListN.{length}
 use lib.Seq.{length-take-le}
 use Rattle.field.specs.Modulus.{modulus}
+use Rattle.tables.specs.Tables.{oneTo}
 use Rattle.lamp.specs.declared.Reply.{Reply}
 use Rattle.lamp.specs.Lamp.{takeDeal, step}
 use Rattle.record.specs.Record.{numbersOf}
@@ -56,7 +57,7 @@ returns : tie.Need-returns
 returns c =
     let m = c .before .before .before .before in
     let a = m .before .before .before .args in
-    let fresh = ap (λ (r : Reply). r .lamp) (m .make .ensures) ∙ make-lamp (a .n) (a .t) (a .i) in
+    let fresh = ap (λ (r : Reply). r .lamp) (m .make .ensures) ∙ make-lamp modulus (a .n) (a .t) (a .i) (oneTo (a .n)) in
     ap (λ (r : Reply). r .lamp) (c .before .take-deal .ensures)
     ∙ ap₂ (λ l d. step modulus l (takeDeal d) .lamp) fresh (m .before .part .ensures)
 
