@@ -2,7 +2,7 @@
 --   alsoAll       tests asked one after the other, as code asks them; in-order: that is the lowest refusal
 --   AllPass       every test passes; lowest-pass: where none is refused they do
 --   also-failed, also-fails   the two ways to fail
---   lowest-first, lowest-then   the tests of two lists: the first of them settles it, or all of them pass; lowest-also: one test more
+--   lowest-first, lowest-then   the tests of two lists: the first of them settles it, or all of them pass; lowest-also: one test more; passed-more: such that pass
 use mathlib.Core.Path.{_≡_, refl, sym}
 use mathlib.Core.Bool.{Bool, true, false}
 use mathlib.Core.List.{List, [], _∷_, _++_}
@@ -63,3 +63,9 @@ pub lowest-also : (first : List Test) (pass : Bool) (why : Refusal) → lowest (
 lowest-also [] pass why = refl
 lowest-also ((true, w) ∷ first) pass why = lowest-also first pass why
 lowest-also ((false, w) ∷ first) pass why = refl
+
+-- Tests that pass change nothing behind others.
+pub passed-more : (first more : List Test) → lowest more ≡ Pass → lowest first ≡ lowest (first ++ more)
+passed-more [] more e = sym e
+passed-more ((true, w) ∷ first) more e = passed-more first more e
+passed-more ((false, w) ∷ first) more e = refl

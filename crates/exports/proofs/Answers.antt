@@ -1,16 +1,16 @@
 -- What the C functions make of the fit's answers is what their definitions say.
 --   repairs-passed, repairs-tests   the tests of a repair and what they ask for
 --   column-by, opened-by            what is written by the parts of the fit's answer
---   repairing-refused, repairing-by, opening-by
---   repair-1, repair-3, open-1, open-3, deal-number   which number is given, and that what was lent is left alone
+--   repairing-refused, repairing-by, opening-at, opening-refused, opening-by
+--   repair-1, repair-3, repair-14, open-1, open-3, open-14, deal-number   which number is given, and that what was lent is left alone
 use mathlib.Core.Path.{_≡_, refl, sym, ap, _∙_}
 use mathlib.Core.Logic.{_⊎_, inl, inr, ⊎-elim}
-use mathlib.Core.Bool.{Bool, true, false}
+use mathlib.Core.Bool.{Bool, true, false, _&&_, and-false}
 use mathlib.Core.Option.{Option, none, some}
-use mathlib.Core.List.{List, [], _∷_}
-use Prim.Native.Nat.{ℕ, suc, _+_, _*_, _-_, _≤_}
+use mathlib.Core.List.{List, [], _∷_, _++_}
+use Prim.Native.Nat.{ℕ, suc, _+_, _*_, _-_, _≤_, _<_}
 use native.Mathlib.Omega.{arith}
-use borrow.Author.Tests.{le-leb, eq-eqb, ne-eqb, leb-true, eqb-true}
+use borrow.Author.Tests.{le-leb, lt-leb, eq-eqb, ne-eqb, leb-true, eqb-true}
 use lib.Dec.{eqb, leb}
 use lib.ListN.{length, getD, replicate}
 use lib.Seq.{take-at}
@@ -19,23 +19,25 @@ use Rattle.lists.proofs.Cases.{true-or-false}
 use Rattle.lists.proofs.Padded.{getD-zeros}
 use Rattle.field.specs.Modulus.{modulus}
 use Rattle.field.proofs.Primes.{prime}
-use Rattle.polynomial.specs.Polynomial.{distinctResidues}
-use Rattle.polynomial.proofs.Below.{distinct-residues-true, distinct-residues-facts}
 use Rattle.answers.specs.declared.Refusal.{Refusal}
-use Rattle.answers.specs.declared.Refusal.the-variants.{WrongSize, WrongLength}
+use Rattle.answers.specs.declared.Refusal.the-variants.{WrongLength, WrongTable}
 use Rattle.answers.specs.declared.Admission.{Admission}
 use Rattle.answers.specs.declared.Admission.the-variants.{Pass, Fail}
-use Rattle.answers.specs.Refusals.{refusalNumber, lowest}
+use Rattle.answers.specs.Refusals.{Test, refusalNumber, lowest}
 use Rattle.answers.specs.Fits.{decoded}
-use Rattle.answers.proofs.Tests.{lowest-pass}
+use Rattle.answers.proofs.Tests.{lowest-pass, lowest-first, passed-more}
 use Rattle.fit.specs.Fit.{fit}
 use Rattle.fit.specs.Admitted.{decodedIf, fitIn}
 use Rattle.fit.proofs.Admitted.{fit-admitted}
 use Rattle.fit.proofs.Decoding.{fit-sound}
 use Rattle.parties.specs.Parties.{sizes}
+use Rattle.parties.proofs.Parties.{sizes-facts}
+use Rattle.tables.specs.Tables.{oneTo, Stations, isTable, tableTests}
+use Rattle.tables.proofs.Tables.{table-facts, table-true, tests-pass, one-to-table}
 use Rattle.recovery.specs.Recovery.{openingOf, publishedIn}
-use Rattle.dealer.specs.Desk.{dealingNumber, desk}
-use Rattle.exports.specs.Exports.{dealing, repairTests, repaired, repairedIf, repairing, opened, openedIf, opening}
+use Rattle.dealer.specs.Desk.{dealingNumber, deskWith}
+use Rattle.exports.specs.Exports.{dealingAt, repairSizes, repairTests, repaired, repairedIf, repairing, opened, openTests}
+use Rattle.exports.specs.Exports.{openedIf, openingAt}
 use Rattle.exports.specs.Pieces.{columnBy, openedBy, Repairs}
 
 -- ---- a repair
@@ -52,7 +54,7 @@ module _ (t : ℕ) (xs ys column : List ℕ) where
         enough = leb-true (3 * t + 1) (length xs) (lists .1 .0);
         most = leb-true (length xs) 16 (rest .0);
         room = eqb-true (length column) (suc t) (rest .1 .0);
-        points = distinct-residues-facts modulus xs (rest .1 .1 .0);
+        points = table-facts modulus (length xs) xs (rest .1 .1 .0);
       }
 
   pub repairs-tests : Repairs t xs ys column → lowest (repairTests t xs (length ys) (length column)) ≡ Pass
@@ -64,7 +66,7 @@ module _ (t : ℕ) (xs ys column : List ℕ) where
         le-leb (3 * t + 1) (length xs) (r .enough),
         le-leb (length xs) 16 (r .most),
         eq-eqb (length column) (suc t) (r .room),
-        distinct-residues-true modulus xs (r .points),
+        table-true modulus (length xs) xs (r .points),
       )
 
   pub repairing-refused : {why : Refusal} → lowest (repairTests t xs (length ys) (length column)) ≡ Fail why
@@ -96,16 +98,23 @@ module _ (t : ℕ) (xs ys column : List ℕ) where
         (λ f e. fit-sound modulus prime t (length xs - t) xs ys f e .poly .size ∙ sym (r .room))
         ∙ sym repairing-by
 
--- ---- the numbers of a repair: 1 for t, then 3 for the lists
-lists-only : (a b c d e : Bool)
-    → let found = lowest ((a, WrongLength) ∷ (b, WrongLength) ∷ (c, WrongLength) ∷ (d, WrongLength) ∷ (e, WrongLength) ∷ []) in
-    (found ≡ Pass) ⊎ (found ≡ Fail WrongLength)
-lists-only false b c d e = inr refl
-lists-only true false c d e = inr refl
-lists-only true true false d e = inr refl
-lists-only true true true false e = inr refl
-lists-only true true true true false = inr refl
-lists-only true true true true true = inl refl
+-- ---- the numbers of a repair: 1 for t, 3 for the lists, 14 for the points
+abbrev lengths : Bool → Bool → Bool → Bool → List Test
+lengths a b c d = (a, WrongLength) ∷ (b, WrongLength) ∷ (c, WrongLength) ∷ (d, WrongLength) ∷ []
+
+lists-only : (a b c d : Bool) → (lowest (lengths a b c d) ≡ Pass) ⊎ (lowest (lengths a b c d) ≡ Fail WrongLength)
+lists-only false b c d = inr refl
+lists-only true false c d = inr refl
+lists-only true true false d = inr refl
+lists-only true true true false = inr refl
+lists-only true true true true = inl refl
+
+-- What the first tests of a repair ask for.
+pub record Lists (t : ℕ) (xs ys column : List ℕ) : Type 0 where
+  pub lengths : length xs ≡ length ys
+  pub enough : 3 * t + 1 ≤ length xs
+  pub most : length xs ≤ 16
+  pub room : length column ≡ suc t
 
 module _ (t : ℕ) (xs ys column : List ℕ) where
   pub repair-1 : ((1 ≤ t) × (t ≤ 3) → ⊥) → repairing t xs ys column ≡ (column, 1)
@@ -119,13 +128,47 @@ module _ (t : ℕ) (xs ys column : List ℕ) where
       (λ (low : leb 1 t ≡ false). rw low)
       (true-or-false (leb 1 t))
 
-  pub repair-3 : 1 ≤ t → t ≤ 3 → (Repairs t xs ys column → ⊥) → repairing t xs ys column ≡ (column, 3)
+  -- The first tests pass, or one of them says 3.
+  listed : 1 ≤ t → t ≤ 3 → Lists t xs ys column ⊎ (lowest (repairSizes t (length xs) (length ys) (length column)) ≡ Fail WrongLength)
+  listed a b =
+      ⊎-elim
+      (λ e.
+      let all = lowest-pass (lengths (eqb (length xs) (length ys)) (leb (3 * t + 1) (length xs)) (leb (length xs) 16)
+      (eqb (length column) (suc t))) e in
+      inl (record {
+        lengths = eqb-true (length xs) (length ys) (all .0);
+        enough = leb-true (3 * t + 1) (length xs) (all .1 .0);
+        most = leb-true (length xs) 16 (all .1 .1 .0);
+        room = eqb-true (length column) (suc t) (all .1 .1 .1 .0);
+      }))
+      (λ e. inr (rw (le-leb 1 t a, le-leb t 3 b) e))
+      (lists-only (eqb (length xs) (length ys)) (leb (3 * t + 1) (length xs)) (leb (length xs) 16) (eqb (length column) (suc t)))
+
+  pub repair-3 : 1 ≤ t → t ≤ 3 → (Lists t xs ys column → ⊥) → repairing t xs ys column ≡ (column, 3)
   repair-3 a b d =
       ⊎-elim
-      (λ e. absurd (d (repairs-passed t xs ys column (rw (le-leb 1 t a, le-leb t 3 b) e))))
-      (λ e. sym (repairing-refused t xs ys column {why = WrongLength} (rw (le-leb 1 t a, le-leb t 3 b) e)))
-      (lists-only (eqb (length xs) (length ys)) (leb (3 * t + 1) (length xs)) (leb (length xs) 16) (eqb (length column) (suc t))
-      (distinctResidues modulus xs))
+      (λ l. absurd (d l))
+      (λ e.
+      sym (repairing-refused t xs ys column {why = WrongLength}
+      (lowest-first (repairSizes t (length xs) (length ys) (length column)) ((isTable modulus (length xs) xs, WrongTable) ∷ []) e)))
+      (listed a b)
+
+  pub repair-14 : 1 ≤ t → t ≤ 3 → Lists t xs ys column → (Stations modulus (length xs) xs → ⊥) → repairing t xs ys column ≡ (column, 14)
+  repair-14 a b l d =
+      ⊎-elim
+      (λ e. absurd (d (table-facts modulus (length xs) xs e)))
+      (λ (e : isTable modulus (length xs) xs ≡ false).
+      sym (repairing-refused t xs ys column {why = WrongTable}
+      (rw (
+        le-leb 1 t a,
+        le-leb t 3 b,
+        eq-eqb (length xs) (length ys) (l .lengths),
+        le-leb (3 * t + 1) (length xs) (l .enough),
+        le-leb (length xs) 16 (l .most),
+        eq-eqb (length column) (suc t) (l .room),
+        e,
+      ))))
+      (true-or-false (isTable modulus (length xs) xs))
 
 -- ---- an opening
 opened-decoded : (a : Admission) (o : Option (List ℕ)) (old : ℕ)
@@ -134,32 +177,66 @@ opened-decoded (Fail why) o old = refl
 opened-decoded Pass none old = refl
 opened-decoded Pass (some f) old = ap (λ (v : ℕ). (v, 0)) (getD-zeros f (4 - length f) 0)
 
-module _ (n t : ℕ) (shares : List ℕ) (old : ℕ) where
-  pub opened-by : let fitted = publishedIn n t shares in
-      openedBy (fitted .outcome) (getD (fitted .coefficients) 0 0) old ≡ opening n t shares old
-  unfolding opening publishedIn
-  opened-by =
-      opened-decoded (lowest ((sizes n t, WrongSize) ∷ (eqb (length shares) n, WrongLength) ∷ [])) (openingOf modulus n t shares) old
+module _ (n t : ℕ) (T shares : List ℕ) (old : ℕ) where
+  -- By the parts of the fit's answer, before the table is looked at.
+  pub opened-by : let fitted = publishedIn n t T shares in
+      openedBy (fitted .outcome) (getD (fitted .coefficients) 0 0) old
+      ≡ openedIf (lowest (openTests n t (length shares))) old (openingOf modulus n t T shares)
+  unfolding publishedIn
+  opened-by = opened-decoded (lowest (openTests n t (length shares))) (openingOf modulus n t T shares) old
 
-  pub opening-by : sizes n t ≡ true → length shares ≡ n → opening n t shares old ≡ opened old (openingOf modulus n t shares)
-  unfolding opening
-  opening-by s l = rw (s, eq-eqb (length shares) n l)
+  -- With a table that is one.
+  pub opening-at : Stations modulus n T
+      → openedIf (lowest (openTests n t (length shares))) old (openingOf modulus n t T shares) ≡ openingAt n t T shares old
+  unfolding openingAt
+  opening-at table =
+      ap (λ a. openedIf a old (openingOf modulus n t T shares))
+      (passed-more (openTests n t (length shares)) (tableTests modulus n T) (tests-pass modulus n T table))
 
-  pub open-1 : sizes n t ≡ false → opening n t shares old ≡ (old, 1)
-  unfolding opening
+  pub opening-refused : {why : Refusal} → lowest (openTests n t (length shares) ++ tableTests modulus n T) ≡ Fail why
+      → (old, refusalNumber why) ≡ openingAt n t T shares old
+  unfolding openingAt
+  opening-refused e = ap (λ a. openedIf a old (openingOf modulus n t T shares)) (sym e)
+
+  pub opening-by : sizes n t ≡ true → length shares ≡ n → Stations modulus n T
+      → openingAt n t T shares old ≡ opened old (openingOf modulus n t T shares)
+  unfolding openingAt
+  opening-by s l table = rw (s, eq-eqb (length shares) n l, eq-eqb (length T) n (table .size), table-true modulus n T table)
+
+  -- The numbers: 1 for the sizes, 3 for the shares and for the table's length, 14 for its entries.
+  pub open-1 : sizes n t ≡ false → openingAt n t T shares old ≡ (old, 1)
+  unfolding openingAt
   open-1 s = rw s
 
-  pub open-3 : sizes n t ≡ true → (length shares ≡ n → ⊥) → opening n t shares old ≡ (old, 3)
-  unfolding opening
-  open-3 s d = rw (s, ne-eqb (length shares) n d)
+  -- More than sixteen lamps are none.
+  pub open-many : 16 < n → (old, 1) ≡ openingAt n t T shares old
+  unfolding openingAt sizes
+  open-many h = rw (lt-leb n 16 h, and-false (leb 1 t && leb t 3 && leb (4 * t + 1) n))
+
+  pub open-3 : sizes n t ≡ true → ((length shares ≡ n) × (length T ≡ n) → ⊥) → openingAt n t T shares old ≡ (old, 3)
+  unfolding openingAt
+  open-3 s d =
+      ⊎-elim
+      (λ (e : eqb (length shares) n ≡ true).
+      rw (s, e, ne-eqb (length T) n (λ l. d (eqb-true (length shares) n e, l))))
+      (λ (e : eqb (length shares) n ≡ false). rw (s, e))
+      (true-or-false (eqb (length shares) n))
+
+  pub open-14 : sizes n t ≡ true → length shares ≡ n → length T ≡ n → (Stations modulus n T → ⊥) → openingAt n t T shares old ≡ (old, 14)
+  unfolding openingAt
+  open-14 s l k d =
+      ⊎-elim
+      (λ e. absurd (d (table-facts modulus n T e)))
+      (λ (e : isTable modulus n T ≡ false). rw (s, eq-eqb (length shares) n l, eq-eqb (length T) n k, e))
+      (true-or-false (isTable modulus n T))
 
 -- ---- a dealing: the desk's number, and 0 for none
-pub deal-number : (n t : ℕ) (F out : List ℕ) (k : ℕ) → dealingNumber (desk modulus n t F out .1) ≡ some k
-    → dealing n t F out ≡ (desk modulus n t F out .0, k)
-unfolding dealing
-deal-number n t F out k e = ap (λ o. (desk modulus n t F out .0, orZero o)) e
+module _ (n t : ℕ) (T F out : List ℕ) where
+  pub deal-number : (k : ℕ) → dealingNumber (deskWith modulus n t T F out .1) ≡ some k
+      → dealingAt n t T F out ≡ (deskWith modulus n t T F out .0, k)
+  unfolding dealingAt
+  deal-number k e = ap (λ o. (deskWith modulus n t T F out .0, orZero o)) e
 
-pub deal-written : (n t : ℕ) (F out : List ℕ) → dealingNumber (desk modulus n t F out .1) ≡ none
-    → dealing n t F out ≡ (desk modulus n t F out .0, 0)
-unfolding dealing
-deal-written n t F out e = ap (λ o. (desk modulus n t F out .0, orZero o)) e
+  pub deal-written : dealingNumber (deskWith modulus n t T F out .1) ≡ none → dealingAt n t T F out ≡ (deskWith modulus n t T F out .0, 0)
+  unfolding dealingAt
+  deal-written e = ap (λ o. (deskWith modulus n t T F out .0, orZero o)) e

@@ -8,18 +8,18 @@ use mathlib.Core.Option.{Option, none, some}
 use mathlib.Core.List.{List}
 use Prim.Native.Nat.{ℕ, _-_}
 use native.Mathlib.Omega.{arith}
-use lib.Dec.{lit<}
 use lib.ListN.{length}
 use Rattle.field.specs.Modulus.{modulus}
 use Rattle.field.proofs.Primes.{prime}
-use Rattle.polynomial.specs.Polynomial.{Points}
 use Rattle.fit.specs.Fit.{Near, fit}
 use Rattle.fit.proofs.Decoding.{fit-sound}
 use Rattle.fit.proofs.Rule.{fits-iff, near-found, near-none}
-use Rattle.parties.specs.Parties.{sizes, points}
-use Rattle.parties.proofs.Parties.{sizes-facts, length-points, points-distinct, points-below}
+use Rattle.parties.specs.Parties.{sizes}
+use Rattle.parties.proofs.Parties.{sizes-facts}
+use Rattle.tables.specs.Tables.{Stations}
+use Rattle.tables.proofs.Tables.{table-points}
 use Rattle.answers.specs.Fits.{constant}
-use Rattle.exports.specs.Exports.{repaired, repairing, opened, opening}
+use Rattle.exports.specs.Exports.{repaired, repairing, opened, openingAt}
 use Rattle.exports.specs.Pieces.{Repairs}
 use Rattle.exports.proofs.Answers.{repairing-by, opening-by}
 
@@ -36,7 +36,7 @@ module _ (t : ℕ) (xs ys column : List ℕ) (r : Repairs t xs ys column) where
 
   pub near-written : (f : List ℕ) → Near modulus t xs ys f → repairing t xs ys column ≡ (f, 0)
   near-written f h =
-      repairing-by t xs ys column r ∙ ap (repaired column) (near-found modulus prime t xs ys (r .points) (r .lengths) (r .enough) f h)
+      repairing-by t xs ys column r ∙ ap (repaired column) (near-found modulus prime t xs ys (table-points modulus (length xs) xs (r .points)) (r .lengths) (r .enough) f h)
 
   -- 9 is the truth, and the list is left alone.
   pub none-near : (repairing t xs ys column ≡ (column, 9)) ↔ ((f : List ℕ) → Near modulus t xs ys f → ⊥)
@@ -44,43 +44,43 @@ module _ (t : ℕ) (xs ys column : List ℕ) (r : Repairs t xs ys column) where
     λ h f n. let e = ap (λ (q : List ℕ × ℕ). q .1) (sym h ∙ near-written f n) in omega arith,
     λ h.
         repairing-by t xs ys column r
-        ∙ ap (repaired column) (near-none modulus prime t xs ys (r .points) (r .lengths) (r .enough) .1 h),
+        ∙ ap (repaired column) (near-none modulus prime t xs ys (table-points modulus (length xs) xs (r .points)) (r .lengths) (r .enough) .1 h),
   )
 
-module _ (n t : ℕ) (shares : List ℕ) (old : ℕ) (s : sizes n t ≡ true) (l : length shares ≡ n) where
+module _ (n t : ℕ) (T shares : List ℕ) (old : ℕ) (s : sizes n t ≡ true) (l : length shares ≡ n) (table : Stations modulus n T) where
   -- What is opened is the constant of a polynomial that is near.
-  pub opened-near : opening n t shares old .1 ≡ 0
-      → (f : List ℕ) × Near modulus t (points n) shares f × (opening n t shares old .0 ≡ constant f)
+  pub opened-near : openingAt n t T shares old .1 ≡ 0
+      → (f : List ℕ) × Near modulus t T shares f × (openingAt n t T shares old .0 ≡ constant f)
   opened-near h =
-      let by = opening-by n t shares old s l in
-      let r = go (fit modulus t (n - t) (points n) shares) refl (rw by at h) in (r .0, r .1, ap (λ (q : ℕ × ℕ). q .0) by ∙ r .2)
+      let by = opening-by n t T shares old s l table in
+      let r = go (fit modulus t (n - t) T shares) refl (rw by at h) in (r .0, r .1, ap (λ (q : ℕ × ℕ). q .0) by ∙ r .2)
     where
-      go : (o : Option (List ℕ)) → fit modulus t (n - t) (points n) shares ≡ o → opened old o .1 ≡ 0
-          → (f : List ℕ) × Near modulus t (points n) shares f × (opened old o .0 ≡ constant f)
+      go : (o : Option (List ℕ)) → fit modulus t (n - t) T shares ≡ o → opened old o .1 ≡ 0
+          → (f : List ℕ) × Near modulus t T shares f × (opened old o .0 ≡ constant f)
       go none e h = absurd (omega arith)
       go (some f) e h =
           let size = sizes-facts n t s in
-          let same : length (points n) ≡ n = length-points n in
-          let found = ap (λ m. fit modulus t (m - t) (points n) shares) same ∙ e in
-          let sound = fit-sound modulus prime t (length (points n) - t) (points n) shares f found in
-          (f, fits-iff modulus t (points n) shares (same ∙ sym l) (omega arith) f .0 sound, refl)
+          let same : length T ≡ n = table .size in
+          let found = ap (λ m. fit modulus t (m - t) T shares) same ∙ e in
+          let sound = fit-sound modulus prime t (length T - t) T shares f found in
+          (f, fits-iff modulus t T shares (same ∙ sym l) (omega arith) f .0 sound, refl)
 
-  pub near-opened : (f : List ℕ) → Near modulus t (points n) shares f → opening n t shares old ≡ (constant f, 0)
+  pub near-opened : (f : List ℕ) → Near modulus t T shares f → openingAt n t T shares old ≡ (constant f, 0)
   near-opened f h =
       let size = sizes-facts n t s in
-      let same : length (points n) ≡ n = length-points n in
-      let places : Points modulus (points n) = (points-below modulus n (size .3) (lit< tt), points-distinct n) in
-      let found = near-found modulus prime t (points n) shares places (same ∙ sym l) (omega arith) f h in
-      opening-by n t shares old s l ∙ ap (λ m. opened old (fit modulus t (m - t) (points n) shares)) (sym same) ∙ ap (opened old) found
+      let same : length T ≡ n = table .size in
+      let places = table-points modulus n T table in
+      let found = near-found modulus prime t T shares places (same ∙ sym l) (omega arith) f h in
+      opening-by n t T shares old s l table ∙ ap (λ m. opened old (fit modulus t (m - t) T shares)) (sym same) ∙ ap (opened old) found
 
   -- 10 is the truth, and the number is left alone.
-  pub none-opens : (opening n t shares old ≡ (old, 10)) ↔ ((f : List ℕ) → Near modulus t (points n) shares f → ⊥)
+  pub none-opens : (openingAt n t T shares old ≡ (old, 10)) ↔ ((f : List ℕ) → Near modulus t T shares f → ⊥)
   none-opens = (
     λ h f d. let e = ap (λ (r : ℕ × ℕ). r .1) (sym h ∙ near-opened f d) in omega arith,
     λ h.
         let size = sizes-facts n t s in
-        let same : length (points n) ≡ n = length-points n in
-        let places : Points modulus (points n) = (points-below modulus n (size .3) (lit< tt), points-distinct n) in
-        opening-by n t shares old s l ∙ ap (λ m. opened old (fit modulus t (m - t) (points n) shares)) (sym same)
-        ∙ ap (opened old) (near-none modulus prime t (points n) shares places (same ∙ sym l) (omega arith) .1 h),
+        let same : length T ≡ n = table .size in
+        let places = table-points modulus n T table in
+        opening-by n t T shares old s l table ∙ ap (λ m. opened old (fit modulus t (m - t) T shares)) (sym same)
+        ∙ ap (opened old) (near-none modulus prime t T shares places (same ∙ sym l) (omega arith) .1 h),
   )

@@ -1,45 +1,53 @@
 -- What dealing, repair and opening for other languages do: what the lent place holds afterwards, and the answer, 0 or the protocol's number
 -- of the refusal.
---   dealing n t F out          dealing by the desk
---   repairTests t xs m room    what a repair is looked at for, with m values and room for `room` coefficients
---   repairing t xs ys column   the repair of a column from the points with the coordinates xs and ys
---   opening n t shares old     the opening of a published list by itself
---   rendered bytes out         the text of a record, and its length, 0 where it has no room
+--   dealingAt n t T F out        dealing by the desk with the table T; dealing n t F out: without one
+--   repairTests t xs m room      what a repair is looked at for, with m values and room for `room` coefficients; repairSizes: at first
+--   repairing t xs ys column     the repair of a column from the points with the coordinates xs and ys
+--   openTests n t m              what an opening of m shares is looked at for, but for its table
+--   openingAt n t T shares old   the opening of a published list by itself with the table T; opening n t shares old: without one
+--   rendered bytes out           the text of a record, and its length, 0 where it has no room
 -- Laws: proofs/Answers by the tests, proofs/Near for what a repair and an opening mean.
 use mathlib.Core.Option.{Option, none, some}
-use mathlib.Core.List.{List, [], _∷_}
+use mathlib.Core.List.{List, [], _∷_, _++_}
 use Prim.Native.Nat.{ℕ, suc, _+_, _*_, _-_}
 use lib.Dec.{leb, eqb}
 use lib.ListN.{length}
 use Rattle.lists.specs.Options.{orZero}
 use Rattle.field.specs.Modulus.{modulus}
-use Rattle.polynomial.specs.Polynomial.{distinctResidues}
-use Rattle.answers.specs.declared.Refusal.the-variants.{WrongSize, WrongLength, NoColumn, NoOpening}
+use Rattle.answers.specs.declared.Refusal.the-variants.{WrongSize, WrongLength, NoColumn, NoOpening, WrongTable}
 use Rattle.answers.specs.declared.Admission.{Admission}
 use Rattle.answers.specs.declared.Admission.the-variants.{Pass, Fail}
 use Rattle.answers.specs.Refusals.{Test, refusalNumber, lowest}
 use Rattle.answers.specs.Fits.{constant}
 use Rattle.fit.specs.Fit.{fit}
 use Rattle.parties.specs.Parties.{sizes}
+use Rattle.tables.specs.Tables.{oneTo, isTable, tableTests}
 use Rattle.recovery.specs.Recovery.{openingOf}
-use Rattle.dealer.specs.Desk.{dealingNumber, desk}
+use Rattle.dealer.specs.Desk.{dealingNumber, deskWith}
 use Rattle.transcript.specs.Transcript.{rendering, bytesWritten}
 
 -- The desk's list, and its answer as a number.
-unfoldable pub dealing : ℕ → ℕ → List ℕ → List ℕ → List ℕ × ℕ
-dealing n t F out = let d = desk modulus n t F out in (d .0, orZero (dealingNumber (d .1)))
+unfoldable pub dealingAt : ℕ → ℕ → List ℕ → List ℕ → List ℕ → List ℕ × ℕ
+dealingAt n t T F out = let d = deskWith modulus n t T F out in (d .0, orZero (dealingNumber (d .1)))
 
--- 1 for t; 3 for the lists: a value for each of 3t+1 to 16 points, which are distinct residues, and room for t+1 coefficients.
-abbrev pub repairTests : ℕ → List ℕ → ℕ → ℕ → List Test
-repairTests t xs m room =
+-- Without a table.
+abbrev pub dealing : ℕ → ℕ → List ℕ → List ℕ → List ℕ × ℕ
+dealing n t F out = dealingAt n t (oneTo n) F out
+
+-- 1 for t; 3 for the lists: a value for each of 3t+1 to 16 points, and room for t+1 coefficients.
+abbrev pub repairSizes : ℕ → ℕ → ℕ → ℕ → List Test
+repairSizes t k m room =
     (leb 1 t, WrongSize)
     ∷ (leb t 3, WrongSize)
-    ∷ (eqb (length xs) m, WrongLength)
-    ∷ (leb (3 * t + 1) (length xs), WrongLength)
-    ∷ (leb (length xs) 16, WrongLength)
+    ∷ (eqb k m, WrongLength)
+    ∷ (leb (3 * t + 1) k, WrongLength)
+    ∷ (leb k 16, WrongLength)
     ∷ (eqb room (suc t), WrongLength)
-    ∷ (distinctResidues modulus xs, WrongLength)
     ∷ []
+
+-- Then 14 for the points, which are entries of a table.
+abbrev pub repairTests : ℕ → List ℕ → ℕ → ℕ → List Test
+repairTests t xs m room = repairSizes t (length xs) m room ++ (isTable modulus (length xs) xs, WrongTable) ∷ []
 
 -- The coefficients found over the whole list; where none are, 9 and the list as it was.
 abbrev pub repaired : List ℕ → Option (List ℕ) → List ℕ × ℕ
@@ -66,10 +74,18 @@ abbrev pub openedIf : Admission → ℕ → Option (List ℕ) → ℕ × ℕ
 openedIf Pass old o = opened old o
 openedIf (Fail why) old o = (old, refusalNumber why)
 
--- At most t of the n shares differ; 1 for the sizes, 3 for the length, 10 where nothing is found.
-unfoldable pub opening : ℕ → ℕ → List ℕ → ℕ → ℕ × ℕ
-opening n t shares old =
-    openedIf (lowest ((sizes n t, WrongSize) ∷ (eqb (length shares) n, WrongLength) ∷ [])) old (openingOf modulus n t shares)
+-- 1 for the sizes, 3 for the number of shares.
+abbrev pub openTests : ℕ → ℕ → ℕ → List Test
+openTests n t m = (sizes n t, WrongSize) ∷ (eqb m n, WrongLength) ∷ []
+
+-- At most t of the n shares differ; then 3 and 14 for the table, and 10 where nothing is found.
+unfoldable pub openingAt : ℕ → ℕ → List ℕ → List ℕ → ℕ → ℕ × ℕ
+openingAt n t T shares old =
+    openedIf (lowest (openTests n t (length shares) ++ tableTests modulus n T)) old (openingOf modulus n t T shares)
+
+-- Without a table.
+abbrev pub opening : ℕ → ℕ → List ℕ → ℕ → ℕ × ℕ
+opening n t shares old = openingAt n t (oneTo n) shares old
 
 -- The buffer afterwards, and how many bytes are written: no text is empty, so 0 says that none are.
 unfoldable pub rendered : List ℕ → List ℕ → List ℕ × ℕ

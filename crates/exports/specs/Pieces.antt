@@ -8,7 +8,7 @@ use mathlib.Core.List.{List}
 use Prim.Native.Nat.{ℕ, suc, _+_, _*_, _≤_}
 use lib.ListN.{length, take}
 use Rattle.field.specs.Modulus.{modulus}
-use Rattle.polynomial.specs.Polynomial.{Points}
+use Rattle.tables.specs.Tables.{Stations}
 use Rattle.answers.specs.declared.Refusal.the-variants.{NoColumn, NoOpening}
 use Rattle.answers.specs.declared.Decoding.{Decoding}
 use Rattle.answers.specs.declared.Decoding.the-variants.{Found, Nothing, Refused}
@@ -34,4 +34,4 @@ pub record Repairs (t : ℕ) (xs ys column : List ℕ) : Type 0 where
   pub enough : 3 * t + 1 ≤ length xs
   pub most : length xs ≤ 16
   pub room : length column ≡ suc t
-  pub points : Points modulus xs
+  pub points : Stations modulus (length xs) xs

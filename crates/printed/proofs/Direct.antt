@@ -18,8 +18,10 @@ use Rattle.lists.specs.Choices.{select}
 use Rattle.lists.proofs.Tabulate.{length-tabulate}
 use Rattle.field.specs.Modulus.{modulus}
 use Rattle.fit.specs.Fit.{fit}
-use Rattle.parties.specs.Parties.{points, member, entry}
+use Rattle.parties.specs.Parties.{member, entry}
 use Rattle.parties.proofs.Parties.{party-true}
+use Rattle.tables.specs.Tables.{oneTo}
+use Rattle.tables.proofs.Tables.{one-to-table}
 use Rattle.dealer.specs.Desk.{stretch}
 use Rattle.answers.specs.declared.Refusal.the-variants.{AlteredReport, DealerRejected, NoColumn}
 use Rattle.answers.specs.declared.Answer.the-variants.{Done}
@@ -30,8 +32,8 @@ use Rattle.answers.specs.Answers.{numberOf}
 use Rattle.answers.specs.Fits.{constant}
 use Rattle.consistency.specs.Deal.{rowOf, columnOf, firstFrom, reportOf}
 use Rattle.recovery.specs.Recovery.{repair}
-use Rattle.lamp.specs.Lamp.{Sized, made, reply, columnOfLamp, withDeal, firsts, withPairs, reportFrom, repaired, refuse, atEnd, settled}
-use Rattle.lamp.specs.Lamp.{takeDeal, hearPairs, settle, step}
+use Rattle.lamp.specs.Lamp.{Valid, made, tableOf, reply, rowOfLamp, columnOfLamp, withDeal, firsts, withPairs, reportFrom, repaired}
+use Rattle.lamp.specs.Lamp.{refuse, atEnd, settled, takeDeal, hearPairs, settle, step}
 use Rattle.record.specs.declared.Reading.the-variants.{Fine}
 use Rattle.record.specs.Record.{nOf, tOf, reading, IsRecord, numbersOf}
 use Rattle.record.proofs.Answers.{record-fine}
@@ -40,8 +42,10 @@ use Rattle.lines.specs.Lines.{sizeLine, verdictLines, outcomeWords}
 use Rattle.transcript.specs.Outcomes.{replyLine, lastLine}
 use Rattle.transcript.specs.Transcript.{run, lampLines, textOf, textBy, text}
 use Rattle.transcript.proofs.Runs.{fine-legal, fine-facts, deals-count, pairs-count, reports-count, part-room}
+use Rattle.agreement.specs.Plain.{plain}
 use Rattle.agreement.proofs.Runs.{by-cond}
 use Rattle.agreement.proofs.Steps.{takes, hears, looks}
+use Rattle.agreement.proofs.Collapse.{Ready, made-table, made-valid}
 use Rattle.printed.specs.Direct.{itsDeal, itsPairs, itsReport, happy, isAcceptedIn, refuses, mended, lampSays, lampsSay, direct}
 
 -- What a reply prints behind "lamp i".
@@ -49,10 +53,10 @@ abbrev shown : Reply → List ℕ
 shown r = joined (outcomeWords (letters " share ") (orZero (numberOf (r .answer))) (r .lamp .sharing .share))
 
 -- The heard numbers behind the n-th are not looked at.
-repair-padded : (p n t S : ℕ) (xs : List ℕ) → length xs ≡ n → repair p n t S (pad 16 xs) ≡ repair p n t S xs
+repair-padded : (p n t : ℕ) (T : List ℕ) (S : ℕ) (xs : List ℕ) → length xs ≡ n → repair p n t T S (pad 16 xs) ≡ repair p n t T S xs
 unfolding repair
-repair-padded p n t S xs e =
-    ap (λ heard. fit p t (ones S - t) (select (tabulate (bit S) n) (points n)) (select (tabulate (bit S) n) heard))
+repair-padded p n t T S xs e =
+    ap (λ heard. fit p t (ones S - t) (select (tabulate (bit S) n) T) (select (tabulate (bit S) n) heard))
     (take-at xs (replicate (16 - length xs) 0) n e ∙ sym (take-all n xs (omega arith)))
 
 -- A lamp's own part is as long as it must be.
@@ -74,7 +78,7 @@ not-rejecting : (p : ℕ) (l : Lamp) (S : ℕ) → leb (l .party .n - l .party .
 unfolding settled
 not-rejecting p l S e =
     rw e (by-cond (λ r. Rejecting r → ⊥) (member S (l .party .number)) _ _ (Option·none-ne-some _)
-    (mended-not (repair p (l .party .n) (l .party .t) S (l .sharing .heard))))
+    (mended-not (repair p (l .party .n) (l .party .t) (tableOf (l .party)) S (l .sharing .heard))))
   where
     mended-not : (o : Option (List ℕ)) → Rejecting (repaired l S o) → ⊥
     mended-not none q = let z = Option·some-injective (refusalNumber NoColumn) (refusalNumber DealerRejected) q in omega arith
@@ -110,8 +114,16 @@ module _ (bytes : List ℕ) (is : IsRecord bytes) where
     abbrev reported : Lamp
     reported = withPairs modulus dealt hs
 
-    sized : Sized start
-    sized = record { size = fine-legal bytes n t fine; party = party-true n i first last }
+    -- It is made with the points 1 to n.
+    ready : Ready (plain modulus n t) i
+    ready = record {
+      size = fine-legal bytes n t fine;
+      party = party-true n i first last;
+      points = one-to-table modulus n (omega (arith, fine-facts bytes n t fine .3));
+    }
+
+    start-valid : Valid modulus (start .party)
+    start-valid = made-valid (plain modulus n t) i ready
 
     pub deal-long : length d ≡ 2 * suc t
     deal-long =
@@ -123,20 +135,24 @@ module _ (bytes : List ℕ) (is : IsRecord bytes) where
         let f = fine-facts bytes n t fine in
         own-part (numbersOf bytes 1) n n i (pairs-count bytes n t fine) (f .3) (f .3) first last
 
-    dealt-sized : Sized dealt
+    dealt-valid : Valid modulus (dealt .party)
     unfolding withDeal
-    dealt-sized = record { size = sized .size; party = sized .party }
+    dealt-valid = start-valid
 
-    reported-sized : Sized reported
+    reported-valid : Valid modulus (reported .party)
     unfolding withPairs withDeal
-    reported-sized = record { size = sized .size; party = sized .party }
+    reported-valid = start-valid
+
+    table-is : tableOf (reported .party) ≡ oneTo n
+    unfolding withPairs withDeal
+    table-is = made-table (plain modulus n t) i ready
 
     taken : step modulus start (takeDeal d) ≡ reply dealt Done
-    taken = takes start sized modulus d (ap (λ z. z && true) (eq-eqb (length d) (2 * suc t) deal-long))
+    taken = takes modulus start start-valid d (ap (λ z. z && true) (eq-eqb (length d) (2 * suc t) deal-long))
 
     heard : step modulus dealt (hearPairs hs) .lamp ≡ reported
     unfolding withDeal
-    heard = ap (λ (r : Reply). r .lamp) (hears dealt dealt-sized modulus hs (ap (λ z. z && true) (eq-eqb (length hs) (2 * n) pairs-long)))
+    heard = ap (λ (r : Reply). r .lamp) (hears modulus dealt dealt-valid hs (ap (λ z. z && true) (eq-eqb (length hs) (2 * n) pairs-long)))
 
     column-is : columnOfLamp reported ≡ columnOf t d
     unfolding withPairs withDeal
@@ -145,7 +161,8 @@ module _ (bytes : List ℕ) (is : IsRecord bytes) where
     report-is : reported .sharing .report ≡ itsReport bytes i
     unfolding withPairs withDeal reportFrom
     report-is =
-        ap₂ (λ row column. reportOf modulus n i row column hs)
+        ap (λ T. reportOf modulus n T i (rowOfLamp reported) (columnOfLamp reported) hs) table-is
+        ∙ ap₂ (λ row column. reportOf modulus n (oneTo n) i row column hs)
         (take-at (rowOf t d) (replicate (4 - length (rowOf t d)) 0) (suc t) (length-take-le (suc t) d (omega (arith, deal-long))))
         (take-at (columnOf t d) (replicate (4 - length (columnOf t d)) 0) (suc t) (length-drop (suc t) d ∙ omega (arith, deal-long)))
 
@@ -155,7 +172,7 @@ module _ (bytes : List ℕ) (is : IsRecord bytes) where
     answered =
         ap (λ (r : Reply). step modulus (step modulus (r .lamp) (hearPairs hs) .lamp) (settle rs)) taken
         ∙ ap (λ l. step modulus l (settle rs)) heard
-        ∙ looks reported reported-sized modulus rs (ap (λ z. z && true) (eq-eqb (length rs) n (reports-count bytes n t fine)))
+        ∙ looks modulus reported reported-valid rs (ap (λ z. z && true) (eq-eqb (length rs) n (reports-count bytes n t fine)))
         ∙ ap (λ r. cond (eqb (entry rs i) r) (settled modulus reported (happy bytes)) (refuse reported AlteredReport)) report-is
 
     -- The lamp says so exactly if the printed verdict is against the dealer, its own report being in the record.
@@ -191,8 +208,10 @@ module _ (bytes : List ℕ) (is : IsRecord bytes) where
         (shown-cond (member (happy bytes) i) _ _
         ∙ ap₂ (cond (member (happy bytes) i))
         (ap (λ f. line (letters " share ") (constant f)) column-is)
-        (mended-shown (repair modulus n t (happy bytes) (pad 16 (firsts n hs)))
-        ∙ ap mended (repair-padded modulus n t (happy bytes) (firsts n hs) (length-tabulate (λ k. firstFrom hs (suc k)) n))))))
+        (mended-shown (repair modulus n t (tableOf (reported .party)) (happy bytes) (pad 16 (firsts n hs)))
+        ∙ ap (λ T. mended (repair modulus n t T (happy bytes) (pad 16 (firsts n hs)))) table-is
+        ∙ ap mended
+        (repair-padded modulus n t (oneTo n) (happy bytes) (firsts n hs) (length-tabulate (λ k. firstFrom hs (suc k)) n))))))
 
   -- ---- all of them
   lines-said : (k : ℕ) → k ≤ n → lampLines bytes n t k ≡ lampsSay bytes k

@@ -17,8 +17,9 @@ use Rattle.mutual.specs.Agreement.{agree, agreements}
 use Rattle.happy.specs.Happy.{joins, better, best, largest, largestIn, happySet}
 use Rattle.trial.specs.Trial.{hits, pointsSent, through}
 use Rattle.fit.specs.Fit.{sent, fit}
-use Rattle.parties.specs.Parties.{sizes, isParty, pointOf, entry, notSent}
+use Rattle.parties.specs.Parties.{sizes, isParty, entry, notSent}
 use Rattle.parties.proofs.Parties.{party-facts}
+use Rattle.tables.specs.Tables.{pointAt, isTable}
 use Rattle.consistency.specs.Deal.{firstFrom, secondFrom, sound, pairFor, confirms, reportOf}
 use Rattle.recovery.specs.Recovery.{repair}
 use Rattle.lamp.specs.Lamp.{withDeal, reportFrom, withPairs, atEnd, settled, step}
@@ -93,8 +94,8 @@ table = (
 pub texts : All (λ q. text (q .0) ≡ q .1) table
 unfolding text textBy textOf lampLines run replyLine lastLine verdictWords names name decimal recordOf sectionOf reading directoryRight
     directory standAt bytesOf numbers step withDeal withPairs reportFrom settled repair atEnd reportOf confirms sound sizes
-    isParty pointOf notSent fit pointsSent hits sent through interpolate zipWith happySet largestIn largest best better joins agreements
-    agree mask tabulate add sub mul inv invWithin ones
+    isParty pointAt isTable notSent fit pointsSent hits sent through interpolate zipWith happySet largestIn largest best better joins
+    agreements agree mask tabulate add sub mul inv invWithin ones
 texts = (refl, (refl, (refl, (refl, (refl, (refl, (refl, (refl, tt))))))))
 
 -- ---- the example meets the premises, all lamps being honest
@@ -125,7 +126,7 @@ example-record = fine-record example 5 1 example-fine
 
 pub example-faithful : Faithful everyone example
 unfolding Hears recordOf sectionOf reading directoryRight directory standAt bytesOf numbers sizes reportOf confirms sound pairFor
-    pointOf notSent tabulate mask add mul
+    pointAt notSent tabulate mask add mul
 example-faithful = record {
   few = lit≤ tt;
   own = λ i h. five (λ i. entry (numbersOf example 2) i ≡ itsReport example i) refl refl refl refl refl i (h .party);

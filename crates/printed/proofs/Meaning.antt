@@ -9,7 +9,7 @@ use Prim.Native.Nat.{ℕ, zero, suc, _+_, _*_, _-_, _/_, _≤_, _<_}
 use native.Mathlib.Nat.{div-div-eq-div-mul}
 use native.Mathlib.Omega.{arith}
 use borrow.Author.Tests.{ltb-true, ltb-false}
-use lib.Dec.{ltb, lit<}
+use lib.Dec.{ltb}
 use lib.ListN.{length, getD}
 use Rattle.lists.specs.All.{All}
 use Rattle.lists.specs.Masks.{bit}
@@ -31,10 +31,10 @@ use Rattle.record.specs.Record.{reading, readingNumber}
 use Rattle.lines.specs.Lines.{name, names, refusedLine}
 use Rattle.transcript.specs.Outcomes.{openingLine, lastLine}
 use Rattle.transcript.specs.Transcript.{textOf, textBy, text}
-use Rattle.parties.specs.Parties.{sizes, parties, points, member}
-use Rattle.parties.proofs.Parties.{sizes-facts, length-points}
-use Rattle.agreement.specs.Setting.{setting}
-use Rattle.agreement.proofs.Geometry.{points-fine}
+use Rattle.parties.specs.Parties.{sizes, parties, member}
+use Rattle.parties.proofs.Parties.{sizes-facts}
+use Rattle.tables.specs.Tables.{oneTo}
+use Rattle.tables.proofs.Tables.{table-points, length-one-to, one-to-table}
 use Rattle.fit.proofs.Rule.{near-found, near-none}
 use Rattle.printed.specs.Meaning.{spelt, listed}
 
@@ -115,29 +115,29 @@ names-members set (suc n) =
 
 -- ---- the opening
 module _ (n t : ℕ) (size : sizes n t ≡ true) (shares : List ℕ) (long : length shares ≡ n) where
-  fine : Points modulus (points n)
-  fine = points-fine (setting modulus n t) (record { prime = prime; above = lit< tt; size = size })
+  fine : Points modulus (oneTo n)
+  fine = table-points modulus n (oneTo n) (one-to-table modulus n (omega (arith, sizes-facts n t size .3)))
 
-  same : length (points n) ≡ length shares
-  same = length-points n ∙ sym long
+  same : length (oneTo n) ≡ length shares
+  same = length-one-to n ∙ sym long
 
-  enough : 3 * t + 1 ≤ length (points n)
-  enough = let f = sizes-facts n t size in omega (arith, length-points n)
+  enough : 3 * t + 1 ≤ length (oneTo n)
+  enough = let f = sizes-facts n t size in omega (arith, length-one-to n)
 
-  needed : fit modulus t (n - t) (points n) shares ≡ fit modulus t (length (points n) - t) (points n) shares
-  needed = ap (λ m. fit modulus t (m - t) (points n) shares) (sym (length-points n))
+  needed : fit modulus t (n - t) (oneTo n) shares ≡ fit modulus t (length (oneTo n) - t) (oneTo n) shares
+  needed = ap (λ m. fit modulus t (m - t) (oneTo n) shares) (sym (length-one-to n))
 
   -- The published list opens the constant of the polynomial that differs from it in at most t places.
-  pub opened-near : (f : List ℕ) → Near modulus t (points n) shares f
+  pub opened-near : (f : List ℕ) → Near modulus t (oneTo n) shares f
       → lastLine true n t shares ≡ line (letters "opened ") (constant f)
   unfolding lastLine
-  opened-near f near = ap openingLine (needed ∙ near-found modulus prime t (points n) shares fine same enough f near)
+  opened-near f near = ap openingLine (needed ∙ near-found modulus prime t (oneTo n) shares fine same enough f near)
 
   -- It is refused only where there is none.
-  pub opened-none : ((f : List ℕ) → Near modulus t (points n) shares f → ⊥)
+  pub opened-none : ((f : List ℕ) → Near modulus t (oneTo n) shares f → ⊥)
       → lastLine true n t shares ≡ line (letters "opened refused ") (refusalNumber NoOpening)
   unfolding lastLine
-  opened-none never = ap openingLine (needed ∙ near-none modulus prime t (points n) shares fine same enough .1 never)
+  opened-none never = ap openingLine (needed ∙ near-none modulus prime t (oneTo n) shares fine same enough .1 never)
 
 -- ---- No text is empty.
 some-text : (r : Reading) (bytes : List ℕ) → 1 ≤ length (textBy r bytes)

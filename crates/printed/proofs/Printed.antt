@@ -6,14 +6,15 @@ use mathlib.Core.Option.{none, some, Option·none-ne-some}
 use mathlib.Core.List.{List, [], _++_}
 use Prim.Native.Nat.{ℕ, suc}
 use native.Mathlib.Omega.{arith}
-use lib.Dec.{lit<}
 use Rattle.lists.specs.Options.{orZero}
 use Rattle.lists.proofs.Cases.{true-or-false}
 use Rattle.field.specs.Modulus.{modulus}
 use Rattle.field.proofs.Primes.{prime}
 use Rattle.bivariate.proofs.Crossing.{row-poly}
 use Rattle.bivariate.proofs.Terms.{row-at}
-use Rattle.parties.proofs.Parties.{party-facts}
+use Rattle.parties.specs.Parties.{isParty}
+use Rattle.parties.proofs.Parties.{party-facts, sizes-facts}
+use Rattle.tables.proofs.Tables.{one-to-table, one-to-point}
 use Rattle.answers.specs.declared.Refusal.the-variants.{DealerRejected}
 use Rattle.answers.specs.Refusals.{refusalNumber}
 use Rattle.answers.specs.Answers.{numberOf}
@@ -24,11 +25,12 @@ use Rattle.text.specs.Letters.{letters, field, line}
 use Rattle.lines.specs.Lines.{verdictWords, verdictLines, lampLine, openedLine}
 use Rattle.transcript.specs.Outcomes.{replyLine, openingLine, lastLine}
 use Rattle.transcript.specs.Transcript.{run, textOf, textBy, text}
-use Rattle.transcript.proofs.Runs.{fine-legal, reports-count, shares-count}
+use Rattle.transcript.proofs.Runs.{reports-count, shares-count}
 use Rattle.agreement.specs.Setting.{Setting, Legal, point, valueOf, zeroRow}
-use Rattle.agreement.specs.Demand3.{Premises, Accepts, Rejects, AllReject, AllAccept, Conclusions, Demand3}
+use Rattle.agreement.specs.Demand3.{Premises, Accepts, Rejects, AllReject, AllAccept, Conclusions}
 use Rattle.agreement.proofs.Geometry.{opens, row-constant}
-use Rattle.agreement.proofs.Agreement.{one-honest, demand3}
+use Rattle.agreement.proofs.Agreement.{one-honest}
+use Rattle.agreement.proofs.Plain.{without-tables}
 use Rattle.printed.specs.Direct.{happy, isAcceptedIn}
 use Rattle.printed.specs.Printed.{settingOf, told, story, IsHonest, Faithful, printedLine, textWith}
 use Rattle.printed.specs.Printed.{Rejected, Accepted, PrintedRight, Printed}
@@ -48,7 +50,15 @@ module _ (honest : ℕ → Bool) (bytes : List ℕ) (is : IsRecord bytes) (f : F
   fine = record-fine bytes is
 
   legal : Legal s
-  legal = record { prime = prime; above = lit< tt; size = is .size }
+  legal = record {
+    prime = prime;
+    size = is .size;
+    points = one-to-table modulus n (omega (arith, sizes-facts n t (is .size) .3));
+  }
+
+  -- Lamp i's share, at its point and at i itself.
+  share-at : (F : List ℕ) (i : ℕ) → isParty n i ≡ true → valueOf s F (point s i) 0 ≡ valueOf s F i 0
+  share-at F i party = ap (λ x. valueOf s F x 0) (one-to-point n i party)
 
   -- All else that demand 3 supposes holds of every record.
   premises : Premises s (story honest bytes)
@@ -72,21 +82,20 @@ module _ (honest : ℕ → Bool) (bytes : List ℕ) (is : IsRecord bytes) (f : F
   }
 
   all-right : Conclusions s (story honest bytes)
-  unfolding Demand3
-  all-right = demand3 n t (story honest bytes) premises
+  all-right = without-tables .agreement n t (story honest bytes) (λ i h. refl) premises
 
   -- ---- one lamp
-  refused-line : (i : ℕ) → Rejects s (story honest bytes) i
+  refused-line : (i : ℕ) → Rejects s (story honest bytes) s i
       → printedLine honest bytes i ≡ field (letters "lamp ") i ++ line (letters " refused ") (refusalNumber DealerRejected)
   unfolding replyLine run
   refused-line i r = ap (λ a. lampLine i (orZero a) (run bytes n t i .lamp .sharing .share)) (r .answered)
 
-  share-line : (F : List ℕ) (i : ℕ) → Accepts s (story honest bytes) i F
-      → printedLine honest bytes i ≡ field (letters "lamp ") i ++ line (letters " share ") (valueOf s F (point s i) 0)
+  share-line : (F : List ℕ) (i : ℕ) → isParty n i ≡ true → Accepts s (story honest bytes) s i F
+      → printedLine honest bytes i ≡ field (letters "lamp ") i ++ line (letters " share ") (valueOf s F i 0)
   unfolding replyLine run
-  share-line F i a =
+  share-line F i party a =
       ap (λ z. lampLine i (orZero z) (run bytes n t i .lamp .sharing .share)) (a .answered .0)
-      ∙ ap (lampLine i 0) (a .stays .shares [] (told bytes i .rest, refl))
+      ∙ ap (lampLine i 0) (a .stays .shares [] (told bytes i .rest, refl) ∙ share-at F i party)
 
   -- ---- the verdict: what an honest lamp says is what is printed
   module _ (i : ℕ) (h : IsHonest honest bytes i) where
@@ -126,11 +135,11 @@ module _ (honest : ℕ → Bool) (bytes : List ℕ) (is : IsRecord bytes) (f : F
   accepted F a = record {
     all = a;
     prints = printed-by true (verdict-yes (someone .0) (someone .1) (a .hold (someone .0) (someone .1) .answered .0));
-    lines = λ i h. share-line F i (a .hold i h);
+    lines = λ i h. share-line F i (h .party) (a .hold i h);
     opens = λ published.
         let found = opens s legal honest (f .few) (zeroRow s F) (numbersOf bytes 3)
         (row-poly modulus (suc t) (suc t) F 0 (omega arith)) (shares-count bytes n t fine)
-        (λ j q g. row-at modulus (suc t) (suc t) F (point s j) 0 ∙ sym (published j (record { party = q; good = g }))) in
+        (λ j q g. row-at modulus (suc t) (suc t) F (point s j) 0 ∙ share-at F j q ∙ sym (published j (record { party = q; good = g }))) in
         ap openingLine found ∙ ap (openedLine 0) (row-constant s legal F (a .on .poly .size));
   }
 

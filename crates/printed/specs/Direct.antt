@@ -1,4 +1,5 @@
--- The text of a record straight from its numbers, by the protocol's steps 1 to 4, with no lamp and no call.
+-- The text of a record straight from its numbers, by the protocol's steps 1 to 4, with no lamp and no call. A record has no table: the
+-- points are 1 to n.
 --   itsDeal, itsPairs, itsReport   lamp i's own deal and pairs in the record, and its report by step 3
 --   happy, isAcceptedIn            the happy set and whether the dealer is accepted, by the reports alone
 --   lampSays bytes i               what is printed behind "lamp i"
@@ -12,6 +13,7 @@ use lib.Dec.{eqb}
 use Rattle.field.specs.Modulus.{modulus}
 use Rattle.happy.specs.Happy.{happySet}
 use Rattle.parties.specs.Parties.{member, entry}
+use Rattle.tables.specs.Tables.{oneTo}
 use Rattle.dealer.specs.Desk.{stretch}
 use Rattle.consistency.specs.Deal.{rowOf, columnOf, reportOf}
 use Rattle.recovery.specs.Recovery.{repair}
@@ -45,7 +47,8 @@ module _ (bytes : List ℕ) where
 
   -- Its report, which step 3 gives from both.
   abbrev pub itsReport : ℕ → ℕ
-  itsReport i = reportOf modulus (nOf bytes) i (rowOf (tOf bytes) (itsDeal i)) (columnOf (tOf bytes) (itsDeal i)) (itsPairs i)
+  itsReport i =
+      reportOf modulus (nOf bytes) (oneTo (nOf bytes)) i (rowOf (tOf bytes) (itsDeal i)) (columnOf (tOf bytes) (itsDeal i)) (itsPairs i)
 
   -- The happy set, and whether the dealer is accepted: by the reports alone.
   abbrev pub happy : ℕ
@@ -58,7 +61,7 @@ module _ (bytes : List ℕ) where
   unfoldable pub lampSays : ℕ → List ℕ
   lampSays i =
       let own = line (letters " share ") (constant (columnOf (tOf bytes) (itsDeal i))) in
-      let repaired = mended (repair modulus (nOf bytes) (tOf bytes) happy (firsts (nOf bytes) (itsPairs i))) in
+      let repaired = mended (repair modulus (nOf bytes) (tOf bytes) (oneTo (nOf bytes)) happy (firsts (nOf bytes) (itsPairs i))) in
       let settled = cond isAcceptedIn (cond (member happy i) own repaired) (refuses DealerRejected) in
       cond (eqb (entry (numbersOf bytes 2) i) (itsReport i)) settled (refuses AlteredReport)
 

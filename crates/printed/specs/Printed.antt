@@ -1,6 +1,6 @@
 -- What is printed of a record in which the honest lamps' entries meet demand 3's premises.
 --   Faithful honest bytes     those premises: few are faulty, and the honest lamps' pairs and reports stand in the record
---   settingOf bytes           the record's sizes, with the modulus
+--   settingOf bytes           the record's sizes, with the modulus and the points 1 to n
 --   told bytes i              lamp i's calls, as the record tells them: its deal, its pairs, the reports, an opening of what is published
 --   story honest bytes        the execution of all lamps
 --   Rejected, Accepted        what the text says; PrintedRight: one of the two
@@ -14,6 +14,7 @@ use lib.ListN.{getD}
 use Rattle.lists.specs.Choices.{count}
 use Rattle.field.specs.Modulus.{modulus}
 use Rattle.parties.specs.Parties.{parties, entry}
+use Rattle.tables.specs.Tables.{oneTo}
 use Rattle.consistency.specs.Deal.{firstFrom, secondFrom}
 use Rattle.answers.specs.declared.Refusal.the-variants.{DealerRejected}
 use Rattle.answers.specs.Refusals.{refusalNumber}
@@ -23,14 +24,15 @@ use Rattle.text.specs.Letters.{letters, field, line}
 use Rattle.lines.specs.Lines.{sizeLine, happyLine}
 use Rattle.transcript.specs.Outcomes.{replyLine, lastLine}
 use Rattle.transcript.specs.Transcript.{run, lampLines, text}
-use Rattle.agreement.specs.Setting.{Setting, setting, point, valueOf, pairBy}
+use Rattle.agreement.specs.Setting.{Setting, valueOf, pairBy}
 use Rattle.agreement.specs.Calls.{Run, whole}
 use Rattle.agreement.specs.Demand3.{Execution, Honest, AllReject, AllAccept, HonestDealer}
+use Rattle.agreement.specs.Plain.{plain}
 use Rattle.printed.specs.Direct.{itsDeal, itsPairs, itsReport, happy}
 
--- The surroundings that the record gives.
+-- The surroundings that the record gives: a record has no table.
 abbrev pub settingOf : List ℕ → Setting
-settingOf bytes = setting modulus (nOf bytes) (tOf bytes)
+settingOf bytes = plain modulus (nOf bytes) (tOf bytes)
 
 -- Lamp i's own parts of the record, with no other call.
 abbrev pub told : List ℕ → ℕ → Run
@@ -44,9 +46,15 @@ told bytes i = record {
   rest = openShares (numbersOf bytes 3) ∷ [];
 }
 
--- All lamps, with the reports that stand in the record.
+-- All lamps, made without a table, with the reports that stand in the record.
 abbrev pub story : (ℕ → Bool) → List ℕ → Execution
-story honest bytes = record { honest = honest; calls = λ i. whole (told bytes i); run = told bytes; seen = numbersOf bytes 2 }
+story honest bytes = record {
+  honest = honest;
+  tables = λ i. oneTo (nOf bytes);
+  calls = λ i. whole (told bytes i);
+  run = told bytes;
+  seen = numbersOf bytes 2;
+}
 
 module _ (honest : ℕ → Bool) (bytes : List ℕ) where
   -- Lamp i is one of the honest ones.
@@ -89,11 +97,11 @@ module _ (honest : ℕ → Bool) (bytes : List ℕ) where
     pub all : AllAccept (settingOf bytes) (story honest bytes) F
     pub prints : text bytes ≡ textWith (letters "dealer accepted\n" ++ happyLine (happy bytes) (nOf bytes)) opensLine
     pub lines : (i : ℕ) → IsHonest i
-        → printedLine i ≡ field (letters "lamp ") i ++ line (letters " share ") (valueOf (settingOf bytes) F (point (settingOf bytes) i) 0)
-    pub opens : ((j : ℕ) → IsHonest j → entry (numbersOf bytes 3) j ≡ valueOf (settingOf bytes) F (point (settingOf bytes) j) 0)
+        → printedLine i ≡ field (letters "lamp ") i ++ line (letters " share ") (valueOf (settingOf bytes) F i 0)
+    pub opens : ((j : ℕ) → IsHonest j → entry (numbersOf bytes 3) j ≡ valueOf (settingOf bytes) F j 0)
         → opensLine ≡ line (letters "opened ") (valueOf (settingOf bytes) F 0 0)
 
-  -- One verdict; an honest dealer is accepted, its F is its own, and F(0, 0) its secret.
+  -- One verdict; an honest dealer, who has no table either, is accepted, its F is its own, and F(0, 0) its secret.
   pub record PrintedRight : Type 0 where
     pub one-verdict : Rejected ⊎ ((F : List ℕ) × Accepted F)
     pub dealer : (F : List ℕ) → HonestDealer (settingOf bytes) (story honest bytes) F

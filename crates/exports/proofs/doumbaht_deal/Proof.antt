@@ -5,7 +5,7 @@ use Prim.Native.Nat.{ℕ}
 use Rattle.lists.specs.Options.{orZero}
 use Rattle.dealer.specs.declared.Dealing.{Dealing}
 use Rattle.dealer.specs.Desk.{dealingNumber}
-use Rattle.exports.specs.Exports.{dealing}
+use Rattle.exports.specs.Exports.{dealingAt}
 use borrow.Author.Needs.{needs}
 use Rattle.exports.proofs.doumbaht_deal.Statement.{statement}
 use Rattle.exports.proofs.doumbaht_deal.Tie as tie
@@ -20,7 +20,7 @@ same-length : tie.Need-same-length
 same-length c = search needs
 
 returns : tie.Need-returns
-unfolding dealing
+unfolding dealingAt
 returns c =
     let d = c .before .before .before .deal in
     ap (λ (k : ℕ). (d .last .1 .1 .1 .0, k)) (c .dealing-number .ensures)

@@ -1,34 +1,61 @@
--- `exports::doumbaht_open` meets its contract: what is fitted is opened, or says why it is not.
-use mathlib.Core.Path.{ap, _∙_}
-use lib.ListN.{getD}
-use Rattle.exports.specs.Pieces.{openedBy}
-use Rattle.exports.proofs.Answers.{opened-by}
+-- `exports::doumbaht_open` meets its contract: opened at the points 1 to n.
+use mathlib.Core.Path.{_≡_, sym, ap, subst, _∙_}
+use native.Mathlib.Omega.{arith}
+use Prim.Native.Nat.{ℕ}
+use lib.ListN.{length, take}
+use Rattle.field.specs.Modulus.{modulus}
+use Rattle.tables.specs.Tables.{oneTo, Stations}
+use Rattle.tables.proofs.Tables.{length-one-to, one-to-table, kept-front}
+use Rattle.recovery.specs.Recovery.{openingOf}
+use Rattle.answers.specs.Refusals.{lowest}
+use Rattle.exports.specs.Exports.{openTests, openedIf}
+use Rattle.exports.proofs.Answers.{opening-at, open-many}
 use borrow.Author.Needs.{needs}
 use Rattle.exports.proofs.doumbaht_open.Statement.{statement}
 use Rattle.exports.proofs.doumbaht_open.Tie as tie
 
-published-requires : tie.Need-published-requires
-published-requires c κs = search needs
+-- The points are 1 to n.
+abbrev start : tie.After-one-to → tie.Start
+start o = o .before .before .before
 
-array-read-put-opened : tie.Need-array-read-put-opened
-array-read-put-opened c = search needs
+points : (o : tie.After-one-to) → let n = start o .args .n in take n (o .one-to .result) ≡ oneTo n
+points o =
+    let n = start o .args .n in
+    ap (take n) (o .one-to .ensures) ∙ kept-front n (oneTo n) (omega arith) (length-one-to n)
 
-put-opened-requires : tie.Need-put-opened-requires
-put-opened-requires c κs = search needs
+table : (o : tie.After-one-to) → let n = start o .args .n in Stations modulus n (oneTo n)
+table o = one-to-table modulus (start o .args .n) (omega arith)
+
+refusal-number-requires : tie.Need-refusal-number-requires
+refusal-number-requires c κs = search needs
 
 returns : tie.Need-returns
 returns c =
-    let fitted = c .before .before .before in
-    let a = fitted .before .before .args in
-    c .put-opened .ensures
-    ∙ ap (λ w. openedBy (w .outcome) (getD (w .coefficients) 0 0) (a .opened .now)) (fitted .published .ensures)
-    ∙ opened-by (a .n) (a .t) (a .shares .now) (a .opened .now)
+    let a = c .before .before .before .args in
+    ap (λ (k : ℕ). (a .opened .now, k)) (c .refusal-number .ensures)
+    ∙ open-many (a .n) (a .t) (oneTo (a .n)) (a .shares .now) (a .opened .now) (c .before .if1 .taken)
+
+one-to-requires : tie.Need-one-to-requires
+one-to-requires c κs = search needs
+
+opened-at-requires : tie.Need-opened-at-requires
+opened-at-requires c κs = let o = c .before in subst (Stations modulus (start o .args .n)) (sym (points o)) (table o)
+
+returns-2 : tie.Need-returns-2
+returns-2 c =
+    let o = c .before .before in
+    let a = start o .args in
+    c .opened-at .ensures
+    ∙ ap (λ T. openedIf (lowest (openTests (a .n) (a .t) (length (a .shares .now)))) (a .opened .now)
+    (openingOf modulus (a .n) (a .t) T (a .shares .now))) (points o)
+    ∙ opening-at (a .n) (a .t) (oneTo (a .n)) (a .shares .now) (a .opened .now) (table o)
 
 pub doumbaht-open-spec : {M : Type 1} → statement M
 doumbaht-open-spec =
     tie.close
     (tie.spec
-    published-requires
-    array-read-put-opened
-    put-opened-requires
-    returns)
+    refusal-number-requires
+    returns
+    one-to-requires
+    opened-at-requires
+    returns-2)

@@ -1,75 +1,60 @@
--- `exports::repair_admission` meets its contract: the tests are asked one after the other.
-use native.Mathlib.Numerals.{add-one}
-use Rattle.answers.proofs.Tests.{in-order}
-use Rattle.exports.specs.Exports.{repairTests}
+-- `exports::repair_admission` meets its contract: the points are looked at behind the sizes.
+use mathlib.Core.Path.{sym, ap, _∙_}
+use mathlib.Core.List.{[], _∷_}
+use lib.ListN.{length}
+use Rattle.field.specs.Modulus.{modulus}
+use Rattle.tables.specs.Tables.{isTable}
+use Rattle.answers.specs.declared.Refusal.the-variants.{WrongTable}
+use Rattle.answers.specs.declared.Admission.the-variants.{Pass}
+use Rattle.answers.specs.Refusals.{also}
+use Rattle.answers.proofs.Tests.{lowest-first, lowest-then}
+use Rattle.exports.specs.Exports.{repairSizes}
 use borrow.Author.Needs.{needs}
 use Rattle.exports.proofs.repair_admission.Statement.{statement}
 use Rattle.exports.proofs.repair_admission.Tie as tie
 
+repair-sizes-requires : tie.Need-repair-sizes-requires
+repair-sizes-requires c κs = search needs
+
+enum-known-sized : tie.Need-enum-known-sized
+enum-known-sized c = search needs
+
+enum-told : tie.Need-enum-told
+enum-told c = search needs
+
+is-table-requires : tie.Need-is-table-requires
+is-table-requires c κs = search needs
+
 also-requires : tie.Need-also-requires
 also-requires c κs = search needs
 
-also-requires-2 : tie.Need-also-requires-2
-also-requires-2 c κs = search needs
-
-also-requires-3 : tie.Need-also-requires-3
-also-requires-3 c κs = search needs
-
-mul-also : tie.Need-mul-also
-mul-also c = search needs
-
-add-also : tie.Need-add-also
-add-also c = search needs
-
-also-requires-4 : tie.Need-also-requires-4
-also-requires-4 c κs = search needs
-
-also-requires-5 : tie.Need-also-requires-5
-also-requires-5 c κs = search needs
-
-add-also-2 : tie.Need-add-also-2
-add-also-2 c = search needs
-
-also-requires-6 : tie.Need-also-requires-6
-also-requires-6 c κs = search needs
-
-distinct-residues-requires : tie.Need-distinct-residues-requires
-distinct-residues-requires c κs = search needs
-
-also-requires-7 : tie.Need-also-requires-7
-also-requires-7 c κs = search needs
-
 returns : tie.Need-returns
 returns c =
-    let lent = c .before .before in
-    let enough = lent .before .before in
-    let size = enough .before .before in
-    let a = size .before .before .before .args in
-    rw (
-      c .also7 .ensures,
-      c .before .distinct-residues .ensures,
-      lent .also6 .ensures,
-      lent .before .also5 .ensures,
-      enough .also4 .ensures,
-      enough .before .also3 .ensures,
-      size .also2 .ensures,
-      size .before .also .ensures,
-      add-one (a .t),
-    ) (in-order (repairTests (a .t) (a .xs .now) (a .values) (a .room)))
+    let v = c .before .before .before in
+    let a = v .before .before .args in
+    let xs = a .xs .now in
+    sym (lowest-first (repairSizes (a .t) (length xs) (a .values) (a .room)) ((isTable modulus (length xs) xs, WrongTable) ∷ [])
+    (sym (v .repair-sizes .ensures) ∙ c .before .sized .given .1))
+
+returns-2 : tie.Need-returns-2
+returns-2 c =
+    let told = c .before .before in
+    let v = told .before .before in
+    let a = v .before .before .args in
+    let xs = a .xs .now in
+    c .also .ensures
+    ∙ ap (λ b. also Pass b WrongTable) (c .before .is-table .ensures)
+    ∙ sym (lowest-then (repairSizes (a .t) (length xs) (a .values) (a .room)) ((isTable modulus (length xs) xs, WrongTable) ∷ [])
+    (sym (v .repair-sizes .ensures) ∙ told .enum-told .given .1))
 
 pub repair-admission-spec : {M : Type 1} → statement M
 repair-admission-spec =
     tie.close
     (tie.spec
+    repair-sizes-requires
+    enum-known-sized
+    enum-told
+    is-table-requires
     also-requires
-    also-requires-2
-    also-requires-3
-    mul-also
-    add-also
-    also-requires-4
-    also-requires-5
-    add-also-2
-    also-requires-6
-    distinct-residues-requires
-    also-requires-7
-    returns)
+    returns
+    returns-2)

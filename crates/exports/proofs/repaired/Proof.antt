@@ -1,6 +1,8 @@
 -- `exports::repaired` meets its contract: what is fitted is written, or says why it is not.
 use mathlib.Core.Path.{ap, _∙_}
 use native.Mathlib.Omega.{arith}
+use Rattle.field.specs.Modulus.{modulus}
+use Rattle.tables.proofs.Tables.{table-points}
 use Rattle.exports.specs.Pieces.{columnBy}
 use Rattle.exports.proofs.Answers.{column-by}
 use borrow.Author.Needs.{needs}
@@ -11,7 +13,7 @@ sub-fit : tie.Need-sub-fit
 sub-fit c = let s = c .before .before .before in omega (arith, s .pre .enough)
 
 fit-requires : tie.Need-fit-requires
-fit-requires c κs = let s = c .before .before .before in s .pre .points
+fit-requires c κs = let s = c .before .before .before in table-points modulus _ _ (s .pre .points)
 
 put-column-requires : tie.Need-put-column-requires
 put-column-requires c κs =
