@@ -2,8 +2,9 @@
 
 use crate::clique::{members, verdict};
 use crate::fit::open_all;
-use crate::party::Party;
-use crate::record::{self, pair_place, Record};
+use crate::follow::settled_party;
+use crate::record::{self, Record};
+use crate::stations::one_to;
 
 /// The whole output for any bytes. Every line ends with one newline.
 pub fn run(bytes: &[u8]) -> String {
@@ -13,32 +14,9 @@ pub fn run(bytes: &[u8]) -> String {
     }
 }
 
-/// Party i after taking its deal and hearing its pairs. Neither can be
-/// refused: the record's lengths are right and the calls come in turn.
-pub fn reported_party(record: &Record, i: usize) -> Party {
-    let (n, t) = (record.n, record.t);
-    let (mut party, made) = Party::make(n, t, i);
-    made.expect("the record's size is legal");
-    let width = 2 * (t + 1);
-    party
-        .take_deal(&record.deals[(i - 1) * width..i * width])
-        .expect("a deal of the right length");
-    let start = pair_place(n, i, 1);
-    party
-        .hear(&record.pairs[start..start + 2 * n])
-        .expect("n pairs in turn");
-    party
-}
-
-/// Party i run up to and with settling, and what settling answered.
-pub fn settled_party(record: &Record, i: usize) -> (Party, Result<(), u8>) {
-    let mut party = reported_party(record, i);
-    let answer = party.settle(&record.reports);
-    (party, answer)
-}
-
+/// A record carries no table, so its points are 1 to n.
 fn party_line(record: &Record, i: usize) -> String {
-    match settled_party(record, i) {
+    match settled_party(record, &one_to(record.n), i) {
         (party, Ok(())) => format!("lamp {i} share {}\n", party.share),
         (_, Err(refusal)) => format!("lamp {i} refused {refusal}\n"),
     }

@@ -1,18 +1,9 @@
-//! Random lists of calls to one party, and to the desk in between, with the
-//! answer and the state after each call. The README says how a line is
-//! written.
+//! Calls to one party and to the desk, with the answer and the state after
+//! each call. The README says how a line is written.
 
 use crate::dealer;
-use crate::desk_calls::random_desk;
 use crate::field::NOT_SENT;
-use crate::party::{Party, Stage};
-use crate::poly::value;
-use crate::record::pair_place;
-use crate::rng::Rng;
-use crate::scenario::{
-    about_t, build, enlarge, garble, honest_deals, legal_size, missing_edges, polynomial, wrong,
-    Scenario, HONEST,
-};
+use crate::party::Party;
 
 /// No call has more numbers, and no lent list is longer: more than any right
 /// call needs, and little enough for a reader to hold.
@@ -28,6 +19,10 @@ pub enum Call {
     Settle(Vec<u16>),
     Open(Vec<u16>),
     Desk(Desk),
+    /// A making with a table of the parties' points.
+    MakeWith(usize, usize, usize, Vec<u16>),
+    /// The desk with a table.
+    DeskWith(Desk, Vec<u16>),
 }
 
 /// A call to the dealing desk, which concerns no party.
@@ -62,10 +57,9 @@ pub struct Step {
 pub fn apply(party: &mut Party, call: &Call) -> Answer {
     let mut written = Vec::new();
     let result = match call {
-        Call::Make(n, t, number) => {
-            let (made, answer) = Party::make(*n, *t, *number);
-            *party = made;
-            answer.map(|()| vec![])
+        Call::Make(n, t, number) => replace(party, Party::make(*n, *t, *number)),
+        Call::MakeWith(n, t, number, table) => {
+            replace(party, Party::make_with(*n, *t, *number, table))
         }
         Call::Deal(list) => party.take_deal(list).map(|()| vec![]),
         Call::Say(j) => party.say(*j).map(|(first, second)| vec![first, second]),
@@ -76,8 +70,19 @@ pub fn apply(party: &mut Party, call: &Call) -> Answer {
             written = vec![NOT_SENT; desk.room];
             dealer::deal(desk.n, desk.t, &desk.coefs, &mut written).map(|()| vec![])
         }
+        Call::DeskWith(desk, table) => {
+            written = vec![NOT_SENT; desk.room];
+            let Desk { n, t, coefs, .. } = desk;
+            dealer::deal_with(*n, *t, table, coefs, &mut written).map(|()| vec![])
+        }
     };
     Answer { result, written }
+}
+
+/// The party that was made, refused or not, takes the old one's place.
+fn replace(party: &mut Party, made: (Party, Result<(), u8>)) -> Result<Vec<u16>, u8> {
+    *party = made.0;
+    made.1.map(|()| vec![])
 }
 
 // ---- text ----
@@ -99,6 +104,15 @@ pub fn call_text(call: &Call) -> String {
             let Desk { n, t, room, coefs } = desk;
             format!("desk {n} {t} {room}{}", joined(coefs))
         }
+        Call::MakeWith(n, t, number, table) => {
+            format!("make-table {n} {t} {number}{}", joined(table))
+        }
+        Call::DeskWith(desk, table) => {
+            let Desk { n, t, room, coefs } = desk;
+            let m = table.len();
+            let lists = joined(table) + &joined(coefs);
+            format!("desk-table {n} {t} {room} {m}{lists}")
+        }
     }
 }
 
@@ -112,6 +126,8 @@ pub fn call_name(call: &Call) -> &'static str {
         Call::Settle(_) => "settle",
         Call::Open(_) => "open",
         Call::Desk(_) => "desk",
+        Call::MakeWith(..) => "make-table",
+        Call::DeskWith(..) => "desk-table",
     }
 }
 
@@ -132,8 +148,6 @@ pub fn line(step: &Step) -> String {
     format!("{call} = {}\n", answer_text(&step.answer, &step.after))
 }
 
-// ---- random lists ----
-
 /// Makes the call and notes what came of it.
 pub fn step(party: &mut Party, call: Call) -> Step {
     let before = party.clone();
@@ -144,270 +158,4 @@ pub fn step(party: &mut Party, call: Call) -> Step {
         before,
         after: party.clone(),
     }
-}
-
-/// A random list, its making first.
-pub fn random_list(rng: &mut Rng) -> Vec<Step> {
-    let (n, t, number) = made_for(rng);
-    let (mut party, made) = Party::make(n, t, number);
-    let mut steps = vec![step(&mut party, Call::Make(n, t, number))];
-    // What the other parties would say; a bad size borrows a legal one.
-    let world = match made {
-        Ok(()) => build(rng, n, t, HONEST),
-        Err(_) => {
-            let (n, t) = legal_size(rng);
-            build(rng, n, t, HONEST)
-        }
-    };
-    for _ in 0..rng.between(2, 16) {
-        let call = random_call(rng, &party, &world);
-        steps.push(step(&mut party, call));
-    }
-    steps
-}
-
-/// Size and number, mostly legal.
-fn made_for(rng: &mut Rng) -> (usize, usize, usize) {
-    let (n, t) = match rng.below(12) {
-        0 => bad_size(rng),
-        _ => legal_size(rng),
-    };
-    let number = match rng.below(15) {
-        0 => bad_number(rng, n),
-        _ => rng.between(1, n.max(1)),
-    };
-    (n, t, number)
-}
-
-/// A size that is none, or by chance is one. Some are legal to a reader that
-/// keeps only a number's low byte.
-pub fn bad_size(rng: &mut Rng) -> (usize, usize) {
-    let any = (rng.below(20), rng.below(6));
-    let large = (rng.between(256, 65_535), rng.between(256, 65_535));
-    let (n, t) = legal_size(rng);
-    rng.pick(&[
-        (4, 1),
-        (8, 2),
-        (12, 3),
-        (17, 3),
-        (17, 4),
-        (5, 0),
-        (0, 0),
-        (255, 3),
-        (16, 255),
-        any,
-        large,
-        (n + 256, t),
-        (n, t + 256),
-        (n + 256, t + 256),
-        (65_535, 65_535),
-    ])
-}
-
-/// A party that is none. Some are parties to a reader that keeps only a
-/// number's low byte.
-fn bad_number(rng: &mut Rng, n: usize) -> usize {
-    let large = rng.between(256, 65_535);
-    let low_byte = 256 + rng.between(1, n.clamp(1, 16));
-    let next = (n + 1).min(65_535);
-    rng.pick(&[0, next, next, 17, 255, large, low_byte, low_byte, 65_535])
-}
-
-/// Some go to the desk: of all calls, makes among them, about one in ten. The
-/// others are mostly the call that comes next; else any, at any stage. A party
-/// badly made has no next call, so it gets any.
-fn random_call(rng: &mut Rng, party: &Party, world: &Scenario) -> Call {
-    if rng.chance(11) {
-        return Call::Desk(random_desk(rng));
-    }
-    let kind = match party.stage {
-        _ if party.check_made().is_err() || rng.chance(40) => rng.below(5),
-        Stage::Waiting => 0,
-        Stage::Dealt => 2,
-        Stage::Reported => 3,
-        Stage::Holding => 4,
-        Stage::Closed => rng.below(5),
-    };
-    let mut call = match kind {
-        0 => Call::Deal(deal_list(rng, party, world)),
-        1 => Call::Say(said_for(rng, party)),
-        2 => Call::Hear(pair_list(rng, party, world)),
-        3 => Call::Settle(report_list(rng, party, world)),
-        _ => Call::Open(share_list(rng, world)),
-    };
-    if rng.chance(12) {
-        spoil_length(rng, &mut call);
-    }
-    call
-}
-
-fn said_for(rng: &mut Rng, party: &Party) -> usize {
-    match rng.below(8) {
-        0 => bad_number(rng, party.n),
-        1 => party.number,
-        _ => rng.between(1, party.n.max(1)),
-    }
-}
-
-/// A length that is not this one, or by chance is: one too few or too many,
-/// none at all, twice as many, or any up to the limit.
-pub fn other_length(rng: &mut Rng, length: usize, limit: usize) -> usize {
-    let other = match rng.below(5) {
-        0 => length.saturating_sub(1),
-        1 => length + 1,
-        2 => 0,
-        3 => 2 * length,
-        _ => rng.below(limit + 1),
-    };
-    other.min(limit)
-}
-
-fn spoil_length(rng: &mut Rng, call: &mut Call) {
-    let (Call::Deal(list) | Call::Hear(list) | Call::Settle(list) | Call::Open(list)) = call else {
-        return;
-    };
-    let length = other_length(rng, list.len(), LENT_LIMIT);
-    list.resize(length, NOT_SENT);
-}
-
-/// The number of the party within the world; a bad one stands for party 1.
-fn number_in(party: &Party, world: &Scenario) -> usize {
-    if (1..=world.record.n).contains(&party.number) {
-        party.number
-    } else {
-        1
-    }
-}
-
-/// The party's stretch of the deals, or one that is not right.
-fn deal_list(rng: &mut Rng, party: &Party, world: &Scenario) -> Vec<u16> {
-    let (n, t) = (world.record.n, world.record.t);
-    let i = number_in(party, world);
-    let width = 2 * (t + 1);
-    let stretch = (i - 1) * width..i * width;
-    let mut list = world.record.deals[stretch.clone()].to_vec();
-    match rng.below(12) {
-        0 => {
-            let k = rng.below(width);
-            list[k] = wrong(rng, list[k]);
-        }
-        1 => {
-            let other = polynomial(rng, t);
-            list = honest_deals(n, t, &other)[stretch].to_vec();
-        }
-        2 => enlarge(rng, &mut list),
-        3 => garble(rng, &mut list),
-        _ => {}
-    }
-    list
-}
-
-/// What the party hears: the truth, about t lies in first numbers, some in
-/// second ones, another column, or worse.
-fn pair_list(rng: &mut Rng, party: &Party, world: &Scenario) -> Vec<u16> {
-    let (n, t) = (world.record.n, world.record.t);
-    let start = pair_place(n, number_in(party, world), 1);
-    let mut list = world.record.pairs[start..start + 2 * n].to_vec();
-    match rng.below(10) {
-        0..=2 => {}
-        3..=5 => {
-            lie_at(rng, &mut list, n, t, 0);
-            lie_at(rng, &mut list, n, t, 1);
-        }
-        6 => lie_at(rng, &mut list, n, t, 1),
-        7 => hear_other_column(rng, &mut list, n, t),
-        8 => enlarge(rng, &mut list),
-        _ => garble(rng, &mut list),
-    }
-    list
-}
-
-/// Lies in the first (0) or second (1) numbers of about t pairs.
-fn lie_at(rng: &mut Rng, list: &mut [u16], n: usize, t: usize, which: usize) {
-    let count = about_t(rng, n, t);
-    for j in rng.some_of(n, count) {
-        let k = 2 * (j - 1) + which;
-        list[k] = wrong(rng, list[k]);
-    }
-}
-
-fn hear_other_column(rng: &mut Rng, list: &mut [u16], n: usize, t: usize) {
-    let column: Vec<u64> = (0..=t).map(|_| rng.element().into()).collect();
-    let count = about_t(rng, n, t);
-    let spared = rng.some_of(n, count);
-    for j in 1..=n {
-        if !spared.contains(&j) {
-            list[2 * (j - 1)] = value(&column, j as u64) as u16;
-        }
-    }
-}
-
-/// Reports of all: complete, with some edges missing, or at random; the own
-/// place mostly holds the own report.
-fn report_list(rng: &mut Rng, party: &Party, world: &Scenario) -> Vec<u16> {
-    let (n, t) = (world.record.n, world.record.t);
-    let mut list = world.record.reports.clone();
-    match rng.below(8) {
-        0..=3 => {}
-        4..=6 => {
-            for (a, b) in missing_edges(rng, n, t) {
-                list[a - 1] &= !(1 << (b - 1));
-            }
-        }
-        _ => garble(rng, &mut list),
-    }
-    let own = number_in(party, world) - 1;
-    list[own] = match rng.below(10) {
-        0 => party.report ^ (1 << rng.below(16)),
-        1 => rng.word(),
-        _ => party.report,
-    };
-    if rng.chance(20) {
-        // Bits that do not count, in another's place.
-        let other = rng.below(n);
-        if other != own {
-            list[other] |= 1 << other | !((1u32 << n) - 1) as u16;
-        }
-    }
-    list
-}
-
-/// Published shares: all true, about t wrong, another polynomial, or worse.
-fn share_list(rng: &mut Rng, world: &Scenario) -> Vec<u16> {
-    let (n, t) = (world.record.n, world.record.t);
-    let mut list = world.record.shares.clone();
-    let count = about_t(rng, n, t);
-    let some = rng.some_of(n, count);
-    match rng.below(10) {
-        0..=1 => {}
-        2..=6 => {
-            for j in some {
-                list[j - 1] = wrong(rng, list[j - 1]);
-            }
-        }
-        7 => {
-            let poly: Vec<u64> = (0..=t).map(|_| rng.element().into()).collect();
-            for j in (1..=n).filter(|j| !some.contains(j)) {
-                list[j - 1] = value(&poly, j as u64) as u16;
-            }
-        }
-        8 => enlarge(rng, &mut list),
-        _ => garble(rng, &mut list),
-    }
-    list
-}
-
-/// COUNT lists. Whoever shows, writes or sends them takes them from here, so
-/// that they are the same for all.
-pub fn random_lists(seed: u64, count: usize) -> impl Iterator<Item = Vec<Step>> {
-    let mut rng = Rng::new(seed);
-    (0..count).map(move |_| random_list(&mut rng))
-}
-
-/// COUNT lists as text.
-pub fn text(seed: u64, count: usize) -> String {
-    random_lists(seed, count)
-        .flatten()
-        .map(|step| line(&step))
-        .collect()
 }

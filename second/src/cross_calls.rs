@@ -2,7 +2,8 @@
 //! a run, then short inputs, most of them with a call that ends them. The two
 //! must print the same lines.
 
-use crate::calls::{call_name, call_text, random_lists, Step};
+use crate::calls::{call_name, call_text, Step};
+use crate::lists::random_lists;
 use crate::outcome::all_met;
 use crate::program::{self, Ran};
 use crate::short_inputs::short_inputs;
@@ -14,14 +15,16 @@ use std::path::Path;
 const BATCH_LIMIT: usize = 60_000;
 
 /// Every kind of answer there is, by call; 0 stands for "ok".
-pub const ANSWERS: [(&str, &[u8]); 7] = [
+pub const ANSWERS: [(&str, &[u8]); 9] = [
     ("make", &[0, 1, 2]),
-    ("deal", &[0, 1, 2, 3, 4]),
-    ("say", &[0, 1, 2, 4]),
-    ("hear", &[0, 1, 2, 3, 4]),
-    ("settle", &[0, 1, 2, 3, 4, 7, 8, 9]),
-    ("open", &[0, 1, 2, 3, 4, 10]),
+    ("deal", &[0, 1, 2, 3, 4, 14]),
+    ("say", &[0, 1, 2, 4, 14]),
+    ("hear", &[0, 1, 2, 3, 4, 14]),
+    ("settle", &[0, 1, 2, 3, 4, 7, 8, 9, 14]),
+    ("open", &[0, 1, 2, 3, 4, 10, 14]),
     ("desk", &[0, 1, 3, 5]),
+    ("make-table", &[0, 1, 2, 3, 14]),
+    ("desk-table", &[0, 1, 3, 5, 14]),
 ];
 
 /// How often each call had each answer.

@@ -1,25 +1,50 @@
 //! Random calls to the dealing desk, mostly such as it does not refuse.
 
-use crate::calls::{bad_size, other_length, Desk, LENT_LIMIT};
+use crate::calls::{Call, Desk, LENT_LIMIT};
+use crate::lists::{bad_size, other_length};
 use crate::rng::Rng;
 use crate::scenario::{coefficients, legal_size};
+use crate::tables::{good_table, put_bad_entry};
 
 /// The longest dealer's list: n, t and the room are numbers of the call too.
-pub const COEFS_LIMIT: usize = LENT_LIMIT - 3;
+const COEFS_LIMIT: usize = LENT_LIMIT - 3;
 
-/// How many of a hundred have each of the four faults. They are drawn apart,
-/// so several at once come too, and that the lowest refusal is given shows.
+/// The longest table.
+const TABLE_LIMIT: usize = 60;
+
+/// The longest dealer's list beside a table, whose length is a number too.
+const COEFS_BESIDE: usize = COEFS_LIMIT - 1 - TABLE_LIMIT;
+
+/// How many of a hundred have each of the faults. They are drawn apart, so
+/// several at once come too, and that the first refusal is given shows.
 const FAULTS: usize = 13;
+
+/// The desk, about as often with a table as without one.
+pub fn random_desk_call(rng: &mut Rng) -> Call {
+    if rng.chance(50) {
+        return Call::Desk(random_desk(rng, COEFS_LIMIT));
+    }
+    let desk = random_desk(rng, COEFS_BESIDE);
+    let mut length = desk.n.min(TABLE_LIMIT);
+    if rng.chance(FAULTS) {
+        length = other_length(rng, length, TABLE_LIMIT);
+    }
+    let mut table = good_table(rng, length);
+    if rng.chance(2 * FAULTS) {
+        put_bad_entry(rng, &mut table);
+    }
+    Call::DeskWith(desk, table)
+}
 
 /// Size, room and list. A wrong size has lists that would suit it, as far as
 /// the limits let it, so that the size alone is to blame.
-pub fn random_desk(rng: &mut Rng) -> Desk {
+fn random_desk(rng: &mut Rng, coefs_limit: usize) -> Desk {
     let (n, t) = if rng.chance(FAULTS) {
         bad_size(rng)
     } else {
         legal_size(rng)
     };
-    let coefs = (t + 1).saturating_mul(t + 1).min(COEFS_LIMIT);
+    let coefs = (t + 1).saturating_mul(t + 1).min(coefs_limit);
     let room = (2 * n).saturating_mul(t + 1).min(LENT_LIMIT);
     let mut desk = Desk {
         n,
@@ -31,7 +56,7 @@ pub fn random_desk(rng: &mut Rng) -> Desk {
         desk.room = other_length(rng, room, LENT_LIMIT);
     }
     if rng.chance(FAULTS) {
-        let length = other_length(rng, coefs, COEFS_LIMIT);
+        let length = other_length(rng, coefs, coefs_limit);
         desk.coefs.resize(length, 0);
     }
     if rng.chance(FAULTS) {

@@ -3,6 +3,7 @@
 
 use crate::field::is_sent;
 use crate::poly::{interpolate, value};
+use crate::stations::one_to;
 
 /// A point: x, and the number sent for it (perhaps "not sent").
 pub type Point = (u64, u16);
@@ -58,9 +59,17 @@ pub fn fit(points: &[Point], t: usize) -> Option<Vec<u64>> {
     found
 }
 
-/// The opening of n published numbers: the constant of what fits, or 10.
+/// The opening of n published numbers at the points 1 to n.
 pub fn open_all(published: &[u16], t: usize) -> Result<u16, u8> {
-    let points: Vec<Point> = (1..).zip(published.iter().copied()).collect();
+    open_with(&one_to(published.len()), published, t)
+}
+
+/// The opening of published numbers at the points of a table: the constant of
+/// what fits, or 10.
+pub fn open_with(table: &[u16], published: &[u16], t: usize) -> Result<u16, u8> {
+    assert_eq!(table.len(), published.len(), "a number for each point");
+    let xs = table.iter().map(|&x| u64::from(x));
+    let points: Vec<Point> = xs.zip(published.iter().copied()).collect();
     match fit(&points, t) {
         Some(poly) => Ok(poly[0] as u16),
         None => Err(10),

@@ -1,21 +1,22 @@
 //! What the random lists of calls hold, and what the comparisons count.
 
-use crate::calls::{call_name, random_lists, Call, Desk, Step};
+use crate::calls::{call_name, Call, Desk, Step};
 use crate::cross;
 use crate::cross_calls::{self, count_answers, never_met, Counts, Done, ANSWERS};
 use crate::dealer::legal_size;
+use crate::lists::random_lists;
 use crate::outcome::{self, OUTCOMES};
 use std::sync::OnceLock;
 
 /// Enough lists for every kind of answer; the tests share them.
-fn steps() -> &'static [Step] {
+pub fn steps() -> &'static [Step] {
     static STEPS: OnceLock<Vec<Step>> = OnceLock::new();
     STEPS.get_or_init(|| random_lists(1, 1000).flatten().collect())
 }
 
 fn desks() -> Vec<&'static Desk> {
     let of_step = |step: &'static Step| match &step.call {
-        Call::Desk(desk) => Some(desk),
+        Call::Desk(desk) | Call::DeskWith(desk, _) => Some(desk),
         _ => None,
     };
     steps().iter().filter_map(of_step).collect()
@@ -73,23 +74,36 @@ fn desks_of_every_sort() {
     }
 }
 
+/// For whom a party is made, with a table or without: n, t and i.
+fn made_for() -> Vec<(usize, usize, usize)> {
+    let numbers = |step: &Step| match step.call {
+        Call::Make(n, t, i) | Call::MakeWith(n, t, i, _) => Some((n, t, i)),
+        _ => None,
+    };
+    steps().iter().filter_map(numbers).collect()
+}
+
 /// Above 255 each of n, t, i and j comes, and also such as a reader of the
 /// low byte alone would take for right.
 #[test]
 fn wide_numbers_come() {
     let count = |holds: &dyn Fn(&Call) -> bool| steps().iter().filter(|s| holds(&s.call)).count();
+    let made = |holds: &dyn Fn(usize, usize, usize) -> bool| {
+        let of = made_for().into_iter();
+        of.filter(|&(n, t, i)| holds(n, t, i)).count()
+    };
     let sly = |n: usize, t: usize| !legal_size(n, t) && legal_size(n % 256, t % 256);
-    assert!(count(&|call| matches!(call, Call::Make(256.., _, _))) >= 5);
-    assert!(count(&|call| matches!(call, Call::Make(_, 256.., _))) >= 5);
-    assert!(count(&|call| matches!(call, Call::Make(_, _, 256..))) >= 10);
+    assert!(made(&|n, _, _| n > 255) >= 5);
+    assert!(made(&|_, t, _| t > 255) >= 5);
+    assert!(made(&|_, _, i| i > 255) >= 10);
     assert!(count(&|call| matches!(call, Call::Say(256..))) >= 10);
     assert!(count(&|call| matches!(call, Call::Say(257..=272))) >= 5);
-    assert!(count(&|call| matches!(call, Call::Make(..=16, _, 257..=272))) >= 5);
-    assert!(count(&|call| matches!(call, Call::Make(n, t, _) if sly(*n, *t))) >= 5);
+    assert!(made(&|n, _, i| n <= 16 && (257..=272).contains(&i)) >= 5);
+    assert!(made(&|n, t, _| sly(n, t)) >= 5);
     assert!(times(|desk| sly(desk.n, desk.t)) >= 5);
     // One of the two wide, the other right.
-    assert!(count(&|call| matches!(call, Call::Make(261..=272, 1..=3, _))) >= 2);
-    assert!(count(&|call| matches!(call, Call::Make(5..=16, 257..=259, _))) >= 2);
+    assert!(made(&|n, t, _| (261..=272).contains(&n) && (1..=3).contains(&t)) >= 2);
+    assert!(made(&|n, t, _| (5..=16).contains(&n) && (257..=259).contains(&t)) >= 2);
 }
 
 // ---- what was never met ----
@@ -110,9 +124,16 @@ fn every_answer_is_listed() {
         assert!(listed.1.contains(answer), "{name} {answer}");
     }
     let listed: usize = ANSWERS.iter().map(|(_, answers)| answers.len()).sum();
-    assert_eq!((listed, counts.len()), (35, 35));
-    let names = steps().iter().map(|step| call_name(&step.call));
-    assert_eq!(names.filter(|&name| name == "make").count(), 1000);
+    assert_eq!((listed, counts.len()), (50, 50));
+}
+
+/// So a list is answered the same wherever it stands in a stream.
+#[test]
+fn every_list_begins_with_a_making() {
+    for list in random_lists(1, 1000) {
+        assert!(call_name(&list[0].call).starts_with("make"));
+        assert!(list.len() > 2);
+    }
 }
 
 /// Each answer alone is missed from 1,000 lists on, and not below.

@@ -4,6 +4,7 @@
 mod bench;
 mod calls;
 mod check;
+mod check_calls;
 mod clique;
 mod cross;
 mod cross_calls;
@@ -11,6 +12,9 @@ mod dealer;
 mod desk_calls;
 mod field;
 mod fit;
+mod follow;
+mod lies;
+mod lists;
 #[cfg(test)]
 mod lists_tests;
 mod make;
@@ -19,10 +23,16 @@ mod outcome;
 mod party;
 mod poly;
 mod program;
+#[cfg(test)]
+mod program_tests;
+mod random_runs;
 mod record;
 mod rng;
 mod scenario;
 mod short_inputs;
+mod stations;
+#[cfg(test)]
+mod stations_tests;
 mod store;
 #[cfg(test)]
 mod store_tests;
@@ -35,6 +45,17 @@ mod story_refusals_tests;
 mod story_runs;
 #[cfg(test)]
 mod story_runs_tests;
+mod story_stations;
+#[cfg(test)]
+mod story_stations_tests;
+mod story_tables;
+#[cfg(test)]
+mod story_tables_tests;
+mod tables;
+#[cfg(test)]
+mod tables_tests;
+mod tamper_deals;
+mod tamper_sent;
 #[cfg(test)]
 mod tests;
 mod wire;
@@ -107,7 +128,7 @@ fn text_command(words: &[&str]) -> Result<String, String> {
         }
         ["store", folder] => store::write_files(Path::new(folder)).map_err(told),
         ["check", seed, count] => check(number(seed)?, size(count)?),
-        ["calls", seed, count] => Ok(calls::text(number(seed)?, size(count)?)),
+        ["calls", seed, count] => Ok(lists::text(number(seed)?, size(count)?)),
         ["stories"] => Ok(stories::text()),
         ["cross", seed, count, program] => {
             cross::cross(number(seed)?, size(count)?, Path::new(program))

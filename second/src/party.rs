@@ -1,12 +1,14 @@
 //! One party (a lamp) from waiting to holding. Every call answers with its
-//! values or with the number of the lowest refusal that applies; a refused
-//! call changes nothing, except that 8 and 9 close the party.
+//! values or with the number of the first refusal that applies, in the order 1,
+//! 2, 3, 14, 4 and so on; a refused call changes nothing, except that 8 and 9
+//! close the party.
 
 use crate::clique::{members, verdict};
 use crate::dealer::legal_size;
 use crate::field::{is_sent, NOT_SENT};
-use crate::fit::{fit, open_all, Point};
+use crate::fit::{fit, open_with, Point};
 use crate::poly::{from_numbers, value};
+use crate::stations::{check_table, one_to, point};
 
 #[derive(Clone, Copy, PartialEq, Eq, Debug)]
 pub enum Stage {
@@ -22,6 +24,8 @@ pub struct Party {
     pub n: usize,
     pub t: usize,
     pub number: usize,
+    /// The points of all n parties, its own among them.
+    pub table: Vec<u16>,
     pub stage: Stage,
     /// Row, then column, as dealt; a repair does not alter them.
     pub deal: Vec<u16>,
@@ -33,13 +37,27 @@ pub struct Party {
 }
 
 impl Party {
-    /// The party as made. With a bad size or number it exists all the same,
-    /// but the making and every later call are refused with 1 or 2.
+    /// The party made without a table: the points are 1 to n.
     pub fn make(n: usize, t: usize, number: usize) -> (Party, Result<(), u8>) {
+        Party::make_with(n, t, number, &one_to(n))
+    }
+
+    /// The party as made with a table. It exists also if the making is refused.
+    /// With a bad size or number every later call is refused with 1 or 2. For a
+    /// table of another length, refused with 3, it holds zeros; with those, or
+    /// with entries refused with 14, every later call is refused with 14 if not
+    /// with 2 or 3.
+    pub fn make_with(n: usize, t: usize, number: usize, table: &[u16]) -> (Party, Result<(), u8>) {
+        let right_length = table.len() == n;
         let party = Party {
             n,
             t,
             number,
+            table: if right_length {
+                table.to_vec()
+            } else {
+                vec![0; n]
+            },
             stage: Stage::Waiting,
             deal: Vec::new(),
             pairs: Vec::new(),
@@ -47,8 +65,17 @@ impl Party {
             share: 0,
             happy: 0,
         };
-        let answer = party.check_made();
+        let answer = party.check_making(right_length);
         (party, answer)
+    }
+
+    /// Refusals of a making, in their order.
+    fn check_making(&self, right_length: bool) -> Result<(), u8> {
+        self.check_made()?;
+        if !right_length {
+            return Err(3);
+        }
+        check_table(&self.table)
     }
 
     /// Refusals 1 and 2 of the state itself.
@@ -67,25 +94,29 @@ impl Party {
         Ok(())
     }
 
-    /// Refusals 1 to 4 of a call that lends a list, in their order: the state
-    /// first, then the length, then the stage.
+    /// Refusals 1 to 4 and 14 of a call that lends a list, in their order: size
+    /// and number first, then the length, then the table, then the stage.
     fn check_call(&self, list: &[u16], length: usize, stage: Stage) -> Result<(), u8> {
         self.check_made()?;
         if list.len() != length {
             return Err(3);
         }
+        check_table(&self.table)?;
         if self.stage != stage {
             return Err(4);
         }
         Ok(())
     }
 
-    fn row_at(&self, x: usize) -> u16 {
-        value(&from_numbers(&self.deal[..=self.t]), x as u64) as u16
+    /// The row at party j's point.
+    fn row_at(&self, j: usize) -> u16 {
+        value(&from_numbers(&self.deal[..=self.t]), point(&self.table, j)) as u16
     }
 
-    fn column_at(&self, y: usize) -> u16 {
-        value(&from_numbers(&self.deal[self.t + 1..]), y as u64) as u16
+    /// The column at party j's point.
+    fn column_at(&self, j: usize) -> u16 {
+        let column = from_numbers(&self.deal[self.t + 1..]);
+        value(&column, point(&self.table, j)) as u16
     }
 
     /// Every number a field element, and the own crossing right.
@@ -107,6 +138,7 @@ impl Party {
     pub fn say(&self, j: usize) -> Result<(u16, u16), u8> {
         self.check_made()?;
         self.check_number(j)?;
+        check_table(&self.table)?;
         if self.stage == Stage::Waiting {
             return Err(4);
         }
@@ -168,7 +200,7 @@ impl Party {
     fn repaired_share(&self, happy: u16) -> Option<u16> {
         let points: Vec<Point> = members(happy)
             .into_iter()
-            .map(|j| (j as u64, self.pairs[2 * (j - 1)]))
+            .map(|j| (point(&self.table, j), self.pairs[2 * (j - 1)]))
             .collect();
         fit(&points, self.t).map(|column| column[0] as u16)
     }
@@ -184,6 +216,6 @@ impl Party {
         self.check_call(list, self.n, Stage::Holding)?;
         let mut published = list.to_vec();
         published[self.number - 1] = self.share;
-        open_all(&published, self.t)
+        open_with(&self.table, &published, self.t)
     }
 }

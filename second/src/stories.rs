@@ -6,6 +6,8 @@ use crate::calls::{line, step, Call, Step};
 use crate::party::Party;
 use crate::story_refusals as refusals;
 use crate::story_runs as runs;
+use crate::story_stations as stations;
+use crate::story_tables as tables;
 use crate::wire;
 
 /// A story's name and its calls.
@@ -26,6 +28,19 @@ pub fn all() -> Vec<Story> {
         ("refused-closed", refusals::closed()),
         ("trap", runs::trap()),
         ("trap-liar", runs::trap_liar()),
+        ("stations-liar", stations::liar()),
+        ("stations-repair", stations::repair()),
+        ("stations-two-liars", stations::two_liars()),
+        ("stations-order", stations::order()),
+        ("stations-sixteen", stations::sixteen()),
+        ("stations-trap", stations::trap()),
+        ("stations-other-table", stations::other_table()),
+        ("stations-one-entry", stations::one_entry()),
+        ("refused-tables", tables::makings()),
+        ("refused-tables-desk", tables::desks()),
+        ("refused-tables-calls", tables::calls()),
+        ("one-to-n-unsound", tables::one_to_n_unsound()),
+        ("one-to-n-stages", tables::one_to_n_stages()),
     ]
 }
 

@@ -1,7 +1,8 @@
 //! All stories together, and what the tests of single ones share.
 
-use crate::calls::{answer_text, call_name, call_text, line, random_lists, Call, Step, LENT_LIMIT};
+use crate::calls::{answer_text, call_name, call_text, line, Call, Step, LENT_LIMIT};
 use crate::cross_calls::{count_answers, never_met, Counts};
+use crate::lists::random_lists;
 use crate::stories::{all, stored_stream, stream, text, told};
 use crate::wire;
 use std::collections::BTreeSet;
@@ -18,23 +19,27 @@ pub fn story(name: &str) -> &'static [Step] {
     &found.unwrap_or_else(|| panic!("no story {name}")).1
 }
 
+/// The number of the party that is made, with a table or without.
+fn made(step: &Step) -> Option<usize> {
+    match step.call {
+        Call::Make(_, _, i) | Call::MakeWith(_, _, i, _) => Some(i),
+        _ => None,
+    }
+}
+
 pub fn is_make(step: &Step) -> bool {
-    matches!(step.call, Call::Make(..))
+    made(step).is_some()
 }
 
 /// The parties that are made, in their order.
 pub fn parties(name: &str) -> Vec<usize> {
-    let made = story(name).iter().filter_map(|step| match step.call {
-        Call::Make(_, _, i) => Some(i),
-        _ => None,
-    });
-    made.collect()
+    story(name).iter().filter_map(made).collect()
 }
 
 /// The steps of party i, its making first.
 pub fn party(name: &str, i: usize) -> &'static [Step] {
     let steps = story(name);
-    let of_i = |step: &Step| matches!(step.call, Call::Make(_, _, number) if number == i);
+    let of_i = |step: &Step| made(step) == Some(i);
     let start = steps.iter().position(of_i).expect("made");
     let behind = &steps[start + 1..];
     let length = behind.iter().position(is_make).unwrap_or(behind.len());
@@ -86,9 +91,14 @@ fn all_calls() -> Vec<Call> {
 fn names_are_those_of_the_readme() {
     let readme = include_str!("../README.md");
     let names: BTreeSet<&str> = stories().iter().map(|story| story.0).collect();
-    assert_eq!((names.len(), stories().len()), (12, 12));
+    assert_eq!((names.len(), stories().len()), (25, 25));
     for name in names {
-        assert!(readme.contains(&format!("- `{name}`: ")), "{name}");
+        assert!(
+            [": ", ", "]
+                .iter()
+                .any(|end| readme.contains(&format!("- `{name}`{end}"))),
+            "{name}"
+        );
     }
 }
 
@@ -120,16 +130,25 @@ fn stories_as_bytes_and_text() {
     assert_eq!(text.lines().count(), calls.len() + stories().len());
 }
 
-/// FNV-1a over the bytes. Who changes a story sees it here.
+/// FNV-1a over the bytes.
+fn hash(bytes: &[u8]) -> String {
+    let hash = bytes.iter().fold(0xcbf2_9ce4_8422_2325_u64, |hash, &byte| {
+        (hash ^ u64::from(byte)).wrapping_mul(0x0100_0000_01b3)
+    });
+    format!("{hash:016x}")
+}
+
+/// Who changes a story sees it here. The twelve without tables come first.
 #[test]
 fn the_stories_are_fixed() {
-    let hash = stream()
-        .iter()
-        .fold(0xcbf2_9ce4_8422_2325_u64, |hash, &byte| {
-            (hash ^ u64::from(byte)).wrapping_mul(0x0100_0000_01b3)
-        });
-    assert_eq!((all_calls().len(), stream().len()), (753, 7731));
-    assert_eq!(format!("{hash:016x}"), "f4b6c4f10891f35e");
+    let (calls, stream) = (all_calls(), stream());
+    assert_eq!(hash(&stream[..7731]), "f4b6c4f10891f35e");
+    assert_eq!(wire::read(&stream[..7731]), calls[..753]);
+    assert_eq!(all()[12].0, "stations-liar");
+    let without: usize = all()[..12].iter().map(|story| story.1.len()).sum();
+    assert_eq!(without, 753);
+    assert_eq!((calls.len(), stream.len()), (1617, 18_139));
+    assert_eq!(hash(&stream), "e77ca66658ebe409");
 }
 
 /// The stories first. The lists behind them begin with a make, so they are

@@ -6,7 +6,7 @@ use crate::stories_tests::{is_make, party, stories, story};
 use std::collections::BTreeSet;
 
 /// The refusals in turn, 0 for none.
-fn refusals(steps: &[Step]) -> Vec<u8> {
+pub fn refusals(steps: &[Step]) -> Vec<u8> {
     let number = |step: &Step| step.answer.result.as_ref().err().copied().unwrap_or(0);
     steps.iter().map(number).collect()
 }

@@ -3,10 +3,12 @@
 
 use crate::calls::{Call, Desk};
 use crate::field::NOT_SENT;
+use crate::follow;
 use crate::named::F;
 use crate::record::{pair_place, Record};
 use crate::rng::Rng;
-use crate::scenario::{follow_pairs, follow_reports, follow_shares, honest_deals};
+use crate::scenario::honest_deals;
+use crate::stations::one_to;
 
 /// Another dealer's list: 1000 + 300X + 20Y - XY.
 pub const OTHER: [u16; 4] = [1000, 20, 300, 65_520];
@@ -21,19 +23,26 @@ pub const SIXTEEN: [u16; 16] = [
 const SEED: u64 = 1603;
 
 /// A party that sends what it likes.
-struct Liar {
-    number: usize,
+pub struct Liar {
+    pub number: usize,
     /// A listener and the two numbers it is told. The others are told what
     /// an honest party would say.
-    pairs: Vec<(usize, u16, u16)>,
-    report: u16,
-    share: u16,
+    pub pairs: Vec<(usize, u16, u16)>,
+    pub report: u16,
+    pub share: u16,
 }
 
 // ---- pieces ----
 
-/// The run of these deals: all follow the protocol, except the liars.
+/// The run of these deals with the points 1 to n.
 fn run(n: usize, t: usize, deals: Vec<u16>, liars: &[Liar]) -> Record {
+    run_on(&one_to(n), t, deals, liars)
+}
+
+/// The run of these deals with the points of a table: all follow the protocol,
+/// except the liars.
+pub fn run_on(table: &[u16], t: usize, deals: Vec<u16>, liars: &[Liar]) -> Record {
+    let n = table.len();
     let mut record = Record {
         n,
         t,
@@ -42,7 +51,7 @@ fn run(n: usize, t: usize, deals: Vec<u16>, liars: &[Liar]) -> Record {
         reports: vec![0; n],
         shares: vec![0; n],
     };
-    follow_pairs(&mut record);
+    follow::pairs(&mut record, table);
     for liar in liars {
         for &(listener, first, second) in &liar.pairs {
             let place = pair_place(n, listener, liar.number);
@@ -50,11 +59,11 @@ fn run(n: usize, t: usize, deals: Vec<u16>, liars: &[Liar]) -> Record {
             record.pairs[place + 1] = second;
         }
     }
-    follow_reports(&mut record);
+    follow::reports(&mut record, table);
     for liar in liars {
         record.reports[liar.number - 1] = liar.report;
     }
-    follow_shares(&mut record);
+    follow::shares(&mut record, table);
     for liar in liars {
         record.shares[liar.number - 1] = liar.share;
     }
@@ -84,12 +93,12 @@ pub fn heard_by(record: &Record, i: usize) -> Vec<u16> {
 }
 
 /// The pairs for all, the party itself among them.
-fn says(n: usize) -> Vec<Call> {
+pub fn says(n: usize) -> Vec<Call> {
     (1..=n).map(Call::Say).collect()
 }
 
 /// An opening with some of the published shares replaced.
-fn open_with(record: &Record, replaced: &[(usize, u16)]) -> Call {
+pub fn open_with(record: &Record, replaced: &[(usize, u16)]) -> Call {
     let mut shares = record.shares.clone();
     for &(j, share) in replaced {
         shares[j - 1] = share;
@@ -98,7 +107,7 @@ fn open_with(record: &Record, replaced: &[(usize, u16)]) -> Call {
 }
 
 /// Party i from its making to an opening.
-fn party_calls(record: &Record, i: usize) -> Vec<Call> {
+pub fn party_calls(record: &Record, i: usize) -> Vec<Call> {
     let mut calls = vec![
         Call::Make(record.n, record.t, i),
         Call::Deal(deal_of(record, i)),
@@ -112,7 +121,7 @@ fn party_calls(record: &Record, i: usize) -> Vec<Call> {
 
 /// A story: the desk deals the lists; then come the calls to all who are no
 /// liars, and behind those of each party some more.
-fn tell(
+pub fn tell(
     lists: &[&[u16]],
     record: &Record,
     liars: &[Liar],
@@ -126,7 +135,7 @@ fn tell(
     desk.chain(parties).collect()
 }
 
-fn nothing(_: usize) -> Vec<Call> {
+pub fn nothing(_: usize) -> Vec<Call> {
     Vec::new()
 }
 

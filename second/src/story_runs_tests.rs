@@ -23,7 +23,7 @@ const RUNS: [&str; 8] = [
 /// F(i,0) = 7 + 3i.
 const SHARES: [u16; 5] = [10, 13, 16, 19, 22];
 
-fn pairs_heard(name: &str, i: usize) -> Vec<u16> {
+pub fn pairs_heard(name: &str, i: usize) -> Vec<u16> {
     let heard = party(name, i).iter().find_map(|step| match &step.call {
         Call::Hear(list) => Some(list.clone()),
         _ => None,
@@ -253,32 +253,34 @@ fn trap_with_a_liar() {
 
 /// Each pair that a party says is the one that the other hears, and its own
 /// report stands in the list that all settle by.
+pub fn hear_each_other(name: &str) {
+    let mut lists = BTreeSet::new();
+    for j in parties(name) {
+        lists.extend(asked(name, j, "settle"));
+        let mut said = BTreeSet::new();
+        for step in party(name, j) {
+            let Call::Say(i) = step.call else { continue };
+            said.insert(i);
+            let pair = step.answer.result.clone().unwrap();
+            if parties(name).contains(&i) {
+                let heard = pairs_heard(name, i);
+                assert_eq!(heard[2 * j - 2..2 * j], pair, "{name} {j} {i}");
+            }
+            if i == j {
+                assert_eq!(pair, [NOT_SENT; 2]);
+            }
+        }
+        let n = pairs_heard(name, j).len() / 2;
+        assert_eq!(said.len(), n, "{name} {j}");
+        let settle = asked(name, j, "settle");
+        let own = settle[0].split(' ').nth(j).unwrap();
+        let report = format!("ok {own} ; 2 0 0");
+        assert_eq!(only_answer(name, j, "hear"), report);
+    }
+    assert_eq!(lists.len(), 1, "{name}");
+}
+
 #[test]
 fn honest_parties_hear_each_other() {
-    for name in RUNS {
-        let mut lists = BTreeSet::new();
-        for j in parties(name) {
-            lists.extend(asked(name, j, "settle"));
-            let mut said = BTreeSet::new();
-            for step in party(name, j) {
-                let Call::Say(i) = step.call else { continue };
-                said.insert(i);
-                let pair = step.answer.result.clone().unwrap();
-                if parties(name).contains(&i) {
-                    let heard = pairs_heard(name, i);
-                    assert_eq!(heard[2 * j - 2..2 * j], pair, "{name} {j} {i}");
-                }
-                if i == j {
-                    assert_eq!(pair, [NOT_SENT; 2]);
-                }
-            }
-            let n = pairs_heard(name, j).len() / 2;
-            assert_eq!(said.len(), n, "{name} {j}");
-            let settle = asked(name, j, "settle");
-            let own = settle[0].split(' ').nth(j).unwrap();
-            let report = format!("ok {own} ; 2 0 0");
-            assert_eq!(only_answer(name, j, "hear"), report);
-        }
-        assert_eq!(lists.len(), 1, "{name}");
-    }
+    RUNS.into_iter().for_each(hear_each_other);
 }

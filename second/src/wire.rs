@@ -4,7 +4,8 @@
 //! numbers, high byte first; nothing stands between two calls. What is no
 //! call ends the input. The README has the rules.
 
-use crate::calls::{answer_text, apply, random_lists, Answer, Call, Desk, LENT_LIMIT};
+use crate::calls::{answer_text, apply, Answer, Call, Desk, LENT_LIMIT};
+use crate::lists::random_lists;
 use crate::party::Party;
 
 /// A number as it goes into the stream. All are made to fit 16 bits; cutting
@@ -26,6 +27,18 @@ fn parts(call: &Call) -> (u8, Vec<u16>) {
             let mut numbers = vec![word(desk.n), word(desk.t), word(desk.room)];
             numbers.extend(&desk.coefs);
             (6, numbers)
+        }
+        Call::MakeWith(n, t, number, table) => {
+            let mut numbers = vec![word(*n), word(*t), word(*number)];
+            numbers.extend(table);
+            (7, numbers)
+        }
+        Call::DeskWith(desk, table) => {
+            let mut numbers = vec![word(desk.n), word(desk.t), word(desk.room)];
+            numbers.push(word(table.len()));
+            numbers.extend(table);
+            numbers.extend(&desk.coefs);
+            (8, numbers)
         }
     }
 }
@@ -55,7 +68,7 @@ pub fn stream(seed: u64, count: usize) -> Vec<u8> {
 }
 
 /// The call of a kind and its numbers, if it is one: a known kind, as many
-/// numbers as it takes, and room within the limit.
+/// numbers as it takes, a table whole, and room within the limit.
 fn call_of(kind: u8, numbers: Vec<u16>) -> Option<Call> {
     if numbers.len() > LENT_LIMIT {
         return None;
@@ -67,16 +80,29 @@ fn call_of(kind: u8, numbers: Vec<u16>) -> Option<Call> {
         (3, _) => Some(Call::Hear(numbers)),
         (4, _) => Some(Call::Settle(numbers)),
         (5, _) => Some(Call::Open(numbers)),
-        (6, &[n, t, room, ref coefs @ ..]) if usize::from(room) <= LENT_LIMIT => {
-            Some(Call::Desk(Desk {
-                n: n.into(),
-                t: t.into(),
-                room: room.into(),
-                coefs: coefs.to_vec(),
-            }))
+        (6, &[n, t, room, ref coefs @ ..]) => Some(Call::Desk(desk_of(n, t, room, coefs)?)),
+        (7, &[n, t, number, ref table @ ..]) => {
+            let (n, t, number) = (n.into(), t.into(), number.into());
+            Some(Call::MakeWith(n, t, number, table.to_vec()))
+        }
+        (8, &[n, t, room, m, ref lists @ ..]) if usize::from(m) <= lists.len() => {
+            let (table, coefs) = lists.split_at(m.into());
+            let desk = desk_of(n, t, room, coefs)?;
+            Some(Call::DeskWith(desk, table.to_vec()))
         }
         _ => None,
     }
+}
+
+/// The desk's numbers, if the room is within the limit.
+fn desk_of(n: u16, t: u16, room: u16, coefs: &[u16]) -> Option<Desk> {
+    let desk = Desk {
+        n: n.into(),
+        t: t.into(),
+        room: room.into(),
+        coefs: coefs.to_vec(),
+    };
+    (desk.room <= LENT_LIMIT).then_some(desk)
 }
 
 /// The first call of the bytes and what is behind it; none if they do not

@@ -1,16 +1,10 @@
-//! Calls as bytes, the rules that end an input, and other programs run on
-//! bytes.
+//! Calls as bytes, and the rules that end an input.
 
-use crate::calls::{random_lists, Call, Desk, Step, LENT_LIMIT};
-use crate::program::{feed, Ran, TIME_LIMIT};
-use crate::short_inputs::{example_calls, no_calls, short_inputs, RANDOM};
+use crate::calls::{Call, Desk, Step, LENT_LIMIT};
+use crate::lists::random_lists;
+use crate::short_inputs::{example_calls, no_calls, short_inputs, station_calls, RANDOM};
 use crate::wire;
 use std::collections::BTreeSet;
-use std::fs;
-use std::os::unix::fs::PermissionsExt;
-use std::path::PathBuf;
-use std::sync::Mutex;
-use std::time::{Duration, Instant};
 
 fn stream(calls: &[Call]) -> Vec<u8> {
     calls.iter().flat_map(wire::write).collect()
@@ -41,6 +35,22 @@ fn calls_as_bytes() {
     assert_eq!(wire::write(&Call::Open(vec![0; 200]))[..3], [5, 0, 200]);
     let wide = Call::Make(261, 65_535, 257);
     assert_eq!(wire::write(&wide), [0, 0, 3, 1, 5, 255, 255, 1, 1]);
+}
+
+#[test]
+fn calls_with_tables_as_bytes() {
+    let bytes = stream(&station_calls());
+    assert_eq!(bytes[..9], [7, 0, 8, 0, 5, 0, 1, 0, 2]);
+    let table = [160, 1, 0, 7, 255, 240, 0, 3, 82, 8];
+    assert_eq!(bytes[9..19], table);
+    let desk = &bytes[bytes.len() - 29..];
+    assert_eq!(desk[..11], [8, 0, 13, 0, 5, 0, 1, 0, 20, 0, 5]);
+    assert_eq!(desk[11..21], table);
+    assert_eq!(desk[21..], [0, 7, 0, 2, 0, 3, 0, 4]);
+    let empty = Call::MakeWith(5, 1, 2, vec![]);
+    assert_eq!(wire::write(&empty), [7, 0, 3, 0, 5, 0, 1, 0, 2]);
+    assert_eq!(wire::read(&bytes), station_calls());
+    assert_eq!(wire::read(&wire::write(&empty)), [empty]);
 }
 
 const EXAMPLE_LINES: &str = "ok ; 0 0 0 0
@@ -208,7 +218,9 @@ fn which_counts_are_calls() {
                 0 => count == 3,
                 2 => count == 1,
                 1 | 3 | 4 | 5 => count <= 200,
-                6 => (3..=200).contains(&count),
+                6 | 7 => (3..=200).contains(&count),
+                // The fourth number is 1: a table of one number.
+                8 => (5..=200).contains(&count),
                 _ => false,
             };
             let calls = wire::read(&wire::raw(kind, &vec![1; count]));
@@ -220,6 +232,28 @@ fn which_counts_are_calls() {
     for room in 0..=65_535 {
         let calls = wire::read(&wire::raw(6, &[5, 1, room, 7, 2, 3, 4]));
         assert_eq!(calls.len(), usize::from(room <= 200), "{room}");
+        let calls = wire::read(&wire::raw(8, &[5, 1, room, 1, 7, 2, 3, 4]));
+        assert_eq!(calls.len(), usize::from(room <= 200), "{room}");
+    }
+}
+
+/// The table's numbers must all be there; all that is behind them, perhaps
+/// nothing, is the dealer's list.
+#[test]
+fn which_tables_are_calls() {
+    for count in [0, 1, 9, 196] {
+        let list: Vec<u16> = (1..=count).collect();
+        for length in 0..=65_535 {
+            let numbers = [&[5, 1, 20, length], &list[..]].concat();
+            let calls = wire::read(&wire::raw(8, &numbers));
+            assert_eq!(calls.len(), usize::from(length <= count), "{length}");
+            let Some(call) = calls.first() else { continue };
+            let (table, coefs) = list.split_at(length.into());
+            let Call::Desk(desk) = desk(5, 1, 20, coefs) else {
+                unreachable!();
+            };
+            assert_eq!(*call, Call::DeskWith(desk, table.to_vec()));
+        }
     }
 }
 
@@ -264,6 +298,9 @@ fn short_inputs_of_every_sort() {
     assert!(names.contains("nothing") && names.contains("kind 6 without a make"));
     assert!(names.contains("kind 0 of 259 numbers after calls"));
     assert!(names.contains("cut after 90 bytes") && !names.contains("cut after 91 bytes"));
+    assert!(names.contains("kind 8 without a make") && names.contains("kind 9 of 1 numbers"));
+    let stations = stream(&station_calls()).len();
+    assert!(names.contains(&format!("stations cut after {} bytes", stations - 1)[..]));
     let random = &inputs[inputs.len() - RANDOM..];
     let ends_early = |bytes: &[u8]| stream(&wire::read(bytes)).len() < bytes.len();
     let early = random.iter().filter(|input| ends_early(&input.1)).count();
@@ -294,64 +331,4 @@ fn random_lists_as_bytes() {
     }
     let calls: Vec<Call> = lists.into_iter().flatten().map(|step| step.call).collect();
     assert_eq!(wire::stream(5, 100), stream(&calls));
-}
-
-// ---- programs ----
-
-/// One script at a time: a program started while another thread still has
-/// its script open for writing would be "busy".
-static ONE_AT_A_TIME: Mutex<()> = Mutex::new(());
-
-/// What a script does with an input, and how long it took.
-fn script(name: &str, lines: &str, input: &[u8], limit: Duration) -> (Ran, Duration) {
-    let _alone = ONE_AT_A_TIME.lock().unwrap_or_else(|e| e.into_inner());
-    let file: PathBuf = std::env::temp_dir().join(format!("second-{}-{name}", std::process::id()));
-    fs::write(&file, format!("#!/bin/sh\n{lines}\n")).unwrap();
-    fs::set_permissions(&file, fs::Permissions::from_mode(0o755)).unwrap();
-    let start = Instant::now();
-    let ran = feed(&file, input.to_vec(), limit);
-    let time = start.elapsed();
-    fs::remove_file(&file).unwrap();
-    (ran.unwrap(), time)
-}
-
-fn end_of(name: &str, lines: &str) -> String {
-    let (ran, _) = script(name, lines, b"abc", TIME_LIMIT);
-    ran.bad_end.expect("a bad end")
-}
-
-#[test]
-fn input_and_output_may_be_long() {
-    // More than any pipe holds, in both directions at once.
-    let input: Vec<u8> = (0..3_000_000_u32).map(|k| (k % 251) as u8).collect();
-    let (ran, _) = script("cat", "exec cat", &input, TIME_LIMIT);
-    assert_eq!(ran.bad_end, None);
-    assert!(ran.output == input);
-}
-
-#[test]
-fn not_reading_is_no_fault() {
-    let (ran, _) = script("deaf", "echo done", &vec![0; 3_000_000], TIME_LIMIT);
-    assert_eq!(ran.bad_end, None);
-    assert_eq!(ran.output, b"done\n");
-}
-
-#[test]
-fn bad_ends() {
-    assert!(end_of("three", "cat; exit 3").contains('3'));
-    assert!(end_of("killed", "cat; kill -9 $$").contains("signal"));
-    assert!(end_of("endless", "exec yes").contains("signal"));
-}
-
-#[test]
-fn programs_that_hang() {
-    let short = Duration::from_millis(300);
-    for (name, lines) in [
-        ("sleeper", "exec sleep 60"),
-        ("closer", "exec sleep 60 >&-"),
-    ] {
-        let (ran, time) = script(name, lines, b"", short);
-        assert!(ran.bad_end.is_some_and(|end| end.contains("hangs")));
-        assert!(time < Duration::from_secs(30));
-    }
 }

@@ -1,8 +1,9 @@
 // Calls one lamp after another as standard input says, and writes a line for each call: what it answered, and what the lamp holds.
 // A call is a byte for its kind, a count, and as many numbers as it counts, all but the kind in 16 bits, high byte first:
 // 0 makes a lamp for n, t and its number; 1 takes a deal, 2 says the pair for the lamp named, 3 hears pairs, 4 settles, 5 opens;
-// 6 is the desk's: n, t, the room for the deals, and the dealer's list. An unknown kind, a count that its kind does not take, more than
-// 200 numbers or as much room, and a call cut short end the input.
+// 6 is the desk's: n, t, the room for the deals, and the dealer's list. 7 makes a lamp with a table, which stands behind the number; 8 is
+// the desk with a table: behind the room stand how many numbers it has, the table, and the dealer's list. An unknown kind, a count that
+// its kind does not take, more than 200 numbers or as much room, and a call cut short end the input.
 ghost use Prim.Native.Nat.{_≤_};
 use lamp::Lamp;
 use lamp::Reply;
@@ -30,6 +31,20 @@ fn made(list: &[u16]) -> Reply {
     Lamp::make(small(list, 0), small(list, 1), small(list, 2))
 }
 
+// The table is what stands behind the number.
+fn made_with(list: &[u16]) -> Reply {
+    if list.len() < 3 {
+        return made(list);
+    }
+    let end = list.len();
+    Lamp::make_with(
+        small(list, 0),
+        small(list, 1),
+        small(list, 2),
+        &list[3..end],
+    )
+}
+
 // Makes the call on the lamp that the call before left, refused or not.
 fn call(lamp: Lamp, kind: u8, list: &[u16]) -> Reply {
     match kind {
@@ -38,6 +53,7 @@ fn call(lamp: Lamp, kind: u8, list: &[u16]) -> Reply {
         2 => lamp.say_pair(small(list, 0)),
         3 => lamp.hear_pairs(list),
         4 => lamp.settle(list),
+        7 => made_with(list),
         _ => lamp.open(list),
     }
 }
@@ -68,6 +84,37 @@ fn desk(list: &[u16]) -> bool {
     true
 }
 
+// Deals with a table, and writes out the answer and what the list of deals holds then.
+fn dealt_with(n: u8, t: u8, table: &[u16], list: &[u16], deals: &mut [u16]) {
+    replies::dealing(dealer::deal_with(n, t, table, list, deals));
+    replies::numbers(deals);
+}
+
+// The desk with a table.
+fn desk_with(list: &[u16]) -> bool {
+    if list.len() < 4 {
+        return false;
+    }
+    let room = small(list, 2) as usize;
+    if 200 < room {
+        return false;
+    }
+    let behind = 4 + small(list, 3) as usize;
+    let end = list.len();
+    if end < behind {
+        return false;
+    }
+    let mut deals = [65535u16; 200];
+    dealt_with(
+        small(list, 0),
+        small(list, 1),
+        &list[4..behind],
+        &list[behind..end],
+        &mut deals[..room],
+    );
+    true
+}
+
 // Whether a call of this kind has so many numbers.
 fn takes(kind: u8, count: usize) -> bool {
     if kind == 0 {
@@ -76,7 +123,10 @@ fn takes(kind: u8, count: usize) -> bool {
     if kind == 2 {
         return count == 1;
     }
-    kind < 7
+    if kind == 7 {
+        return 3 <= count;
+    }
+    kind < 9
 }
 
 // As many of the input's numbers as the bytes hold, over the front of the list; whether the input had them all.
@@ -120,6 +170,12 @@ fn ended(lamp: Lamp) -> Turn {
 fn answered(lamp: Lamp, kind: u8, list: &[u16]) -> Turn {
     if kind == 6 {
         if !desk(list) {
+            return over(lamp);
+        }
+        return ended(lamp);
+    }
+    if kind == 8 {
+        if !desk_with(list) {
             return over(lamp);
         }
         return ended(lamp);
