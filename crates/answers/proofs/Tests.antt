@@ -2,7 +2,8 @@
 --   alsoAll       tests asked one after the other, as code asks them; in-order: that is the lowest refusal
 --   AllPass       every test passes; lowest-pass: where none is refused they do
 --   also-failed, also-fails   the two ways to fail
---   lowest-first, lowest-then   the tests of two lists: the first of them settles it, or all of them pass; lowest-also: one test more; passed-more: such that pass
+--   lowest-first, lowest-then   two lists of tests: the first list settles it, or passes
+--   lowest-also, passed-more    one test more; such that pass
 use mathlib.Core.Path.{_≡_, refl, sym}
 use mathlib.Core.Bool.{Bool, true, false}
 use mathlib.Core.List.{List, [], _∷_, _++_}

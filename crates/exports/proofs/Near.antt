@@ -36,7 +36,8 @@ module _ (t : ℕ) (xs ys column : List ℕ) (r : Repairs t xs ys column) where
 
   pub near-written : (f : List ℕ) → Near modulus t xs ys f → repairing t xs ys column ≡ (f, 0)
   near-written f h =
-      repairing-by t xs ys column r ∙ ap (repaired column) (near-found modulus prime t xs ys (table-points modulus (length xs) xs (r .points)) (r .lengths) (r .enough) f h)
+      repairing-by t xs ys column r ∙ ap (repaired column)
+      (near-found modulus prime t xs ys (table-points modulus (length xs) xs (r .points)) (r .lengths) (r .enough) f h)
 
   -- 9 is the truth, and the list is left alone.
   pub none-near : (repairing t xs ys column ≡ (column, 9)) ↔ ((f : List ℕ) → Near modulus t xs ys f → ⊥)
@@ -44,7 +45,8 @@ module _ (t : ℕ) (xs ys column : List ℕ) (r : Repairs t xs ys column) where
     λ h f n. let e = ap (λ (q : List ℕ × ℕ). q .1) (sym h ∙ near-written f n) in omega arith,
     λ h.
         repairing-by t xs ys column r
-        ∙ ap (repaired column) (near-none modulus prime t xs ys (table-points modulus (length xs) xs (r .points)) (r .lengths) (r .enough) .1 h),
+        ∙ ap (repaired column)
+        (near-none modulus prime t xs ys (table-points modulus (length xs) xs (r .points)) (r .lengths) (r .enough) .1 h),
   )
 
 module _ (n t : ℕ) (T shares : List ℕ) (old : ℕ) (s : sizes n t ≡ true) (l : length shares ≡ n) (table : Stations modulus n T) where

@@ -87,12 +87,14 @@ module _ (n t : ℕ) (T : List ℕ) (sized : sizes n t ≡ true) (table : Statio
   -- Published shares open exactly if a polynomial is near them.
   pub published-decides : (xs : List ℕ) → length xs ≡ n → Decides modulus t T xs (publishedIn n t T xs)
   published-decides xs l =
-      decides t (n - t) T xs fine (table .size ∙ sym l) (omega (arith, facts, table .size)) (omega (arith, table .size)) (publishedIn n t T xs)
+      decides t (n - t) T xs fine (table .size ∙ sym l) (omega (arith, facts, table .size)) (omega (arith, table .size))
+      (publishedIn n t T xs)
       (published-admitted n t T xs sized l)
 
   -- The same with a party's own share in its own place.
   pub opening-decides : (i v : ℕ) (xs : List ℕ) → isParty n i ≡ true → length xs ≡ n
       → Decides modulus t T (set xs (i - 1) v) (openingIn n t T i v xs)
   opening-decides i v xs party l =
-      decides t (n - t) T (set xs (i - 1) v) fine (table .size ∙ sym (length-set xs (i - 1) v ∙ l)) (omega (arith, facts, table .size)) (omega (arith, table .size))
+      decides t (n - t) T (set xs (i - 1) v) fine (table .size ∙ sym (length-set xs (i - 1) v ∙ l)) (omega (arith, facts, table .size))
+      (omega (arith, table .size))
       (openingIn n t T i v xs) (opening-admitted n t T i v xs sized party l)

@@ -36,7 +36,8 @@ openingOf p n t T xs = fit p t (n - t) T xs
 abbrev pub openingWith : ℕ → ℕ → ℕ → List ℕ → ℕ → ℕ → List ℕ → Option (List ℕ)
 openingWith p n t T i v xs = openingOf p n t T (set xs (i - 1) v)
 
--- What is answered with a table, which the caller has looked at. The tests, in the order of their numbers: the sizes; that the set names none but the n parties; that they are enough.
+-- What is answered with a table, which the caller has looked at. The tests, in the order of their numbers: the sizes; that the set names
+-- none but the n parties; that they are enough.
 unfoldable pub repairIn : ℕ → ℕ → List ℕ → ℕ → List ℕ → Fitted
 repairIn n t T S heard =
     decodedIf

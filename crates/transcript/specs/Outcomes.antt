@@ -33,7 +33,8 @@ abbrev pub openingLine : Option (List ℕ) → List ℕ
 openingLine none = openedLine (refusalNumber NoOpening) 0
 openingLine (some f) = openedLine 0 (constant f)
 
--- What the published shares open by themselves, at the points 1 to n: a record has no table. At most t of them differ. After a rejected dealer they are not opened.
+-- What the published shares open by themselves, at the points 1 to n, since a record has no table: at most t of them differ. After a
+-- rejected dealer they are not opened.
 unfoldable pub lastLine : Bool → ℕ → ℕ → List ℕ → List ℕ
 lastLine accepted n t shares =
     let opened = openingLine (openingOf modulus n t (oneTo n) shares) in

@@ -56,9 +56,11 @@ loop-again c =
     let l = k .loop in (
       search needs,
       ⊎-elim
-          (λ w. w .1 ∙ report-one modulus (a .table .now) (a .i) (a .row .now) (a .column .now) (a .pairs .now) (l .bits) (l .k) (f .confirms .result)
+          (λ w. w .1 ∙ report-one modulus (a .table .now) (a .i) (a .row .now) (a .column .now) (a .pairs .now) (l .bits) (l .k)
+          (f .confirms .result)
           (l .inv .1) (f .confirms .ensures) (omega arith) (w .0 .taken))
-          (λ w. w .1 ∙ report-zero modulus (a .table .now) (a .i) (a .row .now) (a .column .now) (a .pairs .now) (l .bits) (l .k) (f .confirms .result)
+          (λ w. w .1 ∙ report-zero modulus (a .table .now) (a .i) (a .row .now) (a .column .now) (a .pairs .now) (l .bits) (l .k)
+          (f .confirms .result)
           (l .inv .1) (f .confirms .ensures) (w .0 .left))
           (c .if1 .came),
     )

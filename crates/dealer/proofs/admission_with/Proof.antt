@@ -30,7 +30,8 @@ returns : tie.Need-returns
 returns c =
     let v = c .before .before .before in
     let a = v .before .before .before .args in
-    sizes-fail modulus (a .n) (a .t) (a .table .now) (a .list .now) (a .room) (sym (v .size-admission .ensures) ∙ c .before .measured .given .1)
+    sizes-fail modulus (a .n) (a .t) (a .table .now) (a .list .now) (a .room)
+    (sym (v .size-admission .ensures) ∙ c .before .measured .given .1)
 
 returns-2 : tie.Need-returns-2
 returns-2 c =

@@ -27,7 +27,8 @@ write-deals-requires : tie.Need-write-deals-requires
 write-deals-requires c κs =
     let v = c .before .before .before in
     let a = v .before .before .before .before .args in
-    let d = desk-passed modulus (a .n) (a .t) (a .table .now) (a .list .now) _ (sym (v .admission-with .ensures) ∙ c .before .enum-told .given .1) in
+    let d = desk-passed modulus (a .n) (a .t) (a .table .now) (a .list .now) _
+    (sym (v .admission-with .ensures) ∙ c .before .enum-told .given .1) in
     let s = sizes-facts (a .n) (a .t) (d .size) in
     (s .3, omega arith, rw add-one (d .square), rw add-one (d .long))
 
@@ -44,7 +45,8 @@ returns-2 c =
     let told = c .before .before .before .before in
     let v = told .before .before in
     let a = v .before .before .before .before .args in
-    ap (λ l. (l, Written)) (c .before .before .write-deals .ensures ∙ ap (λ w. deals modulus w (a .table .now) (a .list .now) (a .n)) (add-one (a .t)))
+    ap (λ l. (l, Written))
+    (c .before .before .write-deals .ensures ∙ ap (λ w. deals modulus w (a .table .now) (a .list .now) (a .n)) (add-one (a .t)))
     ∙ desk-by-pass modulus _ _ _ _ _ (sym (v .admission-with .ensures) ∙ told .enum-told .given .1)
 
 pub deal-with-spec : {M : Type 1} → statement M

@@ -42,7 +42,8 @@ returns : tie.Need-returns
 returns c =
     let r = c .before .before .before .before .before .before in
     let a = r .before .before .before .before .before .before .args in
-    both-written modulus (a .width) (a .table .now) (a .list .now) (a .i) _ (a .out .now) _ _ (r .before .before .point-at .ensures) (search needs)
+    both-written modulus (a .width) (a .table .now) (a .list .now) (a .i) _ (a .out .now) _ _ (r .before .before .point-at .ensures)
+    (search needs)
     (search needs)
     (r .row .ensures)
     (c .before .before .column .ensures)

@@ -68,7 +68,8 @@ returns-2 c =
     let o = c .before .before in
     let a = o .before .before .before .before .before .before .args in
     c .opened-at .ensures
-    ∙ ap (λ T. openedIf (lowest (openTests (a .n) (a .t) (length (a .shares .now)))) (a .opened .now) (openingOf modulus (a .n) (a .t) T (a .shares .now))) (points o)
+    ∙ ap (λ T. openedIf (lowest (openTests (a .n) (a .t) (length (a .shares .now)))) (a .opened .now)
+    (openingOf modulus (a .n) (a .t) T (a .shares .now))) (points o)
     ∙ opening-at (a .n) (a .t) (a .table .now) (a .shares .now) (a .opened .now) (table o)
 
 pub doumbaht-open-with-spec : {M : Type 1} → statement M

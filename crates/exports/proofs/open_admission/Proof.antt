@@ -38,7 +38,8 @@ returns : tie.Need-returns
 returns c =
     let v = c .before .before .before in
     let a = v .before .before .before .before .args in
-    sym (lowest-first (openTests (a .n) (a .t) (a .shares)) (tableTests modulus (a .n) (a .table .now)) (sym (asked v) ∙ c .before .lent .given .1))
+    sym (lowest-first (openTests (a .n) (a .t) (a .shares)) (tableTests modulus (a .n) (a .table .now))
+    (sym (asked v) ∙ c .before .lent .given .1))
 
 returns-2 : tie.Need-returns-2
 returns-2 c =
@@ -46,7 +47,8 @@ returns-2 c =
     let v = told .before .before in
     let a = v .before .before .before .before .args in
     c .admission .ensures
-    ∙ sym (lowest-then (openTests (a .n) (a .t) (a .shares)) (tableTests modulus (a .n) (a .table .now)) (sym (asked v) ∙ told .enum-told .given .1))
+    ∙ sym (lowest-then (openTests (a .n) (a .t) (a .shares)) (tableTests modulus (a .n) (a .table .now))
+    (sym (asked v) ∙ told .enum-told .given .1))
 
 pub open-admission-spec : {M : Type 1} → statement M
 open-admission-spec =

@@ -96,7 +96,8 @@ returns-4 c =
     let own = ap (λ k. take k (w .with-own .result)) (sym (w .before .if3 .left)) ∙ w .with-own .ensures in
     c .fit-parties .ensures
     ∙ ap (λ values. decoded (openingOf modulus (a .n) (a .t) (take (a .n) (a .table)) values)) own
-    ∙ sym (opening-admitted (a .n) (a .t) (take (a .n) (a .table)) (a .i) (a .share) (a .shares .now) (sized (second e)) (numbered e) (w .before .if3 .left))
+    ∙ sym (opening-admitted (a .n) (a .t) (take (a .n) (a .table)) (a .i) (a .share) (a .shares .now) (sized (second e)) (numbered e)
+    (w .before .if3 .left))
 
 pub opening-spec : {M : Type 1} → statement M
 opening-spec =

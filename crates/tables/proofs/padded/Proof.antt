@@ -38,8 +38,11 @@ loop-less c = search needs
 
 loop-again : tie.Need-loop-again Inv-loop μ-loop
 loop-again c =
-    let k = c .before .before .loop in
-    (search needs, fill-next (λ i. getD (c .before .before .before .args .list .now) i 0) 16 (k .array) (k .k) _ (k .inv .1) (omega arith) refl)
+    let k = c .before .before .loop in (
+      search needs,
+      fill-next (λ i. getD (c .before .before .before .args .list .now) i 0) 16 (k .array) (k .k) _ (k .inv .1)
+          (omega arith) refl,
+    )
 
 returns : tie.Need-returns Inv-loop μ-loop
 returns c =

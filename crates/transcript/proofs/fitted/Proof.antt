@@ -57,4 +57,6 @@ returns c =
     ∙ published-admitted (a .n) (a .t) (oneTo (a .n)) shares (fine-legal (a .bytes .now) (a .n) (a .t) (s .pre)) (facts s .1)
 
 pub fitted-spec : {M : Type 1} → statement M
-fitted-spec = tie.close (tie.spec part-requires one-to-requires array-share-prefix-list slice-aggregate-published published-requires returns)
+fitted-spec =
+    tie.close
+    (tie.spec part-requires one-to-requires array-share-prefix-list slice-aggregate-published published-requires returns)
