@@ -1,5 +1,7 @@
 // Five lamps of which one may be faulty: the desk deals 7 + 3X + 2Y + 4XY, and lamp 1 goes from its making to an opening in which
-// lamp 3 publishes a wrong share. Each step writes a line: what it answered.
+// lamp 3 publishes a wrong share; first at the points 1 to 5, then at the station numbers of a harbour. Each step writes a line: what it
+// answered.
+use dealer::Dealing;
 use lamp::Lamp;
 use lamp::Reply;
 
@@ -10,14 +12,19 @@ fn line(step: &[u8], reply: Reply) {
     replies::word(b"\n");
 }
 
-fn main() {
+fn dealt_line(desk: Dealing, deals: &[u16]) {
+    replies::word(b"deal ");
+    replies::dealing(desk);
+    replies::numbers(deals);
+    replies::word(b"\n");
+}
+
+// At the points 1 to 5.
+fn plain() {
     // The desk: the coefficient of X^u Y^v stands at place 2u + v, the secret, 7, in front. Four numbers for each lamp.
     let mut deals = [0u16; 20];
     let desk = dealer::deal(5, 1, &[7, 2, 3, 4], &mut deals);
-    replies::word(b"deal ");
-    replies::dealing(desk);
-    replies::numbers(&deals);
-    replies::word(b"\n");
+    dealt_line(desk, &deals);
 
     // Lamp 1 takes its deal, and says its pair for lamp 2: its row and its column at 2.
     let made = Lamp::make(5, 1, 1);
@@ -38,4 +45,47 @@ fn main() {
     // The lamps publish their shares; lamp 3, whose share is 16, says 999.
     let opened = settled.lamp.open(&[10, 13, 999, 19, 22]);
     line(b"open ", opened);
+}
+
+// At the station numbers of a harbour, which the desk and every lamp load: another deal, the same secret.
+fn stations() {
+    let table = [40961, 7, 65520, 3, 21000];
+    let mut deals = [0u16; 20];
+    let desk = dealer::deal_with(5, 1, &table, &[7, 2, 3, 4], &mut deals);
+    dealt_line(desk, &deals);
+
+    // Lamp 1's point is 40961, and it says to lamp 2 its row and its column at 7.
+    let made = Lamp::make_with(5, 1, 1, &table);
+    let dealt = made.lamp.take_deal(&deals[0..4]);
+    line(b"take ", dealt);
+    let said = dealt.lamp.say_pair(2);
+    line(b"say ", said);
+
+    let pairs = [
+        65535,
+        65535,
+        24913,
+        49480,
+        24565,
+        49124,
+        24739,
+        49302,
+        53575,
+        33614,
+    ];
+    let heard = said.lamp.hear_pairs(&pairs);
+    line(b"hear ", heard);
+    let settled = heard.lamp.settle(&[30, 29, 27, 23, 15]);
+    line(b"settle ", settled);
+    let opened = settled.lamp.open(&[57369, 28, 999, 16, 63007]);
+    line(b"open ", opened);
+
+    // A lamp that is given 7 twice is made, and refused at every call.
+    let bad = Lamp::make_with(5, 1, 1, &[40961, 7, 65520, 7, 21000]);
+    line(b"make ", bad);
+}
+
+fn main() {
+    plain();
+    stations();
 }
