@@ -3,4 +3,6 @@ pub mod Ring
 pub mod Primality
 pub mod Primes
 pub mod Inverse
+pub mod Quotients
 mod Slopes
+mod Horner

@@ -18,7 +18,7 @@ pub fn residues(list: &[u16]) -> bool
 }
 
 // The value of f at x, by Horner's rule from the top coefficient on.
-pub fn value(f: &[u16], x: u16) -> u16
+fn by_steps(f: &[u16], x: u16) -> u16
     ensures { λ r. ⌜ r ≡ value modulus (now (f .entry)) x ⌝ }
 {
     if f.len() == 0 {
@@ -31,4 +31,20 @@ pub fn value(f: &[u16], x: u16) -> u16
         v = field::mul_add(x, v, f[i]);
     }
     v
+}
+
+// The same. Up to four coefficients, which rows and columns have, need one reduction.
+pub fn value(f: &[u16], x: u16) -> u16
+    ensures { λ r. ⌜ r ≡ value modulus (now (f .entry)) x ⌝ }
+{
+    if f.len() == 4 {
+        return field::cubic_value(f[0], f[1], f[2], f[3], x);
+    }
+    if f.len() == 2 {
+        return field::cubic_value(f[0], f[1], 0, 0, x);
+    }
+    if f.len() == 3 {
+        return field::cubic_value(f[0], f[1], f[2], 0, x);
+    }
+    by_steps(f, x)
 }

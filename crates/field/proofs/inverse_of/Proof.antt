@@ -1,77 +1,58 @@
--- `field::inverse_of` meets its contract. The loop keeps `Turn`; d falls, since it becomes a remainder by d.
-use borrow.Author.Needs.{needs}
-use native.Mathlib.Nat.{div-le-self, mod-lt}
-use mathlib.Core.Path.{_≡_, sym, subst}
-use Prim.Native.Nat.{ℕ, _%_}
+-- `field::inverse_of` meets its contract: 0 and 1 are their own inverses, and a remainder of 1 gives one at once.
+use mathlib.Core.Path.{sym, subst}
+use Prim.Native.Nat.{ℕ, _<_}
+use native.Mathlib.Nat.{div-le-self}
 use native.Mathlib.Omega.{arith}
 use Rattle.field.specs.Modulus.{modulus}
 use Rattle.field.proofs.Primes.{prime}
-use Rattle.field.proofs.Inverse.{Turn, turn-start, turn-step, turn-end, inv-zero}
+use Rattle.field.proofs.Inverse.{inv-own, inv-at-once, inv-lt}
+use borrow.Author.Needs.{needs}
 use Rattle.field.proofs.inverse_of.Statement.{statement}
 use Rattle.field.proofs.inverse_of.Tie as tie
 
-abbrev Inv-loop : tie.InvT-loop
-Inv-loop a d₀ t₀ d t = Turn modulus a d t
+returns : tie.Need-returns
+returns c = (inv-own modulus _ (omega arith) (c .if1 .taken), omega arith)
 
-abbrev μ-loop : tie.MeasureT-loop
-μ-loop a d₀ t₀ d t = d
+cast-if2 : tie.Need-cast-if2
+cast-if2 c = search needs
 
-returns : tie.Need-returns Inv-loop μ-loop
-returns c = (sym (inv-zero modulus _ (omega arith)), omega arith)
+rem-if2 : tie.Need-rem-if2
+rem-if2 c = search needs
 
-loop-holds : tie.Need-loop-holds Inv-loop μ-loop
-loop-holds c =
-    let a : ℕ = c .before .args .a in
-    let own : a % modulus ≡ a = omega arith in
-    subst (λ (d : ℕ). Turn modulus a d 1) own (turn-start modulus prime a (omega arith))
+cast-result : tie.Need-cast-result
+cast-result c = search needs
 
-cast-product : tie.Need-cast-product Inv-loop μ-loop
-cast-product c = search needs
+cast-result-2 : tie.Need-cast-result-2
+cast-result-2 c = search needs
 
-cast-product-2 : tie.Need-cast-product-2 Inv-loop μ-loop
-cast-product-2 c = search needs
+div-result : tie.Need-div-result
+div-result c = search needs
 
-div-product : tie.Need-div-product Inv-loop μ-loop
-div-product c = search needs
+sub-result : tie.Need-sub-result
+sub-result c = div-le-self modulus _
 
-sub-product : tie.Need-sub-product Inv-loop μ-loop
-sub-product c = omega (arith, div-le-self modulus (c .before .loop .d))
-
-product-requires : tie.Need-product-requires Inv-loop μ-loop
-product-requires c κs = (omega (arith, c .before .loop .inv .residue), omega arith)
-
-cast-d : tie.Need-cast-d Inv-loop μ-loop
-cast-d c = search needs
-
-rem-d : tie.Need-rem-d Inv-loop μ-loop
-rem-d c = search needs
-
-loop-less : tie.Need-loop-less Inv-loop μ-loop
-loop-less c = mod-lt modulus (omega arith)
-
-loop-again : tie.Need-loop-again Inv-loop μ-loop
-loop-again c = rw (c .product .ensures .0) (turn-step modulus prime _ _ _ (omega arith) (c .before .before .loop .inv))
-
-returns-2 : tie.Need-returns-2 Inv-loop μ-loop
+returns-2 : tie.Need-returns-2
 returns-2 c =
-    let turn = c .before .loop .inv in
-    (turn-end modulus prime _ _ _ (omega arith) (omega arith) turn, turn .residue)
+    let at-once = inv-at-once modulus prime _ (c .before .if1 .left) (c .before .before .pre) (c .if2 .taken) in
+    (at-once, subst (λ (r : ℕ). r < modulus) (sym at-once) (inv-lt modulus prime _))
+
+inverse-by-turns-requires : tie.Need-inverse-by-turns-requires
+inverse-by-turns-requires c κs = search needs
+
+returns-3 : tie.Need-returns-3
+returns-3 c = search needs
 
 pub inverse-of-spec : {M : Type 1} → statement M
 inverse-of-spec =
     tie.close
     (tie.spec
-    Inv-loop
-    μ-loop
     returns
-    loop-holds
-    cast-product
-    cast-product-2
-    div-product
-    sub-product
-    product-requires
-    cast-d
-    rem-d
-    loop-less
-    loop-again
-    returns-2)
+    cast-if2
+    rem-if2
+    cast-result
+    cast-result-2
+    div-result
+    sub-result
+    returns-2
+    inverse-by-turns-requires
+    returns-3)

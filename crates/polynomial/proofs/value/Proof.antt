@@ -1,83 +1,89 @@
--- `polynomial::value` meets its contract. The loop goes from the end: v is the value of the coefficients from i on.
-use borrow.Author.Needs.{needs}
-use native.Mathlib.Omega.{arith}
+-- `polynomial::value` meets its contract: up to four coefficients are a cubic's, with zeros behind them.
+use mathlib.Core.Path.{_∙_}
 use Rattle.field.specs.Modulus.{modulus}
-use mathlib.Core.Path.{_≡_, sym, ap, _∙_}
-use Prim.Native.Nat.{_≤_}
-use lib.ListN.{length, drop}
-use Rattle.lists.proofs.InPlace.{drop-end}
-use Rattle.polynomial.specs.Polynomial.{value}
-use Rattle.polynomial.proofs.Loops.{horner, horner-top}
+use Rattle.polynomial.proofs.Loops.{value-two, value-three, value-four}
+use borrow.Author.Needs.{needs}
 use Rattle.polynomial.proofs.value.Statement.{statement}
 use Rattle.polynomial.proofs.value.Tie as tie
 
-abbrev Inv-loop : tie.InvT-loop
-Inv-loop f x i₀ v₀ i v = (i ≤ length f) × (v ≡ value modulus (drop i f) x)
+shared-slice-read-cubic-value : tie.Need-shared-slice-read-cubic-value
+shared-slice-read-cubic-value c = search needs
 
-abbrev μ-loop : tie.MeasureT-loop
-μ-loop f x i₀ v₀ i v = i
+shared-slice-read-cubic-value-2 : tie.Need-shared-slice-read-cubic-value-2
+shared-slice-read-cubic-value-2 c = search needs
 
-returns : tie.Need-returns Inv-loop μ-loop
+shared-slice-read-cubic-value-3 : tie.Need-shared-slice-read-cubic-value-3
+shared-slice-read-cubic-value-3 c = search needs
+
+shared-slice-read-cubic-value-4 : tie.Need-shared-slice-read-cubic-value-4
+shared-slice-read-cubic-value-4 c = search needs
+
+cubic-value-requires : tie.Need-cubic-value-requires
+cubic-value-requires c κs = search needs
+
+returns : tie.Need-returns
 returns c =
-    let a = c .before .before .args in
-    ap (λ z. value modulus z (a .x)) (sym (drop-end (a .f .now) 0 (omega arith)))
+    let t = c .before .before .before .before .before in
+    let a = t .before .before .args in
+    c .cubic-value .ensures ∙ value-four modulus (a .f .now) (a .x) (t .if1 .taken)
 
-sub-i : tie.Need-sub-i Inv-loop μ-loop
-sub-i c = search needs
+shared-slice-read-cubic-value-5 : tie.Need-shared-slice-read-cubic-value-5
+shared-slice-read-cubic-value-5 c = search needs
 
-mul-reduced : tie.Need-mul-reduced Inv-loop μ-loop
-mul-reduced c = search needs
+shared-slice-read-cubic-value-6 : tie.Need-shared-slice-read-cubic-value-6
+shared-slice-read-cubic-value-6 c = search needs
 
-shared-slice-read-reduced : tie.Need-shared-slice-read-reduced Inv-loop μ-loop
-shared-slice-read-reduced c = search needs
+cubic-value-requires-2 : tie.Need-cubic-value-requires-2
+cubic-value-requires-2 c κs = search needs
 
-reduced-requires : tie.Need-reduced-requires Inv-loop μ-loop
-reduced-requires c κs = search needs
+returns-2 : tie.Need-returns-2
+returns-2 c =
+    let t = c .before .before .before in
+    let a = t .before .before .before .args in
+    c .cubic-value2 .ensures ∙ value-two modulus (a .f .now) (a .x) (t .if2 .taken)
 
-loop-holds : tie.Need-loop-holds Inv-loop μ-loop
-loop-holds c =
-    let f = c .before .before .before .before .args .f .now in
-    (omega arith, c .reduced .ensures ∙ horner-top modulus f _ (omega arith))
+shared-slice-read-cubic-value-7 : tie.Need-shared-slice-read-cubic-value-7
+shared-slice-read-cubic-value-7 c = search needs
 
-sub-i-2 : tie.Need-sub-i-2 Inv-loop μ-loop
-sub-i-2 c = search needs
+shared-slice-read-cubic-value-8 : tie.Need-shared-slice-read-cubic-value-8
+shared-slice-read-cubic-value-8 c = search needs
 
-mul-mul-add : tie.Need-mul-mul-add Inv-loop μ-loop
-mul-mul-add c = search needs
+shared-slice-read-cubic-value-9 : tie.Need-shared-slice-read-cubic-value-9
+shared-slice-read-cubic-value-9 c = search needs
 
-shared-slice-read-mul-add : tie.Need-shared-slice-read-mul-add Inv-loop μ-loop
-shared-slice-read-mul-add c = search needs
+cubic-value-requires-3 : tie.Need-cubic-value-requires-3
+cubic-value-requires-3 c κs = search needs
 
-mul-add-requires : tie.Need-mul-add-requires Inv-loop μ-loop
-mul-add-requires c κs = search needs
+returns-3 : tie.Need-returns-3
+returns-3 c =
+    let t = c .before .before .before .before in
+    let a = t .before .before .before .before .args in
+    c .cubic-value3 .ensures ∙ value-three modulus (a .f .now) (a .x) (t .if3 .taken)
 
-loop-less : tie.Need-loop-less Inv-loop μ-loop
-loop-less c = search needs
+by-steps-requires : tie.Need-by-steps-requires
+by-steps-requires c κs = search needs
 
-loop-again : tie.Need-loop-again Inv-loop μ-loop
-loop-again c =
-    let k = c .before .before .before .loop in
-    (omega arith, rw (c .mul-add .ensures) (horner modulus _ _ (k .v) (k .i) (omega arith) (omega arith) (k .inv .1)))
-
-returns-2 : tie.Need-returns-2 Inv-loop μ-loop
-returns-2 c = let z : c .before .loop .i ≡ 0 = omega arith in rw z at (c .before .loop .inv .1)
+returns-4 : tie.Need-returns-4
+returns-4 c = search needs
 
 pub value-spec : {M : Type 1} → statement M
 value-spec =
     tie.close
     (tie.spec
-    Inv-loop
-    μ-loop
+    shared-slice-read-cubic-value
+    shared-slice-read-cubic-value-2
+    shared-slice-read-cubic-value-3
+    shared-slice-read-cubic-value-4
+    cubic-value-requires
     returns
-    sub-i
-    mul-reduced
-    shared-slice-read-reduced
-    reduced-requires
-    loop-holds
-    sub-i-2
-    mul-mul-add
-    shared-slice-read-mul-add
-    mul-add-requires
-    loop-less
-    loop-again
-    returns-2)
+    shared-slice-read-cubic-value-5
+    shared-slice-read-cubic-value-6
+    cubic-value-requires-2
+    returns-2
+    shared-slice-read-cubic-value-7
+    shared-slice-read-cubic-value-8
+    shared-slice-read-cubic-value-9
+    cubic-value-requires-3
+    returns-3
+    by-steps-requires
+    returns-4)
