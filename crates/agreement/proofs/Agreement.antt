@@ -266,7 +266,7 @@ module _ (s : Setting) (legal : Legal s) (e : Execution) (pr : Premises s e) (ta
 pub demand3-for : (p : ℕ) → Prime p → Demand3 p
 unfolding Demand3
 demand3-for p prime n t T e pr tables =
-    conclusions (setting p n t T) (record { prime = prime; size = pr .size; points = tables .table }) e pr tables
+    conclusions (setting p n t T) (record { prime = prime; size = pr .size; table = tables .table }) e pr tables
 
 -- DEMAND 3.
 pub demand3 : Demand3 modulus

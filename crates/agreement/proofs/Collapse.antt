@@ -13,7 +13,7 @@ use borrow.Author.Tests.{eq-eqb}
 use Rattle.happy.specs.Happy.{happySet}
 use Rattle.parties.specs.Parties.{sizes, isParty, entry}
 use Rattle.parties.proofs.Parties.{sizes-facts}
-use Rattle.tables.specs.Tables.{Stations, isTable}
+use Rattle.tables.specs.Tables.{IsTable, isTable}
 use Rattle.tables.proofs.Tables.{table-true, kept-front}
 use Rattle.answers.specs.declared.Stage.the-variants.{Waiting}
 use Rattle.answers.specs.declared.Answer.the-variants.{Done, Pair, Report}
@@ -33,17 +33,17 @@ use Rattle.agreement.proofs.Runs.{Kept, Late, kept-valid, after-kept, s
 pub record Ready (s : Setting) (i : ℕ) : Type 0 where
   pub size : sizes (s .n) (s .t) ≡ true
   pub party : isParty (s .n) i ≡ true
-  pub points : Stations (s .p) (s .n) (s .table)
+  pub table : IsTable (s .p) (s .n) (s .table)
 
 -- The lamp as made has the setting's table.
 pub made-table : (s : Setting) (i : ℕ) → Ready s i → tableOf (madeFor s i .party) ≡ s .table
-made-table s i ready = kept-front (s .n) (s .table) (sizes-facts (s .n) (s .t) (ready .size) .3) (ready .points .size)
+made-table s i ready = kept-front (s .n) (s .table) (sizes-facts (s .n) (s .t) (ready .size) .3) (ready .table .size)
 
 pub made-valid : (s : Setting) (i : ℕ) → Ready s i → Valid (s .p) (madeFor s i .party)
 made-valid s i ready = record {
   size = ready .size;
   party = ready .party;
-  table = ap (isTable (s .p) (s .n)) (made-table s i ready) ∙ table-true (s .p) (s .n) (s .table) (ready .points);
+  table = ap (isTable (s .p) (s .n)) (made-table s i ready) ∙ table-true (s .p) (s .n) (s .table) (ready .table);
 }
 
 module _ (s : Setting) (i : ℕ) (ready : Ready s i) (cs : List Call) (r : Run) (b : Brings s i cs r) where

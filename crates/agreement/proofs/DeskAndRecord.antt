@@ -21,7 +21,7 @@ use Rattle.answers.specs.declared.Writing.the-variants.{Written}
 use Rattle.answers.specs.Answers.{writingNumber}
 use Rattle.agreement.specs.Setting.{Setting, width, deskFor}
 use Rattle.agreement.specs.Demand1.{Follows, deskRefusals, readerRefusals, Lengths, writerRefusals}
-use Rattle.agreement.proofs.Tables.{Tests, unless, row, none-some}
+use Rattle.agreement.proofs.Rows.{Tests, unless, row, none-some}
 use Rattle.agreement.proofs.Guards.{size-test, same-test, table-test, against, guarded}
 
 -- ---- the desk

@@ -105,7 +105,7 @@ module _ (s : Setting) (honest : ℕ → Bool) (S : ℕ) where
 
 module _ (s : Setting) (legal : Legal s) where
   pub points-fine : Points (s .p) (s .table)
-  points-fine = table-points (s .p) (s .n) (s .table) (legal .points)
+  points-fine = table-points (s .p) (s .n) (s .table) (legal .table)
 
   -- ---- decoding: whoever agrees with enough honest parties is found
   decoded : (test : ℕ → Bool) (need : ℕ) (ys f : List ℕ) → Poly (s .p) (width s) f → length ys ≡ s .n → need ≤ count test (parties (s .n))
@@ -114,7 +114,7 @@ module _ (s : Setting) (legal : Legal s) where
       → fit (s .p) (s .t) need (s .table) ys ≡ some f
   decoded test need ys f hf l enough once agrees =
       fit-marked (s .p) (legal .prime) (s .t) need f (map test (parties (s .n))) (s .table) ys points-fine once
-      (length-map (parties (s .n)) test ∙ length-parties (s .n) ∙ sym (legal .points .size)) (legal .points .size ∙ sym l)
+      (length-map (parties (s .n)) test ∙ length-parties (s .n) ∙ sym (legal .table .size)) (legal .table .size ∙ sym l)
       (omega (arith, count-map (λ b. b) test (parties (s .n)))) hf
       (λ k e.
       let m = marks (s .n) test k e in
@@ -198,7 +198,7 @@ module _ (s : Setting) (legal : Legal s) where
       unfolding inside
       inside-points =
           points-sublist (s .p) (map-sublist (point s) (keep-sublist (λ i. honest i && member S i) (parties (s .n))))
-          (subst (Points (s .p)) (sym (points-of (s .n) (s .table) (legal .points .size))) points-fine)
+          (subst (Points (s .p)) (sym (points-of (s .n) (s .table) (legal .table .size))) points-fine)
 
       -- Another party inside, beside any.
       pub neighbour : (i : ℕ) → (j : ℕ) × In j × (i ≡ j → ⊥)

@@ -13,7 +13,7 @@ use borrow.Author.Tests.{eqb-true, eq-eqb, le-leb, not-true, not-false}
 use Rattle.lists.proofs.Cases.{not-both}
 use Rattle.parties.specs.Parties.{sizes, isParty}
 use Rattle.parties.proofs.Parties.{sizes-facts, party-facts, party-true}
-use Rattle.tables.specs.Tables.{Stations, isTable}
+use Rattle.tables.specs.Tables.{IsTable, isTable}
 use Rattle.tables.proofs.Tables.{table-facts, table-true}
 use Rattle.answers.specs.declared.Stage.{Stage}
 use Rattle.answers.specs.declared.Stage.the-variants.{Waiting, Dealt, Reported, Holding, Closed}
@@ -26,8 +26,8 @@ use Rattle.answers.specs.Answers.{numberOf, stageNumber}
 use Rattle.lamp.specs.declared.Lamp.{Lamp}
 use Rattle.lamp.specs.declared.Reply.{Reply}
 use Rattle.lamp.specs.Lamp.{refuse, guard, isAt}
-use Rattle.agreement.specs.Demand1.{Table, Follows, Replies, Sizes, Among}
-use Rattle.agreement.proofs.Tables.{Tests, unless}
+use Rattle.agreement.specs.Demand1.{Rows, Follows, Replies, Sizes, Among}
+use Rattle.agreement.proofs.Rows.{Tests, unless}
 
 -- ---- the tests
 pub size-test : (n t : ℕ) → Tests (sizes n t) (Sizes n t → ⊥)
@@ -46,7 +46,7 @@ party-test n i =
 pub same-test : (a b : ℕ) → Tests (eqb a b) (a ≡ b → ⊥)
 same-test a b = unless (eqb a b) (eqb-true a b) (eq-eqb a b)
 
-pub table-test : (p n : ℕ) (T : List ℕ) → Tests (isTable p n T) (Stations p n T → ⊥)
+pub table-test : (p n : ℕ) (T : List ℕ) → Tests (isTable p n T) (IsTable p n T → ⊥)
 table-test p n T = unless (isTable p n T) (table-facts p n T) (table-true p n T)
 
 -- The stage is told by its number.
@@ -88,7 +88,7 @@ abbrev pub testsOf : List Guard → List Test
 testsOf [] = []
 testsOf (g ∷ gs) = (g .pass, g .why) ∷ testsOf gs
 
-abbrev pub rows : {X : Type 0} → X → List Guard → Table X → Table X
+abbrev pub rows : {X : Type 0} → X → List Guard → Rows X → Rows X
 rows x [] T = T
 rows x (g ∷ gs) T = (refusalNumber (g .why), g .applies, x) ∷ rows x gs T
 
@@ -102,9 +102,9 @@ pub record Answering {X : Type 0} (x : X) (number : Admission → Option ℕ) (l
   pub unchanged : (why : Refusal) → left (Fail why) ≡ x
 
 module _ {X : Type 0} (x : X) (number : Admission → Option ℕ) (left : Admission → X) (done : Admission → Type 0)
-    (a : Answering x number left) (T : Table X) where
+    (a : Answering x number left) (T : Rows X) where
   -- The table is followed by what the tests find.
-  abbrev pub By : Table X → Admission → Type 0
+  abbrev pub By : Rows X → Admission → Type 0
   By T found = Follows T (done found) (number found) (left found)
 
   next : (g : Guard) (gs : List Guard) (b : Bool) → Tests b (g .applies) → (b ≡ true → By (rows x gs T) (lowest (testsOf gs)))
@@ -117,7 +117,7 @@ module _ {X : Type 0} (x : X) (number : Admission → Option ℕ) (left : Admiss
   guarded (g ∷ gs) h = next g gs (g .pass) (g .right) (λ e. guarded gs (λ all. h (e, all)))
 
 -- ---- a lamp's call
-module _ (l : Lamp) (r : Reply) (Q : Reply → Type 0) (T : Table Lamp) where
+module _ (l : Lamp) (r : Reply) (Q : Reply → Type 0) (T : Rows Lamp) where
   pub replying : (gs : List Guard) → (Passes gs → Replies T Q r) → Replies (rows l gs T) Q (guard l (lowest (testsOf gs)) r)
   replying gs h =
       guarded l (λ a. numberOf (guard l a r .answer)) (λ a. guard l a r .lamp) (λ a. Q (guard l a r))

@@ -23,7 +23,7 @@ module _ (s : Setting) (legal : Legal s) (e : Execution) (pr : Premises s e) (i 
   S = happySet (e .seen)
 
   pub ready : one.Ready s i
-  ready = record { size = legal .size; party = h .party; points = legal .points }
+  ready = record { size = legal .size; party = h .party; table = legal .table }
 
   pub speaks : Speaks s e s i
   speaks =

@@ -10,10 +10,11 @@ pub mod Outcomes
 pub mod Lamps
 pub mod Agreement
 pub mod Plain
-pub mod Tables
+pub mod Rows
 pub mod Settling
 pub mod Rightness
 pub mod Sentences
+pub mod Makings
 pub mod Guards
 pub mod Sayings
 pub mod DeskAndRecord

@@ -18,18 +18,18 @@ use Rattle.dealer.specs.Desk.{deal, deals, deskWith}
 use Rattle.consistency.specs.Deal.{sound, pairFor, confirms, reportOf}
 use Rattle.recovery.specs.Recovery.{repair}
 use Rattle.lamp.specs.Lamp.{makeWith, withDeal, withPairs, saidPair, reportFrom, atEnd, settled, opening, step}
-use Rattle.agreement.specs.Marked.{holds, allHold, table, traps, sayings}
-use Rattle.agreement.specs.Harbour as stations
+use Rattle.agreement.specs.Marked.{holds, every, table, traps, sayings}
+use Rattle.agreement.specs.Harbour as harbours
 
-computed : (allHold modulus (table ++ traps ++ sayings) ≡ true) × (stations.allHold modulus (stations.harbour ++ stations.refused) ≡ true)
+computed : (every (holds modulus) (table ++ traps ++ sayings) ≡ true) × (every (harbours.holds modulus) (harbours.harbour ++ harbours.refused) ≡ true)
 unfolding
-    holds stations.holds step makeWith settled repair opening atEnd withDeal withPairs saidPair pairFor reportFrom reportOf confirms mask
+    holds harbours.holds step makeWith settled repair opening atEnd withDeal withPairs saidPair pairFor reportFrom reportOf confirms mask
     sound sizes isParty isTable pointAt notSent deskWith deals deal fit pointsSent hits sent through interpolate zipWith
     happySet largestIn largest best better joins agreements agree tabulate add sub mul inv invWithin ones
 computed = (refl, refl)
 
-pub marked-hold : allHold modulus (table ++ traps ++ sayings) ≡ true
+pub marked-hold : every (holds modulus) (table ++ traps ++ sayings) ≡ true
 marked-hold = computed .0
 
-pub harbour-hold : stations.allHold modulus (stations.harbour ++ stations.refused) ≡ true
+pub harbour-hold : every (harbours.holds modulus) (harbours.harbour ++ harbours.refused) ≡ true
 harbour-hold = computed .1

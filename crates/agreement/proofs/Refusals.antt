@@ -30,10 +30,10 @@ use Rattle.lamp.specs.declared.Reply.{Reply}
 use Rattle.lamp.specs.Lamp.{madeWith, tableOf, reply, withDeal, withPairs, atEnd, repaired, settled, opening, opened, Call, takeDeal}
 use Rattle.lamp.specs.Lamp.{sayPair, hearPairs, settle, openShares, outcome, step, makeWith}
 use Rattle.agreement.specs.Setting.{setting}
-use Rattle.agreement.specs.Demand1.{Table, Replies, NoColumnFits, NoOpeningFits, refusals, accepts, makingRefusals, Fresh, Demand1}
+use Rattle.agreement.specs.Demand1.{Rows, Replies, NoColumnFits, NoOpeningFits, refusals, accepts, makingRefusals, Fresh, Demand1}
 use Rattle.agreement.specs.Demand3.{Gives}
 use Rattle.agreement.specs.Demand2.{Settles, Opens, FewAgree, standing}
-use Rattle.agreement.proofs.Tables.{once, none-some}
+use Rattle.agreement.proofs.Rows.{once, none-some}
 use Rattle.agreement.proofs.Outcomes.{settled-rejects, settled-happy, settled-mended, settled-repaired}
 use Rattle.agreement.proofs.Settling.{goes, not-rejected, rejects-right, repairs-right}
 use Rattle.agreement.proofs.Rightness.{goes-open, opens-right}
@@ -43,7 +43,7 @@ use Rattle.agreement.proofs.Sayings.{says, reports}
 use Rattle.agreement.proofs.DeskAndRecord.{deals, reads, writes}
 
 -- ---- what settling and opening answer, where nothing is wrong with the call
-abbrev ending : ℕ → Lamp → List ℕ → Table Lamp
+abbrev ending : ℕ → Lamp → List ℕ → Rows Lamp
 ending p l rs =
     (8, FewAgree (l .party .n) (l .party .t) rs, standing l Closed 0 0)
     ∷ (9, NoColumnFits p l (happySet rs), standing l Closed (happySet rs) 0)

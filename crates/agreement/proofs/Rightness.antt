@@ -28,7 +28,7 @@ use Rattle.fit.specs.Fit.{fit}
 use Rattle.fit.proofs.Rule.{near-found, near-only, near-none}
 use Rattle.parties.specs.Parties.{member, entry}
 use Rattle.parties.proofs.Parties.{sizes-facts, party-facts}
-use Rattle.tables.specs.Tables.{Stations}
+use Rattle.tables.specs.Tables.{IsTable}
 use Rattle.tables.proofs.Tables.{table-facts, table-points}
 use Rattle.dealer.specs.Desk.{deal}
 use Rattle.dealer.proofs.Desk.{length-deals, desk-written, desk-list, desk-stretch}
@@ -41,7 +41,7 @@ use Rattle.agreement.specs.Setting.{Setting, setting, width}
 use Rattle.agreement.specs.Demand2.{Takes, Hears, TakesRight, HearsRight, FewAgree, FitsShares, Settles, Opens}
 use Rattle.agreement.specs.Demand2.{KeepsRight, RepairsRight, OpensRight, DealsRight, Demand2}
 use Rattle.agreement.specs.Demand3.{Refuses}
-use Rattle.agreement.proofs.Tables.{none-some}
+use Rattle.agreement.proofs.Rows.{none-some}
 use Rattle.agreement.proofs.Steps.{takes, hears, shares-opened}
 use Rattle.agreement.proofs.Outcomes.{heard-entry, opened-some}
 use Rattle.agreement.proofs.Settling.{small, largest, rejects-right, keeps-right, repairs-right}
@@ -81,7 +81,7 @@ module _ (p : ℕ) (P : Prime p) (l : Lamp) (shares : List ℕ) (h : Opens p l s
     unchanged = ap (λ (z : Reply). z .lamp) goes-open ∙ same (opening p l shares);
   }
     where
-      table : Stations p n T
+      table : IsTable p n T
       table = table-facts p n T (h .valid .table)
 
       fine : Points p T

@@ -31,7 +31,7 @@ use Rattle.lists.proofs.Selections.{length-select}
 use Rattle.fit.proofs.Rule.{near-found, near-only, near-none}
 use Rattle.parties.specs.Parties.{member, entry}
 use Rattle.parties.proofs.Parties.{sizes-facts}
-use Rattle.tables.specs.Tables.{Stations}
+use Rattle.tables.specs.Tables.{IsTable}
 use Rattle.tables.proofs.Tables.{table-facts, table-points}
 use Rattle.answers.specs.declared.Stage.the-variants.{Holding, Closed}
 use Rattle.answers.specs.declared.Refusal.the-variants.{NoColumn}
@@ -46,7 +46,7 @@ use Rattle.lamp.specs.Lamp.{tableOf, reply, columnOfLamp, atEnd, repaired, sett
 use Rattle.agreement.specs.Demand2.{FewAgree, pointsIn, heardIn, FitsHeard, EndsHolding, Settles}
 use Rattle.agreement.specs.Demand2.{KeepsRight, RepairsRight}
 use Rattle.agreement.specs.Demand3.{Refuses}
-use Rattle.agreement.proofs.Tables.{none-some, one-number}
+use Rattle.agreement.proofs.Rows.{none-some, one-number}
 use Rattle.agreement.proofs.Steps.{settles}
 use Rattle.agreement.proofs.Outcomes.{settled-rejects, settled-happy, settled-mended, settled-repaired}
 
@@ -71,7 +71,7 @@ module _ (p : ℕ) (P : Prime p) (l : Lamp) (rs : List ℕ) (h : Settles p l rs)
   abbrev T : List ℕ
   T = tableOf (l .party)
 
-  table : Stations p n T
+  table : IsTable p n T
   table = table-facts p n T (h .valid .table)
 
   abbrev S : ℕ

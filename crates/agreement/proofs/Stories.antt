@@ -25,7 +25,7 @@ use Rattle.bivariate.specs.Bivariate.{at}
 use Rattle.field.specs.Arithmetic.{add, sub, mul, pow, inv, invWithin}
 use Rattle.parties.specs.Parties.{sizes, isParty, parties, notSent, entry}
 use Rattle.parties.proofs.Parties.{party-facts}
-use Rattle.tables.specs.Tables.{pointAt, oneTo, Stations, isTable}
+use Rattle.tables.specs.Tables.{pointAt, oneTo, IsTable, isTable}
 use Rattle.tables.proofs.Tables.{table-facts, one-to-table}
 use Rattle.dealer.specs.Desk.{deal, dealingNumber, deskWith}
 use Rattle.dealer.specs.declared.Dealing.{Dealing}
@@ -106,7 +106,7 @@ module _ (s : Setting) (q : Plot) where
   }
 
   -- All lamps have the setting's table.
-  pub one-table : Stations (s .p) (s .n) (s .table) → OneTable s (execution s q)
+  pub one-table : IsTable (s .p) (s .n) (s .table) → OneTable s (execution s q)
   one-table points = record { table = points; loaded = λ i h. refl }
 
 -- ---- three plots for five lamps, one of them faulty, modulo 65,521
@@ -126,7 +126,7 @@ deal-long : (T : List ℕ) (i : ℕ) → length (deal modulus 2 T anF i) ≡ 4
 deal-long T i = length-deal modulus 2 T anF refl i
 
 -- The dealer is honest, and lamp 3 is not: accepted, with the dealer's own F, whatever table they all loaded.
-module _ (T : List ℕ) (table : Stations modulus 5 T) where
+module _ (T : List ℕ) (table : IsTable modulus 5 T) where
   pub honest-dealer-meets : Premises (fiveWith modulus T) (execution (fiveWith modulus T) (honestDealer modulus T))
   unfolding sizes tabulate
   honest-dealer-meets = premises (fiveWith modulus T) (honestDealer modulus T) refl (lit≤ tt) (λ i q g. deal-long T i) tt tt (λ i r. tt)
@@ -156,7 +156,7 @@ module _ (T : List ℕ) (table : Stations modulus 5 T) where
           }))
 
 -- So without a table, and with the harbour's station numbers.
-five-points : Stations modulus 5 (oneTo 5)
+five-points : IsTable modulus 5 (oneTo 5)
 five-points = one-to-table modulus 5 (lit< tt)
 
 pub plain-accepted : AllAccept (five modulus) (execution (five modulus) (honestDealer modulus (oneTo 5))) anF

@@ -1,18 +1,18 @@
--- Demand 1, one type: every call, at every state and with every argument, gives the lowest number that applies, and none otherwise; and
--- what it leaves is said whole. Each row of a table below stands for a line of the protocol's "What is refused", with the state's and
--- the call's own numbers.
---   Table X                    rows of a number, when it applies, and what it leaves; in the order in which they are looked at
---   Follows T done o x         the answer o is the first number of T that applies, and x is what that leaves; else none, and `done` holds
---   Replies T done r           the same of a lamp's reply
+-- Demand 1, one type: every call, at every state and with every argument, gives the first number that applies, and none otherwise; and
+-- what it leaves is said whole. The rows below stand for lines of the protocol's "What is refused", with the state's and the call's own
+-- numbers, in the protocol's order: the lowest first, but for 14, right after 3.
+--   Rows X                     rows of a number, when it applies, and what it leaves; in the order in which they are looked at
+--   Follows R done o x         the answer o is the first number of R that applies, and x is what that leaves; else none, and `done` holds
+--   Replies R done r           the same of a lamp's reply
 --   Sizes, Among, Lengths      the protocol's sizes and numbers, and the lengths of a record's lists
 --   dealt, reported, Fresh     the lamp that a deal or a hearing leaves, and one as made; that of a settling is demand 2's `standing`
---   refusals p l c             the table of a lamp's call; NoColumnFits, NoOpeningFits: when 9 and 10 apply
+--   refusals p l c             the rows of a lamp's call; NoTable, NoColumnFits, NoOpeningFits: when 14, 9 and 10 apply
 --   Sound p T i row column     party i's deal is sound, by its point in the table T; IsSound p l: the lamp's is
 --   pointIn l j                party j's point, as the lamp l has it
 --   Says p l j a               the answer a is the lamp's pair for j; SaysNothing: both its numbers are "not sent"
 --   Confirms, Reports          what a one in a report says, and which report is given
 --   accepts p l c r            what the reply r to an accepted call says, beside demand 2
---   makingRefusals, deskRefusals, readerRefusals, writerRefusals   the tables of the other calls
+--   makingRefusals, deskRefusals, readerRefusals, writerRefusals   the rows of the other calls
 --   Demand1 p                  the demand, for arithmetic modulo p and any table
 use mathlib.Core.Path.{_≡_}
 use mathlib.Core.Logic.{_⊎_, _↔_}
@@ -25,7 +25,7 @@ use Rattle.lists.specs.Tabulate.{pad}
 use Rattle.polynomial.specs.Polynomial.{Residues, value}
 use Rattle.happy.specs.Happy.{happySet}
 use Rattle.parties.specs.Parties.{member, entry}
-use Rattle.tables.specs.Tables.{pointAt, Stations}
+use Rattle.tables.specs.Tables.{pointAt, IsTable}
 use Rattle.record.specs.declared.Reading.the-variants.{Fine}
 use Rattle.record.specs.Bytes.{over}
 use Rattle.record.specs.Record as records
@@ -38,25 +38,25 @@ use Rattle.consistency.specs.Deal.{firstFrom, secondFrom}
 use Rattle.lamp.specs.declared.Lamp.{Lamp}
 use Rattle.lamp.specs.declared.Reply.{Reply}
 use Rattle.answers.specs.Answers.{numberOf, writingNumber}
-use Rattle.lamp.specs.Lamp.{madeWith, tableOf, rowOfLamp, columnOfLamp, Call, takeDeal, sayPair, hearPairs, settle, openShares}
+use Rattle.lamp.specs.Lamp.{madeWith, rowOfLamp, columnOfLamp, Call, takeDeal, sayPair, hearPairs, settle, openShares}
 use Rattle.lamp.specs.Lamp.{step, makeWith}
 use Rattle.agreement.specs.Setting.{Setting, setting, width, deskFor}
-use Rattle.agreement.specs.Demand2.{FewAgree, FitsHeard, FitsShares, standing}
+use Rattle.agreement.specs.Demand2.{FewAgree, itsPoints, FitsHeard, FitsShares, standing}
 use Rattle.agreement.specs.Demand3.{Gives}
 
--- ---- "The lowest number that applies is given, and none otherwise."
+-- ---- "The lowest number that applies is given, and none otherwise", 14 "right after 3"
 
 -- A number, when it applies, and what it leaves.
-abbrev pub Table : Type 0 → Type 1
-Table X = List (ℕ × Type 0 × X)
+abbrev pub Rows : Type 0 → Type 1
+Rows X = List (ℕ × Type 0 × X)
 
-abbrev pub Follows : {X : Type 0} → Table X → Type 0 → Option ℕ → X → Type 0
+abbrev pub Follows : {X : Type 0} → Rows X → Type 0 → Option ℕ → X → Type 0
 Follows [] done o x = (o ≡ none) × done
 Follows ((k, applies, left) ∷ more) done o x = (applies × (o ≡ some k) × (x ≡ left)) ⊎ ((applies → ⊥) × Follows more done o x)
 
 -- The same of a lamp's reply.
-abbrev pub Replies : Table Lamp → (Reply → Type 0) → Reply → Type 0
-Replies T done r = Follows T (done r) (numberOf (r .answer)) (r .lamp)
+abbrev pub Replies : Rows Lamp → (Reply → Type 0) → Reply → Type 0
+Replies R done r = Follows R (done r) (numberOf (r .answer)) (r .lamp)
 
 -- ---- the caller's part: sizes, numbers
 
@@ -112,7 +112,7 @@ pub record Fresh (n t i : ℕ) (T : List ℕ) (l : Lamp) : Type 0 where
   pub waiting : l .sharing .stage ≡ Waiting
   pub no-share : l .sharing .share ≡ 0
   pub no-set : l .sharing .happy ≡ 0
-  pub same-table : n ≤ 16 → length T ≡ n → tableOf (l .party) ≡ T
+  pub same-table : n ≤ 16 → length T ≡ n → itsPoints l ≡ T
   pub zeros-behind : n ≤ 16 → length T ≡ n → l .party .table ≡ pad 16 T
   pub no-table : ((n ≤ 16) × (length T ≡ n) → ⊥) → l .party .table ≡ replicate 16 0
 
@@ -124,7 +124,7 @@ pub record Sound (p : ℕ) (T : List ℕ) (i : ℕ) (row column : List ℕ) : Ty
 
 -- Party j's point, as the lamp l has it.
 abbrev pub pointIn : Lamp → ℕ → ℕ
-pointIn l j = pointAt (tableOf (l .party)) j
+pointIn l j = pointAt (itsPoints l) j
 
 -- ---- a lamp's calls
 module _ (p : ℕ) where
@@ -137,9 +137,9 @@ module _ (p : ℕ) where
 
   -- 14, right after 3: the lamp's points are no table.
   abbrev pub NoTable : Lamp → Type 0
-  NoTable l = Stations p (l .party .n) (tableOf (l .party)) → ⊥
+  NoTable l = IsTable p (l .party .n) (itsPoints l) → ⊥
 
-  abbrev pub refusals : Lamp → Call → Table Lamp
+  abbrev pub refusals : Lamp → Call → Rows Lamp
   refusals l (takeDeal d) =
       (1, Sizes (l .party .n) (l .party .t) → ⊥, l)
       ∷ (2, Among (l .party .n) (l .party .number) → ⊥, l)
@@ -182,7 +182,7 @@ module _ (p : ℕ) where
 
   -- The lamp's deal is sound.
   abbrev pub IsSound : Lamp → Type 0
-  IsSound l = Sound p (tableOf (l .party)) (l .party .number) (rowOfLamp l) (columnOfLamp l)
+  IsSound l = Sound p (itsPoints l) (l .party .number) (rowOfLamp l) (columnOfLamp l)
 
   -- "Both numbers are 65,535"; modulo a wider prime, the same number that is no residue.
   abbrev pub SaysNothing : Answer → Type 0
@@ -217,26 +217,26 @@ module _ (p : ℕ) where
   accepts l (openShares xs) r = r .lamp ≡ l
 
 -- ---- the other calls
-abbrev pub makingRefusals : ℕ → ℕ → ℕ → ℕ → List ℕ → Table Lamp
+abbrev pub makingRefusals : ℕ → ℕ → ℕ → ℕ → List ℕ → Rows Lamp
 makingRefusals p n t i T =
     (1, Sizes n t → ⊥, madeWith n t i T)
     ∷ (2, Among n i → ⊥, madeWith n t i T)
     ∷ (3, length T ≡ n → ⊥, madeWith n t i T)
-    ∷ (14, Stations p n T → ⊥, madeWith n t i T)
+    ∷ (14, IsTable p n T → ⊥, madeWith n t i T)
     ∷ []
 
-abbrev pub deskRefusals : Setting → List ℕ → List ℕ → Table (List ℕ)
+abbrev pub deskRefusals : Setting → List ℕ → List ℕ → Rows (List ℕ)
 deskRefusals s F out =
     (1, Sizes (s .n) (s .t) → ⊥, out)
     ∷ (3, length F ≡ width s * width s → ⊥, out)
     ∷ (3, length out ≡ s .n * (2 * width s) → ⊥, out)
     ∷ (3, length (s .table) ≡ s .n → ⊥, out)
-    ∷ (14, Stations (s .p) (s .n) (s .table) → ⊥, out)
+    ∷ (14, IsTable (s .p) (s .n) (s .table) → ⊥, out)
     ∷ (5, Residues (s .p) F → ⊥, out)
     ∷ []
 
 -- "Under 2 bytes the refusal is 6; from 2 on, size (1) is tested before 6."
-abbrev pub readerRefusals : List ℕ → Table (List ℕ)
+abbrev pub readerRefusals : List ℕ → Rows (List ℕ)
 readerRefusals bytes =
     (6, 2 ≤ length bytes → ⊥, bytes)
     ∷ (1, Sizes (records.nOf bytes) (records.tOf bytes) → ⊥, bytes)
@@ -251,7 +251,7 @@ pub record Lengths (n t : ℕ) (deals pairs reports shares out : List ℕ) : Typ
   pub fourth : length shares ≡ n
   pub room : records.sectionStart n t 4 ≤ length out
 
-abbrev pub writerRefusals : ℕ → ℕ → List ℕ → List ℕ → List ℕ → List ℕ → List ℕ → Table (List ℕ)
+abbrev pub writerRefusals : ℕ → ℕ → List ℕ → List ℕ → List ℕ → List ℕ → List ℕ → Rows (List ℕ)
 writerRefusals n t deals pairs reports shares out =
     (1, Sizes n t → ⊥, out)
     ∷ (3, Lengths n t deals pairs reports shares out → ⊥, out)

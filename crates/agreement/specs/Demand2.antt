@@ -2,6 +2,7 @@
 -- meet. Which number a refusal has, when it is given and what it leaves is demand 1.
 --   Takes, Hears, Settles, Opens   nothing is wrong with the call: none of 1, 2, 3, 14, 4 and 7 applies
 --   FewAgree n t rs                no n − t parties all agree with each other
+--   itsPoints l                    the points of all parties: the first n numbers of the lamp's table
 --   pointsIn l S, heardIn l S      the points of the parties in S, and what the lamp l heard first from them
 --   FitsHeard p l S f              f fits that (the protocol's "fits" is fit's `Near`); FitsShares p l xs f: f fits the shares xs
 --   standing l stage S v           the very lamp l, at this stage, with the set S and the share v
@@ -32,7 +33,7 @@ use Rattle.lamp.specs.declared.Lamp.{Lamp}
 use Rattle.lamp.specs.declared.Reply.{Reply}
 use Rattle.consistency.specs.Deal.{rowOf, columnOf, firstFrom, reportOf}
 use Rattle.answers.specs.Fits.{constant}
-use Rattle.lamp.specs.Lamp.{Valid, tableOf, rowOfLamp, columnOfLamp, takeDeal, hearPairs, settle, openShares, step}
+use Rattle.lamp.specs.Lamp.{Valid, rowOfLamp, columnOfLamp, takeDeal, hearPairs, settle, openShares, step}
 use Rattle.agreement.specs.Setting.{Setting, setting, width, valueOf, rowFor, columnFor, deskFor}
 use Rattle.agreement.specs.Demand3.{Gives, Refuses}
 
@@ -40,9 +41,13 @@ use Rattle.agreement.specs.Demand3.{Gives, Refuses}
 abbrev pub FewAgree : ℕ → ℕ → List ℕ → Type 0
 FewAgree n t rs = (S : ℕ) → S < 2 ^ n → Clique (agree rs) S → members S n < n - t
 
+-- The first n numbers of the table that the lamp holds.
+abbrev pub itsPoints : Lamp → List ℕ
+itsPoints l = take (l .party .n) (l .party .table)
+
 -- The points and the first numbers heard, of the parties in S.
 abbrev pub pointsIn : Lamp → ℕ → List ℕ
-pointsIn l S = select (tabulate (bit S) (l .party .n)) (tableOf (l .party))
+pointsIn l S = select (tabulate (bit S) (l .party .n)) (itsPoints l)
 
 abbrev pub heardIn : Lamp → ℕ → List ℕ
 heardIn l S = select (tabulate (bit S) (l .party .n)) (take (l .party .n) (l .sharing .heard))
@@ -53,7 +58,7 @@ FitsHeard p l S f = Near p (l .party .t) (pointsIn l S) (heardIn l S) f
 
 -- "n published shares", "its own place in favour of its own share"
 abbrev pub FitsShares : ℕ → Lamp → List ℕ → List ℕ → Type 0
-FitsShares p l xs f = Near p (l .party .t) (tableOf (l .party)) (set xs (l .party .number - 1) (l .sharing .share)) f
+FitsShares p l xs f = Near p (l .party .t) (itsPoints l) (set xs (l .party .number - 1) (l .sharing .share)) f
 
 -- The very lamp, at this stage with this set and share; every other field as it was.
 abbrev pub standing : Lamp → Stage → ℕ → ℕ → Lamp
@@ -110,7 +115,7 @@ module _ (p : ℕ) where
 
   pub record HearsRight (l : Lamp) (hs : List ℕ) : Type 0 where
     pub answered : Gives (step p l (hearPairs hs) .answer)
-        (reportOf p (l .party .n) (tableOf (l .party)) (l .party .number) (rowOfLamp l) (columnOfLamp l) hs ∷ [])
+        (reportOf p (l .party .n) (itsPoints l) (l .party .number) (rowOfLamp l) (columnOfLamp l) hs ∷ [])
     pub firsts-kept : (j : ℕ) → isParty (l .party .n) j ≡ true → entry (step p l (hearPairs hs) .lamp .sharing .heard) j ≡ firstFrom hs j
     pub row-kept : rowOfLamp (step p l (hearPairs hs) .lamp) ≡ rowOfLamp l
     pub column-kept : columnOfLamp (step p l (hearPairs hs) .lamp) ≡ columnOfLamp l

@@ -24,7 +24,7 @@ use Rattle.happy.specs.Clique.{Largest}
 use Rattle.happy.specs.Happy.{happySet}
 use Rattle.lists.specs.Choices.{count}
 use Rattle.parties.specs.Parties.{sizes, isParty, parties, member, entry}
-use Rattle.tables.specs.Tables.{Stations}
+use Rattle.tables.specs.Tables.{IsTable}
 use Rattle.dealer.specs.Desk as desks
 use Rattle.answers.specs.declared.Stage.{Stage}
 use Rattle.answers.specs.declared.Stage.the-variants.{Holding, Closed}
@@ -100,7 +100,7 @@ module _ (s : Setting) where
 
     -- "agreement of honest lamps has the further premise that all of them .. loaded the same one": the setting's, which is a table.
     pub record OneTable : Type 0 where
-      pub table : Stations (s .p) (s .n) (s .table)
+      pub table : IsTable (s .p) (s .n) (s .table)
       pub loaded : (i : ℕ) → Honest i → e .tables i ≡ s .table
 
     -- "each honest lamp's deal is its stretch as the desk writes it for a list that the desk does not refuse"; "and a dealer counted as

@@ -4,14 +4,15 @@
 --   Case                 what is asked, and what must come of it; holds p c: the definitions give that, modulo p
 --   harbour              it deals, settles with a liar, repairs and opens; refused: bad tables, and a lamp that holds one
 -- Shown true all together in proofs/Marked, beside the protocol's marked cases.
-use mathlib.Core.Bool.{Bool, true, _&&_}
+use mathlib.Core.Bool.{Bool}
 use mathlib.Core.Option.{Option, none, some}
 use mathlib.Core.List.{List, [], _∷_, _++_}
 use Prim.Native.Nat.{ℕ}
 use lib.ListN.{replicate}
 use Rattle.dealer.specs.Desk as desks
 use Rattle.answers.specs.Answers.{numberOf}
-use Rattle.lamp.specs.Lamp.{Call, takeDeal, sayPair, hearPairs, settle, openShares, madeWith, makeWith, step, after}
+use Rattle.lamp.specs.Lamp.{Call, takeDeal, sayPair, hearPairs, settle, openShares, waiting, madeWith, makeWith}
+use Rattle.lamp.specs.Lamp.{step, after}
 use Rattle.agreement.specs.Marked.{same, sameNumber, answers, leaves}
 use Rattle.agreement.specs.Stories.{anF}
 
@@ -23,30 +24,28 @@ abbrev pub shuffled : List ℕ
 shuffled = 3 ∷ 21000 ∷ 7 ∷ 40961 ∷ 65520 ∷ []
 
 -- What is asked, and what must come of it.
---   dealt T i row column                 the desk's deal of F for lamp i, with the table T
---   dealing T F number                   the desk's answer to the list F with the table T
+--   dealing T i row column               the desk's deal of F for lamp i, with the table T
+--   refusing T F number                  the desk's answer to the list F with the table T
 --   making T number                      making lamp 1 with the table T
 --   answering T i cs c number values     lamp i, made with T, after the calls cs: its answer to the call c
 --   ending T i cs c number set share s   the same, and what it leaves: the happy set, the share and the stage
+--   keeping array c number values        the answer of lamp 1, waiting, whose state has these sixteen numbers for its table
 pub data Case : Type 0 where
-  dealt : List ℕ → ℕ → List ℕ → List ℕ → Case
-  dealing : List ℕ → List ℕ → Option ℕ → Case
+  dealing : List ℕ → ℕ → List ℕ → List ℕ → Case
+  refusing : List ℕ → List ℕ → Option ℕ → Case
   making : List ℕ → Option ℕ → Case
   answering : List ℕ → ℕ → List Call → Call → Option ℕ → List ℕ → Case
   ending : List ℕ → ℕ → List Call → Call → Option ℕ → ℕ → ℕ → ℕ → Case
+  keeping : List ℕ → Call → Option ℕ → List ℕ → Case
 
 -- The definitions give what the case says.
 unfoldable pub holds : ℕ → Case → Bool
-holds p (dealt T i row column) = same (desks.stretch 2 (desks.deskWith p 5 1 T anF (replicate 20 0) .0) i) (row ++ column)
-holds p (dealing T F number) = sameNumber (desks.dealingNumber (desks.deskWith p 5 1 T F (replicate 20 0) .1)) number
+holds p (dealing T i row column) = same (desks.stretch 2 (desks.deskWith p 5 1 T anF (replicate 20 0) .0) i) (row ++ column)
+holds p (refusing T F number) = sameNumber (desks.dealingNumber (desks.deskWith p 5 1 T F (replicate 20 0) .1)) number
 holds p (making T number) = sameNumber (numberOf (makeWith p 5 1 1 T .answer)) number
 holds p (answering T i cs c number values) = answers (step p (after p (madeWith 5 1 i T) cs) c .answer) number values
 holds p (ending T i cs c number set share stage) = leaves (step p (after p (madeWith 5 1 i T) cs) c) number set share stage
-
--- All cases of a list hold.
-abbrev pub allHold : ℕ → List Case → Bool
-allHold p [] = true
-allHold p (c ∷ cs) = holds p c && allHold p cs
+holds p (keeping array c number values) = answers (step p (waiting 5 1 1 array) c .answer) number values
 
 -- What lamp 1 hears: lamp 3 tells it the truth, lamp 5, whose deal is unsound, nothing. And what lamp 5 hears: lamp 3 lies.
 abbrev pub toLamp1 : List ℕ
@@ -59,7 +58,7 @@ toLamp5 = 33614 ∷ 53575 ∷ 61332 ∷ 40339 ∷ 999 ∷ 1 ∷ 52929 ∷ 31932 
 abbrev pub reports : List ℕ
 reports = 14 ∷ 13 ∷ 11 ∷ 7 ∷ 0 ∷ []
 
--- Lamp 1's calls up to settling. Lamp 5's, whose row is dealt as 42007 + 18483 X instead of 42007 + 18482 X.
+-- Lamp 1's calls up to settling. Lamp 5's, whose row is dealing as 42007 + 18483 X instead of 42007 + 18482 X.
 abbrev pub callsOf1 : List Call
 callsOf1 = takeDeal (16408 ∷ 32805 ∷ 57369 ∷ 32804 ∷ []) ∷ hearPairs toLamp1 ∷ []
 
@@ -79,11 +78,11 @@ allAgree = 30 ∷ 29 ∷ 27 ∷ 23 ∷ 15 ∷ []
 -- It deals, settles with lamp 3 lying, repairs lamp 5's share and opens 7; the same numbers in another order: another deal, the same 7.
 abbrev pub harbour : List Case
 harbour =
-    dealt stations 1 (16408 ∷ 32805 ∷ []) (57369 ∷ 32804 ∷ [])
-    ∷ dealt stations 2 (21 ∷ 31 ∷ []) (28 ∷ 30 ∷ [])
-    ∷ dealt stations 3 (5 ∷ 65520 ∷ []) (4 ∷ 65519 ∷ [])
-    ∷ dealt stations 4 (13 ∷ 15 ∷ []) (16 ∷ 14 ∷ [])
-    ∷ dealt stations 5 (42007 ∷ 18482 ∷ []) (63007 ∷ 18481 ∷ [])
+    dealing stations 1 (16408 ∷ 32805 ∷ []) (57369 ∷ 32804 ∷ [])
+    ∷ dealing stations 2 (21 ∷ 31 ∷ []) (28 ∷ 30 ∷ [])
+    ∷ dealing stations 3 (5 ∷ 65520 ∷ []) (4 ∷ 65519 ∷ [])
+    ∷ dealing stations 4 (13 ∷ 15 ∷ []) (16 ∷ 14 ∷ [])
+    ∷ dealing stations 5 (42007 ∷ 18482 ∷ []) (63007 ∷ 18481 ∷ [])
     ∷ answering stations 1 (takeDeal (16408 ∷ 32805 ∷ 57369 ∷ 32804 ∷ []) ∷ []) (sayPair 2) none (49480 ∷ 24913 ∷ [])
     ∷ answering stations 1 (takeDeal (16408 ∷ 32805 ∷ 57369 ∷ 32804 ∷ []) ∷ []) (hearPairs toLamp1) none (14 ∷ [])
     ∷ answering stations 5 (takeDeal (42007 ∷ 18483 ∷ 63007 ∷ 18481 ∷ []) ∷ []) (sayPair 1) none (65535 ∷ 65535 ∷ [])
@@ -92,17 +91,19 @@ harbour =
     ∷ answering stations 1 (callsOf1 ++ settle reports ∷ []) (openShares (0 ∷ 28 ∷ 999 ∷ 16 ∷ 63007 ∷ [])) none (7 ∷ [])
     ∷ answering stations 5 (callsOf5 ++ settle reports ∷ []) (openShares (57369 ∷ 28 ∷ 999 ∷ 16 ∷ 0 ∷ [])) none (7 ∷ [])
     ∷ answering stations 1 (callsOf1 ++ settle reports ∷ []) (openShares (57369 ∷ 28 ∷ 999 ∷ 998 ∷ 63007 ∷ [])) (some 10) []
-    ∷ dealt shuffled 1 (13 ∷ 15 ∷ []) (16 ∷ 14 ∷ [])
-    ∷ dealt shuffled 5 (5 ∷ 65520 ∷ []) (4 ∷ 65519 ∷ [])
+    ∷ dealing shuffled 1 (13 ∷ 15 ∷ []) (16 ∷ 14 ∷ [])
+    ∷ dealing shuffled 5 (5 ∷ 65520 ∷ []) (4 ∷ 65519 ∷ [])
     ∷ ending shuffled 1 callsShuffled (settle allAgree) none 31 16 3
     ∷ answering shuffled 1 (callsShuffled ++ settle allAgree ∷ []) (openShares (16 ∷ 63007 ∷ 28 ∷ 999 ∷ 4 ∷ [])) none (7 ∷ [])
     ∷ []
 
--- A table with 0 for lamp 5, and what a lamp that holds it answers: 3 before 14, and 14 before 4; 2 before 14 where a lamp is named.
+-- A table with 0 for lamp 5.
 abbrev pub withZero : List ℕ
 withZero = 40961 ∷ 7 ∷ 65520 ∷ 3 ∷ 0 ∷ []
 
--- 0, 65,521, a repeat, a short table and a long one, at a making and at the desk, where 14 comes before 5; and that lamp at every call.
+-- 0, 65,521, a repeat, a short table and a long one, at a making and at the desk, where 14 comes before 5. What a lamp with a bad table
+-- answers at every call: 3 before 14, and 14 before 4; 2 before 14 where a lamp is named. Of a state the first five numbers count, and no
+-- more.
 abbrev pub refused : List Case
 refused =
     making withZero (some 14)
@@ -111,11 +112,12 @@ refused =
     ∷ making (40961 ∷ 7 ∷ 65520 ∷ 3 ∷ []) (some 3)
     ∷ making (40961 ∷ 7 ∷ 65520 ∷ 3 ∷ 21000 ∷ 1 ∷ []) (some 3)
     ∷ making stations none
-    ∷ dealing withZero anF (some 14)
-    ∷ dealing (40961 ∷ 7 ∷ 65520 ∷ 65520 ∷ 21000 ∷ []) anF (some 14)
-    ∷ dealing (40961 ∷ 7 ∷ 65520 ∷ 3 ∷ 65521 ∷ []) (7 ∷ 2 ∷ 65521 ∷ 4 ∷ []) (some 14)
-    ∷ dealing (0 ∷ 7 ∷ 65520 ∷ 3 ∷ []) anF (some 3)
-    ∷ dealing stations (7 ∷ 2 ∷ 65521 ∷ 4 ∷ []) (some 5)
+    ∷ refusing withZero anF (some 14)
+    ∷ refusing (40961 ∷ 7 ∷ 65520 ∷ 65520 ∷ 21000 ∷ []) anF (some 14)
+    ∷ refusing (40961 ∷ 7 ∷ 65520 ∷ 3 ∷ 65521 ∷ []) (7 ∷ 2 ∷ 65521 ∷ 4 ∷ []) (some 14)
+    ∷ refusing (0 ∷ 7 ∷ 65520 ∷ 3 ∷ []) anF (some 3)
+    ∷ refusing (40961 ∷ 7 ∷ 65520 ∷ 3 ∷ 21000 ∷ 0 ∷ []) anF (some 3)
+    ∷ refusing stations (7 ∷ 2 ∷ 65521 ∷ 4 ∷ []) (some 5)
     ∷ answering withZero 1 [] (takeDeal (9 ∷ 7 ∷ 10 ∷ [])) (some 3) []
     ∷ answering withZero 1 [] (takeDeal (9 ∷ 7 ∷ 10 ∷ 6 ∷ [])) (some 14) []
     ∷ answering withZero 1 [] (sayPair 6) (some 2) []
@@ -127,4 +129,6 @@ refused =
     ∷ answering withZero 1 [] (openShares (replicate 6 0)) (some 3) []
     ∷ answering withZero 1 [] (openShares (replicate 5 0)) (some 14) []
     ∷ answering (40961 ∷ 7 ∷ []) 1 [] (takeDeal (9 ∷ 7 ∷ 10 ∷ 6 ∷ [])) (some 14) []
+    ∷ keeping (stations ++ 7 ∷ 7 ∷ 65535 ∷ replicate 8 0) (takeDeal (9 ∷ 7 ∷ 10 ∷ 6 ∷ [])) none []
+    ∷ keeping (withZero ++ 1 ∷ 2 ∷ 3 ∷ replicate 8 4) (takeDeal (9 ∷ 7 ∷ 10 ∷ 6 ∷ [])) (some 14) []
     ∷ []

@@ -113,9 +113,9 @@ holds p (meeting i row j column) = eqb (value p row (pointAt (oneTo 5) j)) (valu
 holds p (answering i cs c number values) = answers (step p (after p (made 5 1 i) cs) c .answer) number values
 
 -- All cases of a list hold.
-abbrev pub allHold : ℕ → List Case → Bool
-allHold p [] = true
-allHold p (c ∷ cs) = holds p c && allHold p cs
+abbrev pub every : {A : Type 0} → (A → Bool) → List A → Bool
+every test [] = true
+every test (c ∷ cs) = test c && every test cs
 
 -- M1 to M12. In M7 and M8 lamp 5's dealt column is 1 + Y, which it sets aside.
 abbrev pub table : List Case

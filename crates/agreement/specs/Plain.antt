@@ -5,30 +5,33 @@
 --   Plain p         all of it, for arithmetic modulo p
 use mathlib.Core.Path.{_≡_}
 use mathlib.Core.Bool.{true}
-use mathlib.Core.List.{List, [], _∷_}
-use Prim.Native.Nat.{ℕ, suc, _*_}
+use mathlib.Core.Option.{none}
+use mathlib.Core.List.{List, [], _∷_, _++_}
+use Prim.Native.Nat.{ℕ, suc, _*_, _≤_}
 use lib.ListN.{length}
 use Rattle.polynomial.specs.Polynomial.{Residues}
+use Rattle.bivariate.specs.Bivariate.{row, column}
 use Rattle.parties.specs.Parties.{isParty}
 use Rattle.tables.specs.Tables.{oneTo}
-use Rattle.dealer.specs.Desk.{desk, dealingNumber}
+use Rattle.dealer.specs.Desk.{stretch, desk, dealingNumber}
 use Rattle.lamp.specs.declared.Lamp.{Lamp}
 use Rattle.lamp.specs.Lamp.{made, make, Call, step, after}
 use Rattle.agreement.specs.Setting.{Setting, setting, point}
-use Rattle.agreement.specs.Demand1.{Table, Follows, Replies, Sizes, Among}
+use Rattle.agreement.specs.Demand1.{Rows, Follows, Replies, Sizes, Among, Fresh}
+use Rattle.agreement.specs.Demand2.{itsPoints}
 use Rattle.agreement.specs.Demand3.{Gives, Refuses, Execution, Honest, Premises, Conclusions}
 
 -- The setting without a table.
 abbrev pub plain : ℕ → ℕ → ℕ → Setting
 plain p n t = setting p n t (oneTo n)
 
-abbrev pub plainMaking : ℕ → ℕ → ℕ → Table Lamp
+abbrev pub plainMaking : ℕ → ℕ → ℕ → Rows Lamp
 plainMaking n t i =
     (1, Sizes n t → ⊥, made n t i)
     ∷ (2, Among n i → ⊥, made n t i)
     ∷ []
 
-abbrev pub plainDealing : ℕ → ℕ → ℕ → List ℕ → List ℕ → Table (List ℕ)
+abbrev pub plainDealing : ℕ → ℕ → ℕ → List ℕ → List ℕ → Rows (List ℕ)
 plainDealing p n t F out =
     (1, Sizes n t → ⊥, out)
     ∷ (3, length F ≡ suc t * suc t → ⊥, out)
@@ -36,13 +39,18 @@ plainDealing p n t F out =
     ∷ (5, Residues p F → ⊥, out)
     ∷ []
 
--- Lamp i's point is i; a making and the desk refuse what the protocol says; no call of a lamp made so is ever refused with 14; and honest
--- lamps that loaded no table agree, under the protocol's premises alone.
+-- Lamp i's point is i, to the desk and to every lamp made without a table, whatever calls it gets; a making and the desk refuse what the
+-- protocol says, and the desk deals F(X, i) and F(i, Y); no call of a lamp made so is ever refused with 14; and honest lamps that loaded
+-- no table agree, under the protocol's premises alone.
 pub record Plain (p : ℕ) : Type 0 where
   pub points : (n t i : ℕ) → isParty n i ≡ true → point (plain p n t) i ≡ i
+  pub fresh : (n t i : ℕ) → Fresh n t i (oneTo n) (made n t i)
+  pub its-points : (n t i : ℕ) (cs : List Call) → n ≤ 16 → itsPoints (after p (made n t i) cs) ≡ oneTo n
   pub makes : (n t i : ℕ) → Replies (plainMaking n t i) (λ r. Gives (r .answer) [] × (r .lamp ≡ made n t i)) (make p n t i)
   pub deals : (n t : ℕ) (F out : List ℕ) → let r = desk p n t F out in
       Follows (plainDealing p n t F out) (length (r .0) ≡ length out) (dealingNumber (r .1)) (r .0)
+  pub dealt : (n t : ℕ) (F out : List ℕ) → dealingNumber (desk p n t F out .1) ≡ none → (i : ℕ) → isParty n i ≡ true
+      → stretch (suc t) (desk p n t F out .0) i ≡ row p (suc t) (suc t) F i ++ column p (suc t) (suc t) F i
   pub never-14 : (n t i : ℕ) (cs : List Call) (c : Call) → Refuses (step p (after p (made n t i) cs) c .answer) 14 → ⊥
   pub agreement : (n t : ℕ) (e : Execution) → ((i : ℕ) → Honest (plain p n t) e i → e .tables i ≡ oneTo n)
       → Premises (plain p n t) e → Conclusions (plain p n t) e

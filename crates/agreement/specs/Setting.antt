@@ -21,7 +21,7 @@ use Prim.Native.Nat.{ℕ, suc}
 use Rattle.field.specs.Arithmetic.{Prime}
 use Rattle.bivariate.specs.Bivariate.{at, row, column}
 use Rattle.parties.specs.Parties.{sizes}
-use Rattle.tables.specs.Tables.{pointAt, Stations}
+use Rattle.tables.specs.Tables.{pointAt, IsTable}
 use Rattle.dealer.specs.declared.Dealing.{Dealing}
 use Rattle.dealer.specs.Desk.{deskWith}
 use Rattle.answers.specs.declared.Answer.{Answer}
@@ -49,7 +49,7 @@ withTable s T = setting (s .p) (s .n) (s .t) T
 pub record Legal (s : Setting) : Type 0 where
   pub prime : Prime (s .p)
   pub size : sizes (s .n) (s .t) ≡ true
-  pub points : Stations (s .p) (s .n) (s .table)
+  pub table : IsTable (s .p) (s .n) (s .table)
 
 module _ (s : Setting) where
   -- t + 1.

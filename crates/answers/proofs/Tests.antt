@@ -4,15 +4,18 @@
 --   also-failed, also-fails   the two ways to fail
 --   lowest-first, lowest-then   two lists of tests: the first list settles it, or passes
 --   lowest-also, passed-more    one test more; such that pass
+--   number-not-0                no refusal has the number 0
 use mathlib.Core.Path.{_≡_, refl, sym}
 use mathlib.Core.Bool.{Bool, true, false}
 use mathlib.Core.List.{List, [], _∷_, _++_}
 use Prim.Native.Nat.{ℕ}
 use native.Mathlib.Omega.{arith}
 use Rattle.answers.specs.declared.Refusal.{Refusal}
+use Rattle.answers.specs.declared.Refusal.the-variants.{WrongSize, WrongNumber, WrongLength, WrongStage, NotResidue, WrongDirectory}
+use Rattle.answers.specs.declared.Refusal.the-variants.{AlteredReport, DealerRejected, NoColumn, NoOpening, WrongTable}
 use Rattle.answers.specs.declared.Admission.{Admission}
 use Rattle.answers.specs.declared.Admission.the-variants.{Pass, Fail}
-use Rattle.answers.specs.Refusals.{Test, lowest, also}
+use Rattle.answers.specs.Refusals.{Test, refusalNumber, lowest, also}
 
 -- Tests asked one after the other, behind what was found before.
 abbrev pub alsoAll : Admission → List Test → Admission
@@ -70,3 +73,17 @@ pub passed-more : (first more : List Test) → lowest more ≡ Pass → lowest f
 passed-more [] more e = sym e
 passed-more ((true, w) ∷ first) more e = passed-more first more e
 passed-more ((false, w) ∷ first) more e = refl
+
+-- ---- no refusal has the number 0, by which the C functions say that there is none
+pub number-not-0 : (why : Refusal) → refusalNumber why ≡ 0 → ⊥
+number-not-0 WrongSize e = omega arith
+number-not-0 WrongNumber e = omega arith
+number-not-0 WrongLength e = omega arith
+number-not-0 WrongStage e = omega arith
+number-not-0 NotResidue e = omega arith
+number-not-0 WrongDirectory e = omega arith
+number-not-0 AlteredReport e = omega arith
+number-not-0 DealerRejected e = omega arith
+number-not-0 NoColumn e = omega arith
+number-not-0 NoOpening e = omega arith
+number-not-0 WrongTable e = omega arith

@@ -1,6 +1,6 @@
 -- Why a call is refused (docs/PROTOCOL.md, "What is refused").
 --   refusalNumber        the number of a refusal
---   lowest tests         the refusal of the first test that fails
+--   lowest tests         the refusal of the first test that fails, which is the lowest but for 14
 --   also earlier b why   what is found with one test more
 -- Laws: proofs/Tests.
 use mathlib.Core.Bool.{Bool, cond}
@@ -30,8 +30,8 @@ refusalNumber WrongTable = 14
 abbrev pub Test : Type 0
 Test = Bool × Refusal
 
--- "The lowest number that applies is given, and none otherwise": the tests in the order in which they are looked at, which is that of
--- their numbers but for 14, right after 3.
+-- "The lowest number that applies is given, and none otherwise": the first test that fails, the tests standing in the order of their
+-- numbers, but for 14, right after 3.
 abbrev pub lowest : List Test → Admission
 lowest [] = Pass
 lowest ((pass, why) ∷ tests) = cond pass (lowest tests) (Fail why)

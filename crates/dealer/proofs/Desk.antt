@@ -17,7 +17,7 @@ use Rattle.bivariate.specs.Bivariate.{row, column}
 use Rattle.bivariate.proofs.Crossing.{length-row, length-column}
 use Rattle.parties.specs.Parties.{sizes}
 use Rattle.parties.proofs.Parties.{sizes-facts}
-use Rattle.tables.specs.Tables.{pointAt, oneTo, Stations, tableTests}
+use Rattle.tables.specs.Tables.{pointAt, oneTo, IsTable, tableTests}
 use Rattle.tables.proofs.Tables.{table-facts, table-true, tests-pass, one-to-table}
 use Rattle.answers.specs.declared.Refusal.{Refusal}
 use Rattle.answers.specs.declared.Refusal.the-variants.{NotResidue}
@@ -95,7 +95,7 @@ pub record Deals (p n t : ℕ) (T F : List ℕ) (room : ℕ) : Type 0 where
   pub size : sizes n t ≡ true
   pub square : length F ≡ suc t * suc t
   pub long : room ≡ n * (2 * suc t)
-  pub table : Stations p n T
+  pub table : IsTable p n T
   pub below : Residues p F
 
 pub desk-passed : (p n t : ℕ) (T F : List ℕ) (room : ℕ) → lowest (deskTests p n t T F room) ≡ Pass → Deals p n t T F room

@@ -34,7 +34,7 @@ fn size_admission(n: u8, t: u8, size: usize, room: usize) -> Admission
     Admission::Pass
 }
 
-// The refusal that applies with a table, if one does. The table is looked at once it may have n entries.
+// The refusal that applies with a table, if one does.
 fn admission_with(n: u8, t: u8, table: &[u16], list: &[u16], room: usize) -> Admission
     ensures { λ r. ⌜ r ≡ lowest (deskTests modulus n t (now (table .entry)) (now (list .entry)) room) ⌝ }
 {

@@ -32,13 +32,13 @@ use Rattle.fit.proofs.Admitted.{fit-admitted}
 use Rattle.fit.proofs.Decoding.{fit-sound}
 use Rattle.parties.specs.Parties.{sizes}
 use Rattle.parties.proofs.Parties.{sizes-facts}
-use Rattle.tables.specs.Tables.{oneTo, Stations, isTable, tableTests}
+use Rattle.tables.specs.Tables.{oneTo, IsTable, isTable, tableTests}
 use Rattle.tables.proofs.Tables.{table-facts, table-true, tests-pass, one-to-table}
-use Rattle.recovery.specs.Recovery.{openingOf, publishedIn}
+use Rattle.recovery.specs.Recovery.{openingOf, publishedTests, publishedIn}
 use Rattle.dealer.specs.Desk.{dealingNumber, deskWith}
-use Rattle.exports.specs.Exports.{dealingAt, repairSizes, repairTests, repaired, repairedIf, repairing, opened, openTests}
-use Rattle.exports.specs.Exports.{openedIf, openingAt}
-use Rattle.exports.specs.Pieces.{columnBy, openedBy, Repairs}
+use Rattle.exports.specs.Exports.{dealingAt, repairSizes, repairTests, repaired, repairedIf, repairing, opened, openedIf}
+use Rattle.exports.specs.Exports.{openingAt}
+use Rattle.exports.specs.Pieces.{columnBy, openedBy, Lists, Repairs}
 
 -- ---- a repair
 module _ (t : ℕ) (xs ys column : List ℕ) where
@@ -50,11 +50,13 @@ module _ (t : ℕ) (xs ys column : List ℕ) where
       record {
         some-faulty = leb-true 1 t (sizes .0);
         few-faulty = leb-true t 3 (sizes .1 .0);
-        lengths = eqb-true (length xs) (length ys) (lists .0);
-        enough = leb-true (3 * t + 1) (length xs) (lists .1 .0);
-        most = leb-true (length xs) 16 (rest .0);
-        room = eqb-true (length column) (suc t) (rest .1 .0);
-        points = table-facts modulus (length xs) xs (rest .1 .1 .0);
+        lists = record {
+          lengths = eqb-true (length xs) (length ys) (lists .0);
+          enough = leb-true (3 * t + 1) (length xs) (lists .1 .0);
+          most = leb-true (length xs) 16 (rest .0);
+          room = eqb-true (length column) (suc t) (rest .1 .0);
+        };
+        table = table-facts modulus (length xs) xs (rest .1 .1 .0);
       }
 
   pub repairs-tests : Repairs t xs ys column → lowest (repairTests t xs (length ys) (length column)) ≡ Pass
@@ -62,11 +64,11 @@ module _ (t : ℕ) (xs ys column : List ℕ) where
       rw (
         le-leb 1 t (r .some-faulty),
         le-leb t 3 (r .few-faulty),
-        eq-eqb (length xs) (length ys) (r .lengths),
-        le-leb (3 * t + 1) (length xs) (r .enough),
-        le-leb (length xs) 16 (r .most),
-        eq-eqb (length column) (suc t) (r .room),
-        table-true modulus (length xs) xs (r .points),
+        eq-eqb (length xs) (length ys) (r .lists .lengths),
+        le-leb (3 * t + 1) (length xs) (r .lists .enough),
+        le-leb (length xs) 16 (r .lists .most),
+        eq-eqb (length column) (suc t) (r .lists .room),
+        table-true modulus (length xs) xs (r .table),
       )
 
   pub repairing-refused : {why : Refusal} → lowest (repairTests t xs (length ys) (length column)) ≡ Fail why
@@ -90,12 +92,12 @@ module _ (t : ℕ) (xs ys column : List ℕ) where
     column-by =
         let admitted = fit-admitted t (length xs - t) xs ys (record {
           degree = r .few-faulty;
-          bounded = record { lengths = r .lengths; most = r .most };
-          above = omega (arith, r .enough);
+          bounded = record { lengths = r .lists .lengths; most = r .lists .most };
+          above = omega (arith, r .lists .enough);
         }) in
         ap (λ w. columnBy (w .outcome) (w .coefficients) column) admitted
         ∙ column-decoded (fit modulus t (length xs - t) xs ys)
-        (λ f e. fit-sound modulus prime t (length xs - t) xs ys f e .poly .size ∙ sym (r .room))
+        (λ f e. fit-sound modulus prime t (length xs - t) xs ys f e .poly .size ∙ sym (r .lists .room))
         ∙ sym repairing-by
 
 -- ---- the numbers of a repair: 1 for t, 3 for the lists, 14 for the points
@@ -108,13 +110,6 @@ lists-only true false c d = inr refl
 lists-only true true false d = inr refl
 lists-only true true true false = inr refl
 lists-only true true true true = inl refl
-
--- What the first tests of a repair ask for.
-pub record Lists (t : ℕ) (xs ys column : List ℕ) : Type 0 where
-  pub lengths : length xs ≡ length ys
-  pub enough : 3 * t + 1 ≤ length xs
-  pub most : length xs ≤ 16
-  pub room : length column ≡ suc t
 
 module _ (t : ℕ) (xs ys column : List ℕ) where
   pub repair-1 : ((1 ≤ t) × (t ≤ 3) → ⊥) → repairing t xs ys column ≡ (column, 1)
@@ -153,7 +148,7 @@ module _ (t : ℕ) (xs ys column : List ℕ) where
       (lowest-first (repairSizes t (length xs) (length ys) (length column)) ((isTable modulus (length xs) xs, WrongTable) ∷ []) e)))
       (listed a b)
 
-  pub repair-14 : 1 ≤ t → t ≤ 3 → Lists t xs ys column → (Stations modulus (length xs) xs → ⊥) → repairing t xs ys column ≡ (column, 14)
+  pub repair-14 : 1 ≤ t → t ≤ 3 → Lists t xs ys column → (IsTable modulus (length xs) xs → ⊥) → repairing t xs ys column ≡ (column, 14)
   repair-14 a b l d =
       ⊎-elim
       (λ e. absurd (d (table-facts modulus (length xs) xs e)))
@@ -181,24 +176,24 @@ module _ (n t : ℕ) (T shares : List ℕ) (old : ℕ) where
   -- By the parts of the fit's answer, before the table is looked at.
   pub opened-by : let fitted = publishedIn n t T shares in
       openedBy (fitted .outcome) (getD (fitted .coefficients) 0 0) old
-      ≡ openedIf (lowest (openTests n t (length shares))) old (openingOf modulus n t T shares)
+      ≡ openedIf (lowest (publishedTests n t (length shares))) old (openingOf modulus n t T shares)
   unfolding publishedIn
-  opened-by = opened-decoded (lowest (openTests n t (length shares))) (openingOf modulus n t T shares) old
+  opened-by = opened-decoded (lowest (publishedTests n t (length shares))) (openingOf modulus n t T shares) old
 
   -- With a table that is one.
-  pub opening-at : Stations modulus n T
-      → openedIf (lowest (openTests n t (length shares))) old (openingOf modulus n t T shares) ≡ openingAt n t T shares old
+  pub opening-at : IsTable modulus n T
+      → openedIf (lowest (publishedTests n t (length shares))) old (openingOf modulus n t T shares) ≡ openingAt n t T shares old
   unfolding openingAt
   opening-at table =
       ap (λ a. openedIf a old (openingOf modulus n t T shares))
-      (passed-more (openTests n t (length shares)) (tableTests modulus n T) (tests-pass modulus n T table))
+      (passed-more (publishedTests n t (length shares)) (tableTests modulus n T) (tests-pass modulus n T table))
 
-  pub opening-refused : {why : Refusal} → lowest (openTests n t (length shares) ++ tableTests modulus n T) ≡ Fail why
+  pub opening-refused : {why : Refusal} → lowest (publishedTests n t (length shares) ++ tableTests modulus n T) ≡ Fail why
       → (old, refusalNumber why) ≡ openingAt n t T shares old
   unfolding openingAt
   opening-refused e = ap (λ a. openedIf a old (openingOf modulus n t T shares)) (sym e)
 
-  pub opening-by : sizes n t ≡ true → length shares ≡ n → Stations modulus n T
+  pub opening-by : sizes n t ≡ true → length shares ≡ n → IsTable modulus n T
       → openingAt n t T shares old ≡ opened old (openingOf modulus n t T shares)
   unfolding openingAt
   opening-by s l table = rw (s, eq-eqb (length shares) n l, eq-eqb (length T) n (table .size), table-true modulus n T table)
@@ -222,7 +217,7 @@ module _ (n t : ℕ) (T shares : List ℕ) (old : ℕ) where
       (λ (e : eqb (length shares) n ≡ false). rw (s, e))
       (true-or-false (eqb (length shares) n))
 
-  pub open-14 : sizes n t ≡ true → length shares ≡ n → length T ≡ n → (Stations modulus n T → ⊥) → openingAt n t T shares old ≡ (old, 14)
+  pub open-14 : sizes n t ≡ true → length shares ≡ n → length T ≡ n → (IsTable modulus n T → ⊥) → openingAt n t T shares old ≡ (old, 14)
   unfolding openingAt
   open-14 s l k d =
       ⊎-elim

@@ -3,7 +3,6 @@
 --   dealingAt n t T F out        dealing by the desk with the table T; dealing n t F out: without one
 --   repairTests t xs m room      what a repair is looked at for, with m values and room for `room` coefficients; repairSizes: at first
 --   repairing t xs ys column     the repair of a column from the points with the coordinates xs and ys
---   openTests n t m              what an opening of m shares is looked at for, but for its table
 --   openingAt n t T shares old   the opening of a published list by itself with the table T; opening n t shares old: without one
 --   rendered bytes out           the text of a record, and its length, 0 where it has no room
 -- Laws: proofs/Answers by the tests, proofs/Near for what a repair and an opening mean.
@@ -20,9 +19,8 @@ use Rattle.answers.specs.declared.Admission.the-variants.{Pass, Fail}
 use Rattle.answers.specs.Refusals.{Test, refusalNumber, lowest}
 use Rattle.answers.specs.Fits.{constant}
 use Rattle.fit.specs.Fit.{fit}
-use Rattle.parties.specs.Parties.{sizes}
 use Rattle.tables.specs.Tables.{oneTo, isTable, tableTests}
-use Rattle.recovery.specs.Recovery.{openingOf}
+use Rattle.recovery.specs.Recovery.{openingOf, publishedTests}
 use Rattle.dealer.specs.Desk.{dealingNumber, deskWith}
 use Rattle.transcript.specs.Transcript.{rendering, bytesWritten}
 
@@ -74,14 +72,10 @@ abbrev pub openedIf : Admission → ℕ → Option (List ℕ) → ℕ × ℕ
 openedIf Pass old o = opened old o
 openedIf (Fail why) old o = (old, refusalNumber why)
 
--- 1 for the sizes, 3 for the number of shares.
-abbrev pub openTests : ℕ → ℕ → ℕ → List Test
-openTests n t m = (sizes n t, WrongSize) ∷ (eqb m n, WrongLength) ∷ []
-
--- At most t of the n shares differ; then 3 and 14 for the table, and 10 where nothing is found.
+-- At most t of the n shares differ: 1 for the sizes, 3 for the number of shares, 3 and 14 for the table, and 10 where nothing is found.
 unfoldable pub openingAt : ℕ → ℕ → List ℕ → List ℕ → ℕ → ℕ × ℕ
 openingAt n t T shares old =
-    openedIf (lowest (openTests n t (length shares) ++ tableTests modulus n T)) old (openingOf modulus n t T shares)
+    openedIf (lowest (publishedTests n t (length shares) ++ tableTests modulus n T)) old (openingOf modulus n t T shares)
 
 -- Without a table.
 abbrev pub opening : ℕ → ℕ → List ℕ → ℕ → ℕ × ℕ

@@ -9,9 +9,9 @@ ghost use Rattle.dealer.specs.Desk.{dealingNumber};
 ghost use Rattle.answers.specs.Refusals.{lowest};
 ghost use Rattle.happy.specs.Happy.{happySet};
 ghost use Rattle.field.specs.Modulus.{modulus};
-ghost use Rattle.tables.specs.Tables.{Stations, tableTests};
-ghost use Rattle.recovery.specs.Recovery.{openingOf};
-ghost use Rattle.exports.specs.Exports.{dealingAt, dealing, repairSizes, repairTests, repairing, openTests, openedIf, openingAt};
+ghost use Rattle.tables.specs.Tables.{IsTable, tableTests};
+ghost use Rattle.recovery.specs.Recovery.{openingOf, publishedTests};
+ghost use Rattle.exports.specs.Exports.{dealingAt, dealing, repairSizes, repairTests, repairing, openedIf, openingAt};
 ghost use Rattle.exports.specs.Exports.{opening};
 ghost use Rattle.exports.specs.Exports.{rendered};
 ghost use Rattle.exports.specs.Pieces.{columnBy, openedBy, Repairs};
@@ -84,7 +84,11 @@ fn repair_admission(t: u8, xs: &[u16], values: usize, room: usize) -> Admission
     let sized = repair_sizes(t, xs.len(), values, room);
     match sized {
         Admission::Fail(why) => Admission::Fail(why),
-        Admission::Pass => also(Admission::Pass, tables::is_table(xs), Refusal::WrongTable),
+        Admission::Pass => also(
+            Admission::Pass,
+            tables::is_table(xs.len() as u8, xs),
+            Refusal::WrongTable,
+        ),
     }
 }
 
@@ -155,8 +159,8 @@ fn put_opened(outcome: Decoding, constant: u16, opened: &mut u16) -> u8
 
 // Opens published shares by themselves, the first n numbers being a table.
 fn opened_at(n: u8, t: u8, table: [u16; 16], shares: &[u16], opened: &mut u16) -> u8
-    requires { ⌜ Stations modulus n (take n table) ⌝ }
-    ensures { λ r. ⌜ (now (opened .exit), r) ≡ openedIf (lowest (openTests n t (length (now (shares .entry))))) (now (opened .entry))
+    requires { ⌜ IsTable modulus n (take n table) ⌝ }
+    ensures { λ r. ⌜ (now (opened .exit), r) ≡ openedIf (lowest (publishedTests n t (length (now (shares .entry))))) (now (opened .entry))
         (openingOf modulus n t (take n table) (now (shares .entry))) ⌝ }
 {
     let fitted = recovery::published(n, t, table, shares);
@@ -178,7 +182,7 @@ pub extern "C" fn doumbaht_open(n: u8, t: u8, shares: &[u16], opened: &mut u16) 
 
 // What an opening is refused for with a table.
 fn open_admission(n: u8, t: u8, table: &[u16], shares: usize) -> Admission
-    ensures { λ r. ⌜ r ≡ lowest (openTests n t shares ++ tableTests modulus n (now (table .entry))) ⌝ }
+    ensures { λ r. ⌜ r ≡ lowest (publishedTests n t shares ++ tableTests modulus n (now (table .entry))) ⌝ }
 {
     let size = also(Admission::Pass, parties::sizes(n, t), Refusal::WrongSize);
     let lent = also(size, shares == n as usize, Refusal::WrongLength);

@@ -1,8 +1,10 @@
 -- The lamp (docs/PROTOCOL.md, "A lamp"): one party's state and its calls, refused or not, at every state.
 --   madeWith n t i T  the lamp as made with the table T; made n t i: without one
---   tableOf a         the points of a party a's lamps
+--   waiting n t i a   a lamp that nothing was done with, with its table in the array a
+--   tableOf a         the points of the parties, as the party a has them
 --   Valid p a         the party's size, number and table are the protocol's
---   Call, tests p l c a call, and what it is looked at for, in the order of the refusals
+--   Call, tests p l c a call, and what it is looked at for, in the order of the refusals; lentTests, sayingTests: of its kinds
+--   makingTests p a T what a making is looked at for; partyTests a: what is asked of the party alone
 --   settled p l S     what settling with the happy set S gives
 --   outcome p l c     the reply to a call that no test refuses; step p l c: the reply to any call
 --   after p l cs      the lamp after a list of calls
@@ -64,7 +66,7 @@ madeWith n t i T = waiting n t i (inArray n T)
 abbrev pub made : ℕ → ℕ → ℕ → Lamp
 made n t i = madeWith n t i (oneTo n)
 
--- "Only the first n entries of a state count."
+-- The first n numbers of the array count.
 abbrev pub tableOf : Party → List ℕ
 tableOf a = take (a .n) (a .table)
 

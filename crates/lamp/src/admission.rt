@@ -31,14 +31,14 @@ pub(crate) fn legal(party: Party) -> Admission
     )
 }
 
-// Whether the first n numbers are a table; more than there are are none.
+// Whether the first n of sixteen numbers are a table of n parties.
 pub(crate) fn is_table(n: u8, table: [u16; 16]) -> bool
     ensures { λ r. ⌜ r ≡ isTable modulus n (take n table) ⌝ }
 {
     if 16 < n {
         return false;
     }
-    tables::is_table(&table[..n as usize])
+    tables::is_table(n, &table[..n as usize])
 }
 
 // The same with a lent list, which fits or not, the party's table, and a stage, which takes the call or not.

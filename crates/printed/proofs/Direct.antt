@@ -119,7 +119,7 @@ module _ (bytes : List ℕ) (is : IsRecord bytes) where
     ready = record {
       size = fine-legal bytes n t fine;
       party = party-true n i first last;
-      points = one-to-table modulus n (omega (arith, fine-facts bytes n t fine .3));
+      table = one-to-table modulus n (omega (arith, fine-facts bytes n t fine .3));
     }
 
     start-valid : Valid modulus (start .party)

@@ -53,7 +53,7 @@ module _ (honest : ℕ → Bool) (bytes : List ℕ) (is : IsRecord bytes) (f : F
   legal = record {
     prime = prime;
     size = is .size;
-    points = one-to-table modulus n (omega (arith, sizes-facts n t (is .size) .3));
+    table = one-to-table modulus n (omega (arith, sizes-facts n t (is .size) .3));
   }
 
   -- Lamp i's share, at its point and at i itself.

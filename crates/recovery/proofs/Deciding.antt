@@ -30,7 +30,7 @@ use Rattle.fit.proofs.Rule.{fits-iff, near-found, near-none}
 use Rattle.fit.proofs.Selection.{points-select}
 use Rattle.parties.specs.Parties.{sizes, isParty}
 use Rattle.parties.proofs.Parties.{sizes-facts}
-use Rattle.tables.specs.Tables.{Stations}
+use Rattle.tables.specs.Tables.{IsTable}
 use Rattle.tables.proofs.Tables.{table-points}
 use Rattle.recovery.specs.Recovery.{repair, openingOf, repairIn, publishedIn, openingIn}
 use Rattle.recovery.specs.Deciding.{Decides}
@@ -62,7 +62,7 @@ marked-members S (suc n) =
 pub marks-ones : (S n : ℕ) → S < 2 ^ n → marked (tabulate (bit S) n) ≡ ones S
 marks-ones S n h = marked-members S n ∙ sym (ones-members n S h)
 
-module _ (n t : ℕ) (T : List ℕ) (sized : sizes n t ≡ true) (table : Stations modulus n T) where
+module _ (n t : ℕ) (T : List ℕ) (sized : sizes n t ≡ true) (table : IsTable modulus n T) where
   facts : (1 ≤ t) × (t ≤ 3) × (4 * t + 1 ≤ n) × (n ≤ 16)
   facts = sizes-facts n t sized
 

@@ -2,6 +2,7 @@
 --   repair p n t T S heard          the column repaired from j's point in the table T and the first number heard from j, for j in S
 --   openingOf p n t T xs            the opening of the published shares xs by themselves
 --   openingWith p n t T i v xs      the same with party i's own share v in its own place
+--   publishedTests n t m            what an opening of m published shares is looked at for
 --   repairIn, publishedIn, openingIn   what the code answers for every input: a refusal, or what is decoded
 -- Laws: proofs/Fitting, what is answered; proofs/Deciding, what that says of the points.
 use mathlib.Core.Option.{Option}
@@ -16,7 +17,7 @@ use Rattle.lists.specs.Tabulate.{tabulate}
 use Rattle.field.specs.Modulus.{modulus}
 use Rattle.answers.specs.declared.Refusal.the-variants.{WrongSize, WrongNumber, WrongLength}
 use Rattle.answers.specs.declared.Fitted.{Fitted}
-use Rattle.answers.specs.Refusals.{lowest}
+use Rattle.answers.specs.Refusals.{Test, lowest}
 use Rattle.fit.specs.Fit.{fit}
 use Rattle.fit.specs.Admitted.{decodedIf}
 use Rattle.parties.specs.Parties.{sizes, isParty}
@@ -45,9 +46,12 @@ repairIn n t T S heard =
     (repair modulus n t T S heard)
 
 -- The sizes; a share for each party.
+abbrev pub publishedTests : ℕ → ℕ → ℕ → List Test
+publishedTests n t m = (sizes n t, WrongSize) ∷ (eqb m n, WrongLength) ∷ []
+
 unfoldable pub publishedIn : ℕ → ℕ → List ℕ → List ℕ → Fitted
 publishedIn n t T xs =
-    decodedIf (lowest ((sizes n t, WrongSize) ∷ (eqb (length xs) n, WrongLength) ∷ [])) (openingOf modulus n t T xs)
+    decodedIf (lowest (publishedTests n t (length xs))) (openingOf modulus n t T xs)
 
 -- The sizes; the party's own number; a share for each party.
 unfoldable pub openingIn : ℕ → ℕ → List ℕ → ℕ → ℕ → List ℕ → Fitted

@@ -10,7 +10,7 @@ ghost use Rattle.field.specs.Modulus.{modulus};
 ghost use Rattle.answers.specs.Fits.{decoded};
 ghost use Rattle.fit.specs.Fit.{fit};
 ghost use Rattle.parties.specs.Parties.{notSent};
-ghost use Rattle.tables.specs.Tables.{Stations};
+ghost use Rattle.tables.specs.Tables.{IsTable};
 ghost use Rattle.recovery.specs.Recovery.{repairIn, publishedIn, openingIn};
 use answers::Fitted;
 use answers::Refusal;
@@ -34,7 +34,7 @@ fn heard_from(n: u8, set: u16, heard: [u16; 16]) -> [u16; 16]
 
 // The polynomial of degree at most t that agrees with at least `need` of the n values at the parties' points, if one does.
 fn fit_parties(n: u8, t: u8, table: [u16; 16], need: usize, values: &[u16]) -> Fitted
-    requires { ⌜ (n ≤ 16) × (t ≤ 3) × (t < need) × (length (now values) ≡ n) × Stations modulus n (take n table) ⌝ }
+    requires { ⌜ (n ≤ 16) × (t ≤ 3) × (t < need) × (length (now values) ≡ n) × IsTable modulus n (take n table) ⌝ }
     ensures { λ r. ⌜ r ≡ decoded (fit modulus t need (take n table) (now (values .entry))) ⌝ }
 {
     let count = n as usize;
@@ -52,7 +52,7 @@ fn within(n: u8, set: u16) -> bool
 // The column that fits what the parties of the set said first, if one does. Refused: a bad size, a party above n in the set, fewer
 // than 3t + 1 parties. That the first n numbers are a table is the caller's to show, here and below.
 pub fn repair(n: u8, t: u8, table: [u16; 16], set: u16, heard: [u16; 16]) -> Fitted
-    requires { ⌜ Stations modulus n (take n table) ⌝ }
+    requires { ⌜ IsTable modulus n (take n table) ⌝ }
     ensures { λ r. ⌜ r ≡ repairIn n t (take n table) set heard ⌝ }
 {
     if !parties::sizes(n, t) {
@@ -86,7 +86,7 @@ fn with_own(i: u8, share: u16, shares: &[u16]) -> [u16; 16]
 
 // The polynomial that fits the published shares by themselves, if one does. Refused: a bad size, a share too many or too few.
 pub fn published(n: u8, t: u8, table: [u16; 16], shares: &[u16]) -> Fitted
-    requires { ⌜ Stations modulus n (take n table) ⌝ }
+    requires { ⌜ IsTable modulus n (take n table) ⌝ }
     ensures { λ r. ⌜ r ≡ publishedIn n t (take n table) (now (shares .entry)) ⌝ }
 {
     if !parties::sizes(n, t) {
@@ -100,7 +100,7 @@ pub fn published(n: u8, t: u8, table: [u16; 16], shares: &[u16]) -> Fitted
 
 // The same with party i's own share in its own place. Refused also: a number that is no party's.
 pub fn opening(n: u8, t: u8, table: [u16; 16], i: u8, share: u16, shares: &[u16]) -> Fitted
-    requires { ⌜ Stations modulus n (take n table) ⌝ }
+    requires { ⌜ IsTable modulus n (take n table) ⌝ }
     ensures { λ r. ⌜ r ≡ openingIn n t (take n table) i share (now (shares .entry)) ⌝ }
 {
     if !parties::sizes(n, t) {

@@ -1,8 +1,10 @@
 -- Laws of the tables of points: the test is right, 1 to n is a table, and what a lamp keeps of one.
---   table-facts, table-true, short-not, table-points   what the test says of a list; tests-pass: the tests of one that is lent
+--   table-facts, table-true, length-not, short-not, table-points   what the test says of a list; tests-pass: the tests of one that is lent
 --   points-of, point-at                     the table is the list of its parties' points
---   one-to-table, one-to-point              1 to n is a table, and i is party i's point in it
---   kept-front, kept-not                    the array that holds a table, and one of another length
+--   point-not-zero, point-once              no party's point is 0, and no two parties have one
+--   length-one-to, one-to-table, one-to-point   1 to n has n numbers, is a table, and i is party i's point in it
+--   kept-front, kept-whole                  the array that holds a table
+--   kept-many, kept-not                     zeros, where there are more than sixteen parties or the length is another
 use mathlib.Core.Path.{_≡_, refl, sym, ap, ap₂, _∙_}
 use mathlib.Core.Bool.{true, false, not, _&&_, and-eq-true-iff}
 use mathlib.Core.List.{List, [], _∷_, map}
@@ -14,13 +16,14 @@ use lib.Seq.{ext-getD, take-at, take-all}
 use borrow.Author.Tests.{lt-ltb, ltb-true, ne-eqb, eqb-false, eqb-true, eq-eqb, le-leb, lt-leb, not-true}
 use Rattle.lists.specs.All.{All}
 use Rattle.lists.specs.Tabulate.{tabulate, pad}
+use Rattle.lists.proofs.All.{all-getD, distinct-getD}
 use Rattle.lists.proofs.Tabulate.{length-tabulate, getD-tabulate, all-tabulate, map-tabulate, distinct-tabulate}
 use Rattle.answers.specs.declared.Admission.the-variants.{Pass}
 use Rattle.answers.specs.Refusals.{lowest}
 use Rattle.polynomial.specs.Polynomial.{Points}
 use Rattle.parties.specs.Parties.{isParty, parties}
 use Rattle.parties.proofs.Parties.{party-facts}
-use Rattle.tables.specs.Tables.{pointAt, oneTo, Stations, absent, distinctResidues, isTable, tableTests, inArray}
+use Rattle.tables.specs.Tables.{pointAt, oneTo, IsTable, absent, distinctResidues, isTable, tableTests, inArray}
 
 -- ---- a number that is none of a list
 pub absent-true : (x : ℕ) (xs : List ℕ) → All (λ z. z ≡ x → ⊥) xs → absent x xs ≡ true
@@ -50,7 +53,7 @@ module _ (p : ℕ) where
 
 -- ---- the test for a table
 module _ (p n : ℕ) (T : List ℕ) where
-  pub table-facts : isTable p n T ≡ true → Stations p n T
+  pub table-facts : isTable p n T ≡ true → IsTable p n T
   unfolding isTable
   table-facts e =
       let (fine, zero) = and-eq-true-iff (eqb (length T) n && distinctResidues p T) (absent 0 T) .0 e in
@@ -58,21 +61,26 @@ module _ (p n : ℕ) (T : List ℕ) where
       let points = distinct-residues-facts p T numbers in
       record { size = eqb-true (length T) n size; below = points .0; not-zero = absent-facts 0 T zero; once = points .1 }
 
-  pub table-true : Stations p n T → isTable p n T ≡ true
+  pub table-true : IsTable p n T → isTable p n T ≡ true
   unfolding isTable
   table-true h =
       rw (eq-eqb (length T) n (h .size), distinct-residues-true p T (h .below, h .once), absent-true 0 T (h .not-zero))
+
+  -- A list of another length is none.
+  pub length-not : (length T ≡ n → ⊥) → false ≡ isTable p n T
+  unfolding isTable
+  length-not d = rw (ne-eqb (length T) n d)
 
   -- A shorter list has no front that is one.
   pub short-not : length T < n → false ≡ isTable p n (take n T)
   unfolding isTable
   short-not h = rw (take-all n T (omega arith), ne-eqb (length T) n (λ e. omega arith))
 
-  pub table-points : Stations p n T → Points p T
+  pub table-points : IsTable p n T → Points p T
   table-points h = (h .below, h .once)
 
   -- All tests of a table that is lent pass.
-  pub tests-pass : Stations p n T → lowest (tableTests p n T) ≡ Pass
+  pub tests-pass : IsTable p n T → lowest (tableTests p n T) ≡ Pass
   tests-pass h = rw (eq-eqb (length T) n (h .size), table-true h)
 
 -- ---- the points
@@ -88,11 +96,27 @@ points-of n T l =
     ∙ ext-getD 0 (tabulate (λ k. pointAt T (suc k)) n) T (long ∙ sym l) (λ k h.
     getD-tabulate (λ k. pointAt T (suc k)) n k 0 (omega arith) ∙ sym (point-at T k))
 
+-- Two parties have two points, and none has 0.
+module _ (p n : ℕ) (T : List ℕ) (h : IsTable p n T) where
+  pub point-not-zero : (i : ℕ) → isParty n i ≡ true → pointAt T i ≡ 0 → ⊥
+  unfolding pointAt
+  point-not-zero i party =
+      let f = party-facts n i party in
+      all-getD (λ x. x ≡ 0 → ⊥) T (i - 1) 0 (omega (arith, h .size)) (h .not-zero)
+
+  pub point-once : (i j : ℕ) → isParty n i ≡ true → isParty n j ≡ true → pointAt T i ≡ pointAt T j → i ≡ j
+  unfolding pointAt
+  point-once i j one other e =
+      let f = party-facts n i one in
+      let g = party-facts n j other in
+      let same = distinct-getD T (i - 1) (j - 1) (omega (arith, h .size)) (omega (arith, h .size)) (h .once) e in
+      omega arith
+
 -- ---- 1 to n
 pub length-one-to : (n : ℕ) → length (oneTo n) ≡ n
 length-one-to n = length-tabulate suc n
 
-pub one-to-table : (p n : ℕ) → n < p → Stations p n (oneTo n)
+pub one-to-table : (p n : ℕ) → n < p → IsTable p n (oneTo n)
 one-to-table p n h = record {
   size = length-one-to n;
   below = all-tabulate suc (λ x. x < p) n (λ k b. omega arith);

@@ -1,8 +1,9 @@
 -- The parties' points (docs/PROTOCOL.md, "Station numbers"): a table has one for each party, in party order.
 --   pointAt T i        party i's point
 --   oneTo n            1 to n: the table where none is loaded
---   Stations p n T     T is a table of n parties: n residues, none 0, none twice; isTable p n T is the test for it
+--   IsTable p n T     T is a table of n parties: n residues, none 0, none twice; isTable p n T is the test for it
 --   tableTests p n T   what a table lent for n parties is looked at for, in the order of the refusals
+--   absent, distinctResidues   parts of that test
 --   inArray n T        the array that holds the table T loaded for n parties
 -- Laws: proofs/Tables.
 use mathlib.Core.Path.{_≡_}
@@ -18,7 +19,7 @@ use Rattle.answers.specs.Refusals.{Test}
 use Rattle.polynomial.specs.Polynomial.{Residues}
 use Rattle.parties.specs.Parties.{parties, entry}
 
--- "lamp i's point is entry i of the table": the one place that says so.
+-- Party i's point is entry i of the table: the one place that says so.
 unfoldable pub pointAt : List ℕ → ℕ → ℕ
 pointAt T i = entry T i
 
@@ -27,7 +28,7 @@ abbrev pub oneTo : ℕ → List ℕ
 oneTo n = parties n
 
 -- "A table of n numbers", no entry "0, above 65,520 or there twice"; 65,520 is the largest residue.
-pub record Stations (p n : ℕ) (T : List ℕ) : Type 0 where
+pub record IsTable (p n : ℕ) (T : List ℕ) : Type 0 where
   pub size : length T ≡ n
   pub below : Residues p T
   pub not-zero : All (λ x. x ≡ 0 → ⊥) T

@@ -23,9 +23,9 @@ fn absent(x: u16, list: &[u16]) -> bool
     true
 }
 
-// Whether the numbers are a table: none 0, none the modulus or above, none twice. A number below all those behind it is none of them: in
+// Whether the numbers are a table's: none 0, none the modulus or above, none twice. A number below all those behind it is none of them: in
 // a table that rises nothing is compared twice.
-pub fn is_table(table: &[u16]) -> bool
+fn good_entries(table: &[u16]) -> bool
     ensures { λ r. ⌜ r ≡ isTable modulus (length (now (table .entry))) (now (table .entry)) ⌝ }
 {
     let mut low = field::MODULUS;
@@ -48,14 +48,24 @@ pub fn is_table(table: &[u16]) -> bool
     0 < low
 }
 
-// Whether a table lent for n parties is one.
+// Whether the list is a table of n parties. A list of another length is not looked at.
+pub fn is_table(n: u8, table: &[u16]) -> bool
+    ensures { λ r. ⌜ r ≡ isTable modulus n (now (table .entry)) ⌝ }
+{
+    if table.len() != n as usize {
+        return false;
+    }
+    good_entries(table)
+}
+
+// What a table lent for n parties is refused for, if it is.
 pub fn admission(n: u8, table: &[u16]) -> Admission
     ensures { λ r. ⌜ r ≡ lowest (tableTests modulus n (now (table .entry))) ⌝ }
 {
     if table.len() != n as usize {
         return Admission::Fail(Refusal::WrongLength);
     }
-    if !is_table(table) {
+    if !is_table(n, table) {
         return Admission::Fail(Refusal::WrongTable);
     }
     Admission::Pass
@@ -71,7 +81,7 @@ fn at(list: &[u16], place: usize) -> u16
     list[place]
 }
 
-// Party i's point; 0, which is no party's, where the table has no entry for it.
+// Party i's point; 0, which is no party's, behind the last.
 pub fn point_at(table: &[u16], i: u8) -> u16
     ensures { λ r. ⌜ r ≡ pointAt (now (table .entry)) i ⌝ }
 {

@@ -4,11 +4,11 @@ use native.Mathlib.Omega.{arith}
 use Prim.Native.Nat.{ℕ}
 use lib.ListN.{length, take}
 use Rattle.field.specs.Modulus.{modulus}
-use Rattle.tables.specs.Tables.{oneTo, Stations}
+use Rattle.tables.specs.Tables.{oneTo, IsTable}
 use Rattle.tables.proofs.Tables.{length-one-to, one-to-table, kept-front}
-use Rattle.recovery.specs.Recovery.{openingOf}
+use Rattle.recovery.specs.Recovery.{openingOf, publishedTests}
 use Rattle.answers.specs.Refusals.{lowest}
-use Rattle.exports.specs.Exports.{openTests, openedIf}
+use Rattle.exports.specs.Exports.{openedIf}
 use Rattle.exports.proofs.Answers.{opening-at, open-many}
 use borrow.Author.Needs.{needs}
 use Rattle.exports.proofs.doumbaht_open.Statement.{statement}
@@ -23,7 +23,7 @@ points o =
     let n = start o .args .n in
     ap (take n) (o .one-to .ensures) ∙ kept-front n (oneTo n) (omega arith) (length-one-to n)
 
-table : (o : tie.After-one-to) → let n = start o .args .n in Stations modulus n (oneTo n)
+table : (o : tie.After-one-to) → let n = start o .args .n in IsTable modulus n (oneTo n)
 table o = one-to-table modulus (start o .args .n) (omega arith)
 
 refusal-number-requires : tie.Need-refusal-number-requires
@@ -39,14 +39,14 @@ one-to-requires : tie.Need-one-to-requires
 one-to-requires c κs = search needs
 
 opened-at-requires : tie.Need-opened-at-requires
-opened-at-requires c κs = let o = c .before in subst (Stations modulus (start o .args .n)) (sym (points o)) (table o)
+opened-at-requires c κs = let o = c .before in subst (IsTable modulus (start o .args .n)) (sym (points o)) (table o)
 
 returns-2 : tie.Need-returns-2
 returns-2 c =
     let o = c .before .before in
     let a = start o .args in
     c .opened-at .ensures
-    ∙ ap (λ T. openedIf (lowest (openTests (a .n) (a .t) (length (a .shares .now)))) (a .opened .now)
+    ∙ ap (λ T. openedIf (lowest (publishedTests (a .n) (a .t) (length (a .shares .now)))) (a .opened .now)
     (openingOf modulus (a .n) (a .t) T (a .shares .now))) (points o)
     ∙ opening-at (a .n) (a .t) (oneTo (a .n)) (a .shares .now) (a .opened .now) (table o)
 

@@ -5,12 +5,12 @@ use lib.ListN.{length, take}
 use Prim.Native.Nat.{ℕ}
 use Rattle.field.specs.Modulus.{modulus}
 use Rattle.parties.proofs.Parties.{sizes-facts}
-use Rattle.tables.specs.Tables.{Stations, tableTests}
+use Rattle.tables.specs.Tables.{IsTable, tableTests}
 use Rattle.tables.proofs.Tables.{table-facts, kept-front}
-use Rattle.recovery.specs.Recovery.{openingOf}
+use Rattle.recovery.specs.Recovery.{openingOf, publishedTests}
 use Rattle.answers.specs.Refusals.{Test, lowest}
 use Rattle.answers.proofs.Tests.{AllPass, lowest-pass}
-use Rattle.exports.specs.Exports.{openTests, openedIf}
+use Rattle.exports.specs.Exports.{openedIf}
 use Rattle.exports.proofs.Answers.{opening-at, opening-refused}
 use borrow.Author.Needs.{needs}
 use Rattle.exports.proofs.doumbaht_open_with.Statement.{statement}
@@ -21,12 +21,12 @@ abbrev start : tie.After-in-array → tie.Start
 start o = o .before .before .before .before .before .before
 
 abbrev tests : tie.Start → List Test
-tests s = let a = s .args in openTests (a .n) (a .t) (length (a .shares .now)) ++ tableTests modulus (a .n) (a .table .now)
+tests s = let a = s .args in publishedTests (a .n) (a .t) (length (a .shares .now)) ++ tableTests modulus (a .n) (a .table .now)
 
 passed : (o : tie.After-in-array) → AllPass (tests (start o))
 passed o = lowest-pass (tests (start o)) (sym (o .before .before .before .open-admission .ensures) ∙ o .before .enum-told .given .1)
 
-table : (o : tie.After-in-array) → Stations modulus (start o .args .n) (start o .args .table .now)
+table : (o : tie.After-in-array) → IsTable modulus (start o .args .n) (start o .args .table .now)
 table o = let a = start o .args in table-facts modulus (a .n) (a .table .now) (passed o .1 .1 .1 .0)
 
 points : (o : tie.After-in-array) → let a = start o .args in take (a .n) (o .in-array .result) ≡ a .table .now
@@ -53,7 +53,7 @@ in-array-requires c κs = search needs
 opened-at-requires : tie.Need-opened-at-requires
 opened-at-requires c κs =
     let o = c .before in
-    subst (Stations modulus _) (sym (points o)) (table o)
+    subst (IsTable modulus _) (sym (points o)) (table o)
 
 returns : tie.Need-returns
 returns c =
@@ -68,7 +68,7 @@ returns-2 c =
     let o = c .before .before in
     let a = o .before .before .before .before .before .before .args in
     c .opened-at .ensures
-    ∙ ap (λ T. openedIf (lowest (openTests (a .n) (a .t) (length (a .shares .now)))) (a .opened .now)
+    ∙ ap (λ T. openedIf (lowest (publishedTests (a .n) (a .t) (length (a .shares .now)))) (a .opened .now)
     (openingOf modulus (a .n) (a .t) T (a .shares .now))) (points o)
     ∙ opening-at (a .n) (a .t) (a .table .now) (a .shares .now) (a .opened .now) (table o)
 

@@ -10,15 +10,15 @@ use Rattle.exports.proofs.repaired.Statement.{statement}
 use Rattle.exports.proofs.repaired.Tie as tie
 
 sub-fit : tie.Need-sub-fit
-sub-fit c = let s = c .before .before .before in omega (arith, s .pre .enough)
+sub-fit c = let s = c .before .before .before in omega (arith, s .pre .lists .enough)
 
 fit-requires : tie.Need-fit-requires
-fit-requires c κs = let s = c .before .before .before in table-points modulus _ _ (s .pre .points)
+fit-requires c κs = let s = c .before .before .before in table-points modulus _ _ (s .pre .table)
 
 put-column-requires : tie.Need-put-column-requires
 put-column-requires c κs =
     let s = c .before .before .before .before .before .before in
-    omega (arith, s .pre .room, s .pre .few-faulty)
+    omega (arith, s .pre .lists .room, s .pre .few-faulty)
 
 same-length : tie.Need-same-length
 same-length c = search needs

@@ -1,11 +1,8 @@
 -- `tables::admission` meets its contract: the first test that fails settles the answer.
-use mathlib.Core.Path.{sym, ap, subst, _∙_}
-use mathlib.Core.Bool.{true, false}
+use mathlib.Core.Path.{sym, _∙_}
 use borrow.Author.Needs.{needs}
 use borrow.Author.Tests.{not-true, not-false, eq-eqb, ne-eqb}
 use lib.ListN.{length}
-use Rattle.field.specs.Modulus.{modulus}
-use Rattle.tables.specs.Tables.{isTable}
 use Rattle.tables.proofs.admission.Statement.{statement}
 use Rattle.tables.proofs.admission.Tie as tie
 
@@ -19,14 +16,14 @@ returns-2 : tie.Need-returns-2
 returns-2 c =
     let a = c .before .before .before .before .args in
     let same = c .before .before .if1 .left in
-    let found = ap (λ m. isTable modulus m (a .table .now)) (sym same) ∙ sym (c .before .is-table .ensures) ∙ not-true _ (c .if2 .taken) in
+    let found = sym (c .before .is-table .ensures) ∙ not-true _ (c .if2 .taken) in
     rw (eq-eqb (length (a .table .now)) (a .n) same, found)
 
 returns-3 : tie.Need-returns-3
 returns-3 c =
     let a = c .before .before .before .before .args in
     let same = c .before .before .if1 .left in
-    let found = ap (λ m. isTable modulus m (a .table .now)) (sym same) ∙ sym (c .before .is-table .ensures) ∙ not-false _ (c .if2 .left) in
+    let found = sym (c .before .is-table .ensures) ∙ not-false _ (c .if2 .left) in
     rw (eq-eqb (length (a .table .now)) (a .n) same, found)
 
 pub admission-spec : {M : Type 1} → statement M

@@ -5,7 +5,7 @@ use native.Mathlib.Omega.{arith}
 use lib.ListN.{length, take}
 use lib.Seq.{length-take-le}
 use Rattle.field.specs.Modulus.{modulus}
-use Rattle.tables.specs.Tables.{oneTo, Stations}
+use Rattle.tables.specs.Tables.{oneTo, IsTable}
 use Rattle.tables.proofs.Tables.{length-one-to, one-to-table, kept-front}
 use Rattle.recovery.specs.Recovery.{publishedIn}
 use Rattle.recovery.proofs.Fitting.{published-admitted}
@@ -43,7 +43,7 @@ published-requires : tie.Need-published-requires
 published-requires c κs =
     let o = c .before in
     let s = o .before .before .before in
-    subst (Stations modulus (s .args .n)) (sym (points o)) (one-to-table modulus (s .args .n) (omega (arith, facts s)))
+    subst (IsTable modulus (s .args .n)) (sym (points o)) (one-to-table modulus (s .args .n) (omega (arith, facts s)))
 
 returns : tie.Need-returns
 returns c =

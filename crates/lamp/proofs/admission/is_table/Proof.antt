@@ -1,10 +1,8 @@
 -- `lamp::admission::is_table` meets its contract: an array has no table of more than sixteen.
-use mathlib.Core.Path.{sym, ap, _∙_}
+use mathlib.Core.Path.{sym}
 use native.Mathlib.Omega.{arith}
-use lib.ListN.{take}
 use lib.Seq.{length-take-le}
 use Rattle.field.specs.Modulus.{modulus}
-use Rattle.tables.specs.Tables.{isTable}
 use Rattle.tables.proofs.Tables.{short-not}
 use borrow.Author.Needs.{needs}
 use Rattle.lamp.proofs.admission.is_table.Statement.{statement}
@@ -23,9 +21,7 @@ is-table-requires : tie.Need-is-table-requires
 is-table-requires c κs = search needs
 
 returns-2 : tie.Need-returns-2
-returns-2 c =
-    let a = c .before .before .before .args in
-    c .is-table .ensures ∙ ap (λ m. isTable modulus m (take (a .n) (a .t2))) (length-take-le (a .n) (a .t2) (omega arith))
+returns-2 c = c .is-table .ensures
 
 pub is-table-spec : {M : Type 1} → statement M
 is-table-spec = tie.close (tie.spec returns array-share-prefix-table slice-aggregate-is-table is-table-requires returns-2)
