@@ -9,8 +9,9 @@
  * that of `opened` too, is valid for that many numbers, aligned, and not null even where the count is 0; what is
  * written overlaps nothing else of the same call, and nothing else changes a list while the call runs.
  *
- * A `uint8_t` answer is DOUMBAHT_DONE, or the number of the refusal, the lowest that applies. A list or a number lent
- * for writing is written where the answer is DOUMBAHT_DONE, and holds what it held otherwise.
+ * A `uint8_t` answer is DOUMBAHT_DONE, or the number of the refusal: the lowest that applies, but that 14 comes right
+ * after 3. A list or a number lent for writing is written where the answer is DOUMBAHT_DONE, and holds what it held
+ * otherwise.
  */
 #ifndef DOUMBAHT_H
 #define DOUMBAHT_H
@@ -20,7 +21,7 @@
 
 /* The version of this header and of the library built from the same tree; as one number, 10203 is 1.2.3. */
 #define DOUMBAHT_VERSION_MAJOR 0
-#define DOUMBAHT_VERSION_MINOR 2
+#define DOUMBAHT_VERSION_MINOR 3
 #define DOUMBAHT_VERSION_PATCH 0
 #define DOUMBAHT_VERSION (10000 * DOUMBAHT_VERSION_MAJOR + 100 * DOUMBAHT_VERSION_MINOR + DOUMBAHT_VERSION_PATCH)
 
@@ -43,6 +44,14 @@
 /* The fewest points that a column is repaired from; the most are N_MOST. */
 #define DOUMBAHT_POINTS_LEAST(t) (3 * (t) + 1)
 
+/*
+ * A table is a list of n numbers, the lamps' points, lamp i's at place i-1: the harbour's station numbers, say. They may
+ * be in any order; none is 0, none is the prime or above, and none is there twice. Without a table lamp i's point is i.
+ * All lamps of a harbour and the desk load the same table, in the same order: a deal or a share does not say for which
+ * points it was made, and with another table an opening may answer another number without a refusal. A record has no
+ * table: its numbers are for the points 1 to n, and so is its text.
+ */
+
 /* The bytes of the longest record, and those that are enough for any text. */
 #define DOUMBAHT_RECORD_MOST 1362
 #define DOUMBAHT_TEXT 512
@@ -55,14 +64,15 @@ enum doumbaht_refusal {
     DOUMBAHT_DONE = 0,             /* not refused */
     DOUMBAHT_WRONG_SIZE = 1,       /* n or t is not within the sizes */
     DOUMBAHT_WRONG_NUMBER = 2,     /* a lamp's number is not 1 to n */
-    DOUMBAHT_WRONG_LENGTH = 3,     /* a list has not the length that it must have; of a repair also: its points are bad */
+    DOUMBAHT_WRONG_LENGTH = 3,     /* a list has not the length that it must have */
     DOUMBAHT_WRONG_STAGE = 4,      /* the lamp is not at a stage that takes this call */
     DOUMBAHT_NOT_RESIDUE = 5,      /* a number of the dealer's list is not below the prime */
     DOUMBAHT_WRONG_DIRECTORY = 6,  /* the record's directory is wrong */
     DOUMBAHT_ALTERED_REPORT = 7,   /* a lamp's report in the list of reports is not the one it gave */
     DOUMBAHT_DEALER_REJECTED = 8,  /* no n - t lamps all agree */
     DOUMBAHT_NO_COLUMN = 9,        /* no polynomial fits the points of a repair */
-    DOUMBAHT_NO_OPENING = 10       /* no polynomial fits the published shares */
+    DOUMBAHT_NO_OPENING = 10,      /* no polynomial fits the published shares */
+    DOUMBAHT_WRONG_TABLE = 14      /* a table's number, or a point of a repair, is 0, the prime or above, or there twice */
 };
 
 #ifdef __cplusplus
@@ -78,6 +88,13 @@ extern "C" {
 uint8_t doumbaht_deal(uint8_t n, uint8_t t, const uint16_t *f, size_t f_count, uint16_t *deals, size_t deals_count);
 
 /*
+ * The same with the lamps' points in a table: a lamp with the point x has the row F(X,x) and the column F(x,Y). Refused
+ * with WRONG_SIZE, WRONG_LENGTH (any of the lists; `table` has n numbers), WRONG_TABLE, NOT_RESIDUE, in this order.
+ */
+uint8_t doumbaht_deal_with(uint8_t n, uint8_t t, const uint16_t *table, size_t table_count, const uint16_t *f,
+                           size_t f_count, uint16_t *deals, size_t deals_count);
+
+/*
  * Answers the happy set: the largest set of lamps that all agree by the reports, bit i-1 for lamp i. Two lamps agree
  * if each has a one for the other; own bits and bits behind the last report are ignored. Of equally large sets one with
  * lamp 1 is preferred, then one with lamp 2, and so on. With fewer than n - t lamps in it the dealer is rejected; that is
@@ -86,10 +103,11 @@ uint8_t doumbaht_deal(uint8_t n, uint8_t t, const uint16_t *f, size_t f_count, u
 uint16_t doumbaht_happy_set(const uint16_t *reports, size_t reports_count);
 
 /*
- * Repairs a column from the points (xs[i], ys[i]): writes the COLUMN(t) coefficients, constant first, of the polynomial of
- * degree at most t from which at most t of the points differ; one with a y that was not sent always differs. At most one
- * polynomial fits. Refused with WRONG_SIZE for t; WRONG_LENGTH unless there are as many `ys` as `xs`, POINTS_LEAST(t) to
- * N_MOST of them, and COLUMN(t) places in `column`, and unless the `xs` are distinct and below the prime; NO_COLUMN.
+ * Repairs a column from the points (xs[i], ys[i]): writes the COLUMN(t) coefficients, constant first, of the polynomial
+ * of degree at most t from which at most t of the points differ; one with a y that was not sent always differs. At most
+ * one polynomial fits. The `xs` are lamps' points: with a table, numbers of it. Refused with WRONG_SIZE for t;
+ * WRONG_LENGTH unless there are as many `ys` as `xs`, POINTS_LEAST(t) to N_MOST of them, and COLUMN(t) places in
+ * `column`; WRONG_TABLE if one of the `xs` is 0, the prime or above, or there twice; NO_COLUMN; in this order.
  */
 uint8_t doumbaht_repair(uint8_t t, const uint16_t *xs, size_t xs_count, const uint16_t *ys, size_t ys_count,
                         uint16_t *column, size_t column_count);
@@ -100,6 +118,13 @@ uint8_t doumbaht_repair(uint8_t t, const uint16_t *xs, size_t xs_count, const ui
  * fits. Refused with WRONG_SIZE, WRONG_LENGTH unless there are n shares, NO_OPENING.
  */
 uint8_t doumbaht_open(uint8_t n, uint8_t t, const uint16_t *shares, size_t shares_count, uint16_t *opened);
+
+/*
+ * The same with the lamps' points in the table that they were dealt with. Refused with WRONG_SIZE, WRONG_LENGTH unless
+ * there are n shares and n numbers in `table`, WRONG_TABLE, NO_OPENING, in this order.
+ */
+uint8_t doumbaht_open_with(uint8_t n, uint8_t t, const uint16_t *table, size_t table_count, const uint16_t *shares,
+                           size_t shares_count, uint16_t *opened);
 
 /*
  * Writes the text of a record, what the program `bench` prints for these bytes, over the front of `out`, with no 0

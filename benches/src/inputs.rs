@@ -14,6 +14,12 @@ pub struct Dealing {
     pub room: usize,
 }
 
+/// A question with the lamps' points in a table.
+pub struct Tabled<I> {
+    pub table: Vec<u16>,
+    pub question: I,
+}
+
 #[derive(Clone, PartialEq, Debug)]
 pub struct Deals {
     pub answer: u8,

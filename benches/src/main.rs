@@ -19,7 +19,7 @@ mod rows;
 mod table;
 
 use measure::{Pace, Role};
-use plain::{fit_now, happy_new, happy_now, happy_old};
+use plain::{differences_now, fit_now, happy_new, happy_now, happy_old};
 use std::io::Write;
 use std::process::ExitCode;
 use std::time::Instant;
@@ -48,7 +48,7 @@ fn main() -> ExitCode {
         ["--quick"] => run(&QUICK),
         ["hunt", ref rest @ ..] => hunt(rest),
         ["count", row, who, times] => count(row, who, times),
-        ["rows"] => rows::all(1).iter().try_for_each(|row| say(&format!("{:15} {}", row.key(), row.title()))),
+        ["rows"] => rows::all(1).iter().try_for_each(|row| say(&format!("{:22} {}", row.key(), row.title()))),
         _ => Err(USAGE.to_string()),
     };
     match done {
@@ -68,7 +68,8 @@ fn run(plan: &Plan) -> Result<(), String> {
         row.compare()?;
     }
     say(&format!("All answers agree: {asked} random questions, {} rows of {} inputs.", rows.len(), plan.inputs))?;
-    say(&format!("Plain Rust finds the happy set by {}; fits by {}.\n", happy_now::NAME, fit_now::NAME))?;
+    say(&format!("Plain Rust finds the happy set by {}; fits by {};", happy_now::NAME, fit_now::NAME))?;
+    say(&format!("takes the divided differences of four points by {}.\n", differences_now::NAME))?;
     say(&table::head())?;
     let mut misses = Vec::new();
     for row in &rows {

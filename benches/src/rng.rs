@@ -40,6 +40,28 @@ impl Rng {
         (0..count).map(|_| self.element()).collect()
     }
 
+    /// What a table may hold: a field element other than 0.
+    pub fn point(&mut self) -> u16 {
+        1 + self.below(P as usize - 1) as u16
+    }
+
+    /// Points drawn until there are so many distinct ones, in the order in which they came.
+    pub fn distinct(&mut self, count: usize, mut draw: impl FnMut(&mut Rng) -> u16) -> Vec<u16> {
+        let mut list = Vec::new();
+        while list.len() < count {
+            let x = draw(self);
+            if !list.contains(&x) {
+                list.push(x);
+            }
+        }
+        list
+    }
+
+    /// A table of any points, in any order.
+    pub fn table(&mut self, count: usize) -> Vec<u16> {
+        self.distinct(count, Rng::point)
+    }
+
     /// A field element other than the given one.
     pub fn wrong(&mut self, right: u16) -> u16 {
         ((usize::from(right) + 1 + self.below(P as usize - 1)) % P as usize) as u16

@@ -1,12 +1,12 @@
 //! The rows: which question, which inputs, who answers.
 
-use crate::contenders::{dealing, happy, opening, repairing, writing};
+use crate::contenders::{dealing, dealing_with, happy, opening, opening_with, repairing, writing};
 use crate::graphs::{self, Graph};
 use crate::hunt::{calls, neighbours};
-use crate::inputs::{Bytes, Dealing, Deals, Text};
+use crate::inputs::{Bytes, Dealing, Tabled, Text};
 use crate::measure::{Bench, Row};
 use crate::plain::happy_now;
-use crate::points::{happy_points, shares, Lies};
+use crate::points::{happy_points, shares, tabled_points, tabled_shares, Lies};
 use crate::records::{honest, shifted, EXAMPLE, LIARS};
 use crate::rng::Rng;
 
@@ -14,10 +14,11 @@ const SEED: u64 = 1971;
 
 /// All rows, each with so many inputs.
 pub fn all(count: usize) -> Vec<Box<dyn Bench>> {
-    let mut rows: Vec<Box<dyn Bench>> = vec![Box::new(deal_row(count))];
+    let mut rows = deal_rows(count);
     rows.extend(happy_rows(count));
     rows.extend(repair_rows(count));
     rows.extend(open_rows(count));
+    rows.extend(tabled_rows(count));
     rows.extend(text_rows(count));
     rows
 }
@@ -28,9 +29,13 @@ fn made<I>(count: usize, mut make: impl FnMut(&mut Rng) -> I) -> Vec<I> {
     (0..count).map(|_| make(&mut rng)).collect()
 }
 
-fn deal_row(count: usize) -> Row<Dealing, Deals> {
-    let inputs = made(count, |rng| Dealing { n: 16, t: 3, f: rng.elements(16), room: 128 });
-    dealing("deal", "dealing, n = 16, t = 3", inputs)
+fn deal_rows(count: usize) -> Vec<Box<dyn Bench>> {
+    let question = |rng: &mut Rng| Dealing { n: 16, t: 3, f: rng.elements(16), room: 128 };
+    let tabled = |rng: &mut Rng| Tabled { table: rng.table(16), question: question(rng) };
+    vec![
+        Box::new(dealing("deal", "dealing, n = 16, t = 3", made(count, question))),
+        Box::new(dealing_with("deal-table", "dealing, n = 16, t = 3, points in a table", made(count, tabled))),
+    ]
 }
 
 /// A row for one graph: what is ignored in reports varies.
@@ -101,19 +106,22 @@ fn lies_at(places: &[usize]) -> String {
     format!("lies at {}", named.join(", "))
 }
 
+/// Where the lies of a repair stand: how many points there are, and the places.
+const REPAIRS: [(&str, usize, &[usize]); 5] = [
+    ("first", 10, &[0, 1, 2]),
+    ("groups", 10, &[0, 4, 5]),
+    ("pairs", 10, PAIRS),
+    ("first", 16, &[0, 1, 2]),
+    ("groups", 16, &[0, 4, 8]),
+];
+
 fn repair_rows(count: usize) -> Vec<Box<dyn Bench>> {
-    let row = |key: &str, points: usize, places: &'static [usize]| -> Box<dyn Bench> {
+    let row = |(key, points, places): (&str, usize, &'static [usize])| -> Box<dyn Bench> {
         let inputs = made(count, |rng| happy_points(rng, points, 3, Lies::At(places)));
         let title = format!("repair, {points} points, t = 3, {}", lies_at(places));
         Box::new(repairing(&format!("repair{points}-{key}"), &title, inputs))
     };
-    vec![
-        row("first", 10, &[0, 1, 2]),
-        row("groups", 10, &[0, 4, 5]),
-        row("pairs", 10, PAIRS),
-        row("first", 16, &[0, 1, 2]),
-        row("groups", 16, &[0, 4, 8]),
-    ]
+    REPAIRS.map(row).into()
 }
 
 fn open_row(key: &str, (n, t): (u8, u8), count: usize, lies: Lies, title: &str) -> Box<dyn Bench> {
@@ -121,20 +129,41 @@ fn open_row(key: &str, (n, t): (u8, u8), count: usize, lies: Lies, title: &str) 
     Box::new(opening(&format!("open{n}-{key}"), &format!("opening, n = {n}, t = {t}, {title}"), inputs))
 }
 
-fn open_rows(count: usize) -> Vec<Box<dyn Bench>> {
-    let at = |key: &str, size, places| open_row(key, size, count, Lies::At(places), &lies_at(places));
-    let mut rows = Vec::new();
+/// The lies at each size, with a word for them.
+fn openings() -> Vec<(&'static str, (u8, u8), &'static [usize])> {
+    let mut all: Vec<(&str, (u8, u8), &[usize])> = Vec::new();
     for (n, t, first, groups) in SIZES {
-        rows.push(at("none", (n, t), &[]));
-        rows.push(at("first", (n, t), first));
+        all.push(("none", (n, t), &[]));
+        all.push(("first", (n, t), first));
         if groups != first {
-            rows.push(at("groups", (n, t), groups));
+            all.push(("groups", (n, t), groups));
         }
     }
-    rows.push(at("pairs", (13, 3), PAIRS));
+    all.push(("pairs", (13, 3), PAIRS));
+    all
+}
+
+fn open_rows(count: usize) -> Vec<Box<dyn Bench>> {
+    let at = |(key, size, places)| open_row(key, size, count, Lies::At(places), &lies_at(places));
+    let mut rows: Vec<_> = openings().into_iter().map(at).collect();
     rows.push(open_row("any", (16, 3), count, Lies::Any(3), "3 lies anywhere"));
     rows.push(open_row("refused", (16, 3), count, Lies::At(&[0, 4, 8, 12]), "4 lies, refused"));
     rows
+}
+
+/// The same repairs and openings with the points in a table, each input with another.
+fn tabled_rows(count: usize) -> Vec<Box<dyn Bench>> {
+    let repair = |(key, points, places): (&str, usize, &'static [usize])| -> Box<dyn Bench> {
+        let inputs = made(count, |rng| tabled_points(rng, points, 3, Lies::At(places)));
+        let title = format!("repair, {points} points in a table, t = 3, {}", lies_at(places));
+        Box::new(repairing(&format!("repair{points}-{key}-table"), &title, inputs))
+    };
+    let open = |(key, (n, t), places): (&str, (u8, u8), &'static [usize])| -> Box<dyn Bench> {
+        let inputs = made(count, |rng| tabled_shares(rng, n, t, Lies::At(places)));
+        let title = format!("opening, n = {n}, t = {t}, points in a table, {}", lies_at(places));
+        Box::new(opening_with(&format!("open{n}-{key}-table"), &title, inputs))
+    };
+    REPAIRS.into_iter().map(repair).chain(openings().into_iter().map(open)).collect()
 }
 
 fn text_rows(count: usize) -> Vec<Box<dyn Bench>> {

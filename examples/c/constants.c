@@ -90,6 +90,35 @@ static void points(void)
     expect(doumbaht_repair(1, xs, 4, ys, 4, numbers, 2) == DOUMBAHT_NO_COLUMN, "two against two fit no line");
 }
 
+/* A dealing of zeros, an opening of zeros and a repair from zeros, at the points 1 to 5 but for the last. */
+static int all_answer(uint16_t last, uint8_t answer)
+{
+    const uint16_t table[] = {1, 2, 3, 4, last}, zeros[5] = {0};
+    uint16_t opened = 0;
+    return doumbaht_deal_with(5, 1, table, 5, zeros, 4, numbers, 20) == answer &&
+           doumbaht_open_with(5, 1, table, 5, zeros, 5, &opened) == answer &&
+           doumbaht_repair(1, table, 5, zeros, 5, numbers, 2) == answer;
+}
+
+static void tables(void)
+{
+    const uint16_t table[] = {1, 2, 3, 4, 0, 6}, f[] = {DOUMBAHT_MODULUS, 0, 0, 0}, shares[] = {0, 0, 0, 1, 1};
+    uint16_t opened = 0;
+    expect(all_answer(DOUMBAHT_MODULUS - 1, DOUMBAHT_DONE), "below the prime is a point");
+    expect(all_answer(DOUMBAHT_MODULUS, DOUMBAHT_WRONG_TABLE), "the prime is none");
+    expect(all_answer(DOUMBAHT_NOT_SENT, DOUMBAHT_WRONG_TABLE), "nor is what was not sent");
+    expect(all_answer(0, DOUMBAHT_WRONG_TABLE), "nor is 0");
+    expect(all_answer(1, DOUMBAHT_WRONG_TABLE), "no point is there twice");
+    for (size_t count = 4; count <= 6; count += 2) {
+        expect(doumbaht_deal_with(5, 1, table, count, f, 4, numbers, 20) == DOUMBAHT_WRONG_LENGTH, "n points to deal at");
+        expect(doumbaht_open_with(5, 1, table, count, shares, 5, &opened) == DOUMBAHT_WRONG_LENGTH, "n points to open at");
+    }
+    expect(doumbaht_deal_with(5, 1, table, 5, f, 4, numbers, 20) == DOUMBAHT_WRONG_TABLE, "the table before `f`");
+    expect(doumbaht_open_with(5, 1, table, 5, shares, 5, &opened) == DOUMBAHT_WRONG_TABLE, "and before what fits");
+    expect(doumbaht_deal_with(5, 1, table, 5, f, 4, numbers, 19) == DOUMBAHT_WRONG_LENGTH, "lengths before the table");
+    expect(doumbaht_deal_with(5, 2, table, 6, f, 4, numbers, 20) == DOUMBAHT_WRONG_SIZE, "sizes before lengths");
+}
+
 /* The directory of the largest sizes, with zeros behind it: a record of nobody's, "size 16 3" and not "record refused 6". */
 static void text(void)
 {
@@ -109,6 +138,7 @@ int main(void)
     modulus();
     not_sent();
     points();
+    tables();
     text();
     return wrong;
 }

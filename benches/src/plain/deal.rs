@@ -1,6 +1,7 @@
 //! Dealing, and what a deal is checked for.
 
 use super::field::{mul_add, value, P};
+use super::tables;
 
 pub fn sizes(n: u8, t: u8) -> bool {
     (1..=3).contains(&t) && 4 * t < n && n <= 16
@@ -10,8 +11,9 @@ pub fn residues(list: &[u16]) -> bool {
     list.iter().all(|&x| u32::from(x) < P)
 }
 
-/// The refusal that applies, or 0.
-pub fn verdict(n: u8, t: u8, f: &[u16], room: usize) -> u8 {
+/// The refusal that applies, or 0; the table, if there is one, is looked at behind the lengths.
+#[inline(always)]
+fn verdict(n: u8, t: u8, table: Option<&[u16]>, f: &[u16], room: usize) -> u8 {
     if !sizes(n, t) {
         return 1;
     }
@@ -19,63 +21,107 @@ pub fn verdict(n: u8, t: u8, f: &[u16], room: usize) -> u8 {
     if f.len() != width * width || room != usize::from(n) * 2 * width {
         return 3;
     }
+    let bad = table.map_or(0, |table| tables::refusal(n, table));
+    if bad != 0 {
+        return bad;
+    }
     if !residues(f) {
         return 5;
     }
     0
 }
 
+/// How deals are written, each at its lamp's point.
+trait Desk {
+    fn write(t: u8, points: impl Iterator<Item = u32>, f: &[u16], out: &mut [u16]);
+}
+
+#[inline(always)]
+fn dealt<D: Desk>(n: u8, t: u8, f: &[u16], out: &mut [u16]) -> u8 {
+    let answer = verdict(n, t, None, f, out.len());
+    if answer == 0 {
+        D::write(t, 1u32.., f, out);
+    }
+    answer
+}
+
+#[inline(always)]
+fn dealt_with<D: Desk>(n: u8, t: u8, table: &[u16], f: &[u16], out: &mut [u16]) -> u8 {
+    let answer = verdict(n, t, Some(table), f, out.len());
+    if answer == 0 {
+        D::write(t, table.iter().map(|&x| u32::from(x)), f, out);
+    }
+    answer
+}
+
+pub fn deal(n: u8, t: u8, f: &[u16], out: &mut [u16]) -> u8 {
+    dealt::<Proved>(n, t, f, out)
+}
+
+pub fn deal_with(n: u8, t: u8, table: &[u16], f: &[u16], out: &mut [u16]) -> u8 {
+    dealt_with::<Proved>(n, t, table, f, out)
+}
+
+pub fn deal_by_width(n: u8, t: u8, f: &[u16], out: &mut [u16]) -> u8 {
+    dealt::<ByWidth>(n, t, f, out)
+}
+
+pub fn deal_by_width_with(n: u8, t: u8, table: &[u16], f: &[u16], out: &mut [u16]) -> u8 {
+    dealt_with::<ByWidth>(n, t, table, f, out)
+}
+
 /// The algorithm of the proved desk: each row by Horner's rule on its coefficients, each column by Horner's rule on
 /// whole lists.
-pub fn deal(n: u8, t: u8, f: &[u16], out: &mut [u16]) -> u8 {
-    let answer = verdict(n, t, f, out.len());
-    if answer != 0 {
-        return answer;
-    }
-    let width = usize::from(t) + 1;
-    for (stretch, i) in out.chunks_exact_mut(2 * width).zip(1u32..) {
-        let (row, column) = stretch.split_at_mut(width);
-        for (place, part) in row.iter_mut().zip(f.chunks_exact(width)) {
-            *place = value(part, i) as u16;
-        }
-        let (rest, top) = f.split_at(f.len() - width);
-        column.copy_from_slice(top);
-        for part in rest.chunks_exact(width).rev() {
-            for (place, &c) in column.iter_mut().zip(part) {
-                *place = mul_add(i, u32::from(*place), u32::from(c)) as u16;
+struct Proved;
+
+impl Desk for Proved {
+    #[inline(always)]
+    fn write(t: u8, points: impl Iterator<Item = u32>, f: &[u16], out: &mut [u16]) {
+        let width = usize::from(t) + 1;
+        for (stretch, x) in out.chunks_exact_mut(2 * width).zip(points) {
+            let (row, column) = stretch.split_at_mut(width);
+            for (place, part) in row.iter_mut().zip(f.chunks_exact(width)) {
+                *place = value(part, x) as u16;
+            }
+            let (rest, top) = f.split_at(f.len() - width);
+            column.copy_from_slice(top);
+            for part in rest.chunks_exact(width).rev() {
+                for (place, &c) in column.iter_mut().zip(part) {
+                    *place = mul_add(x, u32::from(*place), u32::from(c)) as u16;
+                }
             }
         }
     }
-    0
 }
 
 /// The same with the width known to the compiler, which then unrolls every loop.
-pub fn deal_by_width(n: u8, t: u8, f: &[u16], out: &mut [u16]) -> u8 {
-    let answer = verdict(n, t, f, out.len());
-    if answer != 0 {
-        return answer;
+struct ByWidth;
+
+impl Desk for ByWidth {
+    #[inline(always)]
+    fn write(t: u8, points: impl Iterator<Item = u32>, f: &[u16], out: &mut [u16]) {
+        match t {
+            1 => of_width::<2>(points, f, out),
+            2 => of_width::<3>(points, f, out),
+            _ => of_width::<4>(points, f, out),
+        }
     }
-    match t {
-        1 => of_width::<2>(f, out),
-        2 => of_width::<3>(f, out),
-        _ => of_width::<4>(f, out),
-    }
-    0
 }
 
-fn of_width<const W: usize>(f: &[u16], out: &mut [u16]) {
+#[inline(always)]
+fn of_width<const W: usize>(points: impl Iterator<Item = u32>, f: &[u16], out: &mut [u16]) {
     let mut square = [[0u32; W]; W];
     for (row, part) in square.iter_mut().zip(f.chunks_exact(W)) {
         for (place, &c) in row.iter_mut().zip(part) {
             *place = u32::from(c);
         }
     }
-    for (stretch, i) in out.chunks_exact_mut(2 * W).zip(1u32..) {
+    for (stretch, x) in out.chunks_exact_mut(2 * W).zip(points) {
         for u in 0..W {
-            stretch[u] = square[u].iter().rev().fold(0, |v, &c| mul_add(i, v, c)) as u16;
+            stretch[u] = square[u].iter().rev().fold(0, |v, &c| mul_add(x, v, c)) as u16;
         }
         for v in 0..W {
-            stretch[W + v] = square.iter().rev().fold(0, |x, row| mul_add(i, x, row[v])) as u16;
+            stretch[W + v] = square.iter().rev().fold(0, |w, row| mul_add(x, w, row[v])) as u16;
         }
     }
 }

@@ -41,6 +41,27 @@ pub fn inverse(a: u32) -> u32 {
     t
 }
 
+/// The same in fewer turns: each puts what the prime is above or below the nearest multiple of d in the place of d. The
+/// prime is 1 above a multiple of each number up to 16 but 11: these need no turn.
+#[inline]
+pub fn inverse_by_nearest(a: u32) -> u32 {
+    if a <= 1 {
+        return a;
+    }
+    if P % a == 1 {
+        return P - P / a;
+    }
+    let (mut d, mut t) = (a, 1);
+    while 1 < d {
+        let (q, above) = (P / d, P % d);
+        let below = d - above;
+        let (by, next) = if below < above { (q + 1, below) } else { (P - q, above) };
+        t = mul(t, by);
+        d = next;
+    }
+    t
+}
+
 /// The value at x of residues, by Horner's rule from the top one on.
 #[inline(always)]
 pub fn value(f: &[u16], x: u32) -> u32 {

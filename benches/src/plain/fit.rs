@@ -48,15 +48,10 @@ pub fn interpolate(taken: &Taken) -> [u16; 4] {
     multiplied_out(xs, ys, count)
 }
 
-/// The same for four points of residues, one step after the other.
+/// Newton's form of four points, multiplied out one step after the other.
 #[inline(always)]
-pub fn cubic_through(xs: [u32; 4], ys: [u32; 4]) -> [u16; 4] {
+pub fn cubic([x0, x1, x2, _]: [u32; 4], [a, b, c, d]: [u32; 4]) -> [u16; 4] {
     let less = |y, x, c| mul_add(P - x, c, y);
-    let [x0, x1, x2, x3] = xs;
-    let a = ys[0];
-    let b = slope(x0, a, x1, ys[1]);
-    let c = slope(x1, b, x2, slope(x0, a, x2, ys[2]));
-    let d = slope(x2, c, x3, slope(x1, b, x3, slope(x0, a, x3, ys[3])));
     let c = less(c, x2, d);
     let b = less(b, x1, c);
     let c = less(c, x1, d);
@@ -137,15 +132,4 @@ pub fn search(
 #[inline]
 pub fn surplus(need: usize, ys: &[u16]) -> usize {
     ys.iter().filter(|&&y| is_sent(y)).count().saturating_sub(need)
-}
-
-/// Whether the points are distinct residues: in one pass where they rise; elsewhere without a way out half way, so that
-/// many comparisons go at a time.
-pub fn distinct_residues(xs: &[u16]) -> bool {
-    let is_residue = |&x: &u16| u32::from(x) < P;
-    if xs.windows(2).all(|pair| pair[0] < pair[1]) {
-        return xs.last().map_or(true, is_residue);
-    }
-    let again = |i: usize| xs[..i].iter().fold(false, |again, &x| again | (x == xs[i]));
-    (0..xs.len()).all(|i| !again(i)) && xs.iter().all(is_residue)
 }

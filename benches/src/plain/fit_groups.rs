@@ -2,7 +2,8 @@
 //! and one fewer may be wrong among the rest. Where the rest gets short, its choices are tried as in the first
 //! algorithm. A cubic with three wrong points among fewer than 16 is looked for by pairs of points.
 
-use super::fit::{cubic_through, enough, interpolate, is_sent, search, surplus, Taken};
+use super::differences_now;
+use super::fit::{cubic, enough, interpolate, is_sent, search, surplus, Taken};
 
 pub const NAME: &str = "groups of t + 1, or pairs";
 
@@ -10,6 +11,18 @@ pub const NAME: &str = "groups of t + 1, or pairs";
 const CHOICES: [(usize, usize); 9] = [(4, 6), (0, 4), (0, 6), (2, 4), (2, 6), (0, 8), (2, 8), (4, 8), (6, 8)];
 
 pub fn fit(t: usize, need: usize, xs: &[u16], ys: &[u16]) -> Option<[u16; 4]> {
+    fit_by(differences_now::differences, t, need, xs, ys)
+}
+
+/// With Newton's coefficients of four points taken so.
+#[inline(always)]
+pub fn fit_by(
+    differences: impl Fn([u32; 4], [u32; 4]) -> [u32; 4],
+    t: usize,
+    need: usize,
+    xs: &[u16],
+    ys: &[u16],
+) -> Option<[u16; 4]> {
     if 3 < t || xs.len() != ys.len() {
         return None;
     }
@@ -30,7 +43,7 @@ pub fn fit(t: usize, need: usize, xs: &[u16], ys: &[u16]) -> Option<[u16; 4]> {
         return search(xs, ys, &test, 0, t + 1, spare, Taken::default());
     }
     if t == 3 && spare == 3 && spare + need < 16 {
-        return pairs(need, xs, ys);
+        return pairs(differences, need, xs, ys);
     }
     let (mut i, mut left, mut wrong) = (0, spare + need, spare);
     while 2 * t + 1 + wrong <= left {
@@ -46,7 +59,12 @@ pub fn fit(t: usize, need: usize, xs: &[u16], ys: &[u16]) -> Option<[u16; 4]> {
 }
 
 /// Of five pairs of points two have no wrong one, where three of the ten are wrong.
-fn pairs(need: usize, xs: &[u16], ys: &[u16]) -> Option<[u16; 4]> {
+fn pairs(
+    differences: impl Fn([u32; 4], [u32; 4]) -> [u32; 4],
+    need: usize,
+    xs: &[u16],
+    ys: &[u16],
+) -> Option<[u16; 4]> {
     let mut ten = [(0, 0); 10];
     let sent = xs.iter().zip(ys).filter(|&(_, &y)| is_sent(y));
     for (place, (&x, &y)) in ten.iter_mut().zip(sent) {
@@ -54,7 +72,8 @@ fn pairs(need: usize, xs: &[u16], ys: &[u16]) -> Option<[u16; 4]> {
     }
     CHOICES.iter().find_map(|&(a, b)| {
         let four = [ten[a], ten[a + 1], ten[b], ten[b + 1]];
-        let f = cubic_through(four.map(|(x, _)| u32::from(x)), four.map(|(_, y)| u32::from(y)));
+        let (xs4, ys4) = (four.map(|(x, _)| u32::from(x)), four.map(|(_, y)| u32::from(y)));
+        let f = cubic(xs4, differences(xs4, ys4));
         enough(&f, need, xs, ys).then_some(f)
     })
 }

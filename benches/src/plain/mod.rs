@@ -1,9 +1,11 @@
 //! Plain, unproved Rust of the proved library's algorithms, written for speed.
 //!
-//! The last two lines here are the one place that says which versions the library has now; the others are compared with
+//! The last lines here are the one place that says which versions the library has now; the others are compared with
 //! them, not timed.
 
 pub mod deal;
+pub mod differences_once;
+pub mod differences_slopes;
 pub mod field;
 pub mod fit;
 pub mod fit_groups;
@@ -15,8 +17,10 @@ pub mod happy_old;
 pub mod lamp;
 pub mod letters;
 pub mod record;
+pub mod tables;
 pub mod text;
 
 // The versions that the library has now.
+pub use differences_once as differences_now;
 pub use fit_groups as fit_now;
 pub use happy_new as happy_now;

@@ -3,6 +3,7 @@
 use super::lamp::{settle, Ways};
 use super::letters::Letters;
 use super::record::{numbers, read, Record};
+use super::tables::ONE_TO;
 
 /// Writes the text over the front of the buffer and answers its length.
 pub fn text<W: Ways>(bytes: &[u8], out: &mut [u8; 512]) -> usize {
@@ -49,16 +50,13 @@ fn put_verdict(accepted: bool, set: u16, n: usize, letters: &mut Letters) {
     letters.put(b"\n");
 }
 
-/// The points of sixteen lamps.
-pub const POINTS: [u16; 16] = [1, 2, 3, 4, 5, 6, 7, 8, 9, 10, 11, 12, 13, 14, 15, 16];
-
 fn put_last<W: Ways>(record: &Record, accepted: bool, letters: &mut Letters) {
     if !accepted {
         return letters.put_line(b"opened refused ", 8);
     }
     let (n, t) = (usize::from(record.n), usize::from(record.t));
     let shares: [u16; 16] = numbers(record.shares);
-    match W::fit(t, n - t, &POINTS[..n], &shares[..n]) {
+    match W::fit(t, n - t, &ONE_TO[..n], &shares[..n]) {
         Some(f) => letters.put_line(b"opened ", f[0]),
         None => letters.put_line(b"opened refused ", 10),
     }
