@@ -94,7 +94,7 @@ impl Desk for Proved {
     }
 }
 
-/// The same with the width known to the compiler, which then unrolls every loop.
+/// The same with the width known to the compiler, which then unrolls every loop, and one reduction for each number.
 struct ByWidth;
 
 impl Desk for ByWidth {
@@ -110,18 +110,20 @@ impl Desk for ByWidth {
 
 #[inline(always)]
 fn of_width<const W: usize>(points: impl Iterator<Item = u32>, f: &[u16], out: &mut [u16]) {
-    let mut square = [[0u32; W]; W];
+    let mut square = [[0u64; W]; W];
     for (row, part) in square.iter_mut().zip(f.chunks_exact(W)) {
         for (place, &c) in row.iter_mut().zip(part) {
-            *place = u32::from(c);
+            *place = u64::from(c);
         }
     }
+    let reduced = |sum: u64| (sum % u64::from(P)) as u16;
     for (stretch, x) in out.chunks_exact_mut(2 * W).zip(points) {
+        let x = u64::from(x);
         for u in 0..W {
-            stretch[u] = square[u].iter().rev().fold(0, |v, &c| mul_add(x, v, c)) as u16;
+            stretch[u] = reduced(square[u].iter().rev().fold(0, |sum, &c| sum * x + c));
         }
         for v in 0..W {
-            stretch[W + v] = square.iter().rev().fold(0, |w, row| mul_add(x, w, row[v])) as u16;
+            stretch[W + v] = reduced(square.iter().rev().fold(0, |sum, row| sum * x + row[v]));
         }
     }
 }

@@ -62,11 +62,20 @@ pub fn inverse_by_nearest(a: u32) -> u32 {
     t
 }
 
-/// The value at x of residues, by Horner's rule from the top one on.
+/// The value at x of at most four coefficients, which rows and columns have: Horner's rule in 64 bits, and one reduction.
 #[inline(always)]
 pub fn value(f: &[u16], x: u32) -> u32 {
-    let Some((&top, rest)) = f.split_last() else {
-        return 0;
-    };
-    rest.iter().rev().fold(u32::from(top), |v, &c| mul_add(x, v, u32::from(c)))
+    match *f {
+        [a, b] => cubic_value([a, b, 0, 0], x),
+        [a, b, c] => cubic_value([a, b, c, 0], x),
+        [a, b, c, d] => cubic_value([a, b, c, d], x),
+        _ => f.iter().rev().fold(0, |v, &c| mul_add(x, v, u32::from(c))),
+    }
+}
+
+/// The products of four numbers of 16 bits, and what is added to them, fit 64.
+#[inline(always)]
+fn cubic_value(f: [u16; 4], x: u32) -> u32 {
+    let ([a, b, c, d], x) = (f.map(u64::from), u64::from(x));
+    ((((d * x + c) * x + b) * x + a) % u64::from(P)) as u32
 }
