@@ -110,7 +110,7 @@ pub fn deal(n: u8, t: u8, list: &[u16], out: &mut [u16]) -> Dealing
     match admitted {
         Admission::Fail(why) => Dealing::Refused(why),
         Admission::Pass => {
-            let table = tables::one_to(n);
+            let table = tables::sixteen();
             write_deals(n, &table[..n as usize], list, t as usize + 1, out);
             Dealing::Written
         }

@@ -177,7 +177,7 @@ pub extern "C" fn doumbaht_open(n: u8, t: u8, shares: &[u16], opened: &mut u16) 
     if 16 < n {
         return refusal_number(Refusal::WrongSize);
     }
-    opened_at(n, t, tables::one_to(n), shares, opened)
+    opened_at(n, t, tables::sixteen(), shares, opened)
 }
 
 // What an opening is refused for with a table.

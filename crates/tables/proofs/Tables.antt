@@ -3,20 +3,23 @@
 --   points-of, point-at                     the table is the list of its parties' points
 --   point-not-zero, point-once              no party's point is 0, and no two parties have one
 --   length-one-to, one-to-table, one-to-point   1 to n has n numbers, is a table, and i is party i's point in it
+--   sixteen-front, one-to-padded            1 to n as the front of 1 to 16, and with zeros behind it
 --   kept-front, kept-whole                  the array that holds a table
 --   kept-many, kept-not                     zeros, where there are more than sixteen parties or the length is another
 use mathlib.Core.Path.{_≡_, refl, sym, ap, ap₂, _∙_}
-use mathlib.Core.Bool.{true, false, not, _&&_, and-eq-true-iff}
+use mathlib.Core.Bool.{true, false, cond, not, _&&_, and-eq-true-iff}
 use mathlib.Core.List.{List, [], _∷_, map}
-use Prim.Native.Nat.{ℕ, suc, _-_, _<_, _≤_}
+use Prim.Native.Nat.{ℕ, suc, _+_, _-_, _<_, _≤_}
+use native.Mathlib.Decide.{decLt}
 use native.Mathlib.Omega.{arith}
 use lib.Dec.{ltb, eqb}
-use lib.ListN.{length, getD, take, replicate}
-use lib.Seq.{ext-getD, take-at, take-all}
-use borrow.Author.Tests.{lt-ltb, ltb-true, ne-eqb, eqb-false, eqb-true, eq-eqb, le-leb, lt-leb, not-true}
+use lib.ListN.{length, getD, take, replicate, length-append, length-replicate, List·getD-eq-default}
+use lib.Seq.{ext-getD, take-at, take-all, getD-take, length-take-le}
+use borrow.Author.Tests.{lt-ltb, le-ltb, ltb-true, ne-eqb, eqb-false, eqb-true, eq-eqb, le-leb, lt-leb, not-true}
 use Rattle.lists.specs.All.{All}
 use Rattle.lists.specs.Tabulate.{tabulate, pad}
 use Rattle.lists.proofs.All.{all-getD, distinct-getD}
+use Rattle.lists.proofs.Padded.{getD-zeros}
 use Rattle.lists.proofs.Tabulate.{length-tabulate, getD-tabulate, all-tabulate, map-tabulate, distinct-tabulate}
 use Rattle.answers.specs.declared.Admission.the-variants.{Pass}
 use Rattle.answers.specs.Refusals.{lowest}
@@ -131,7 +134,36 @@ one-to-point n i party =
     let same : suc (i - 1) ≡ i = omega arith in
     getD-tabulate suc n (i - 1) 0 (omega arith) ∙ same
 
+-- The first n of 1 to 16.
+pub sixteen-front : (n : ℕ) → n ≤ 16 → take n (oneTo 16) ≡ oneTo n
+sixteen-front n h =
+    let long : length (take n (oneTo 16)) ≡ n = length-take-le n (oneTo 16) (omega (arith, length-one-to 16)) in
+    ext-getD 0 (take n (oneTo 16)) (oneTo n) (long ∙ sym (length-one-to n)) (λ k b.
+    getD-take n (oneTo 16) k 0 (omega arith)
+    ∙ getD-tabulate suc 16 k 0 (omega arith)
+    ∙ sym (getD-tabulate suc n k 0 (omega arith)))
+
 -- ---- a table in an array
+-- 1 to n with zeros behind it, place by place.
+abbrev pub oneToAt : ℕ → ℕ → ℕ
+oneToAt n k = cond (ltb k n) (suc k) 0
+
+pub one-to-padded : (n : ℕ) → n ≤ 16 → tabulate (oneToAt n) 16 ≡ pad 16 (oneTo n)
+one-to-padded n h =
+    let long : length (tabulate (oneToAt n) 16) ≡ 16 = length-tabulate (oneToAt n) 16 in
+    let wide : length (pad 16 (oneTo n)) ≡ 16 =
+    length-append (oneTo n) (replicate (16 - length (oneTo n)) 0)
+    ∙ ap (λ m. length (oneTo n) + m) (length-replicate (16 - length (oneTo n)) 0) ∙ omega (arith, length-one-to n) in
+    ext-getD 0 (tabulate (oneToAt n) 16) (pad 16 (oneTo n)) (long ∙ sym wide) (λ k b.
+    getD-tabulate (oneToAt n) 16 k 0 (omega arith)
+    ∙ elim (decLt k n) [
+      | yes l ↦ rw (lt-ltb k n l) (sym (getD-tabulate suc n k 0 l))
+      | no l ↦
+          let far : length (oneTo n) ≤ k = omega (arith, length-one-to n) in
+          rw (le-ltb k n (omega arith)) (sym (List·getD-eq-default (oneTo n) 0 {n = k} far))
+    ]
+    ∙ sym (getD-zeros (oneTo n) (16 - length (oneTo n)) k))
+
 pub kept-front : (n : ℕ) (T : List ℕ) → n ≤ 16 → length T ≡ n → take n (inArray n T) ≡ T
 kept-front n T h l = rw (le-leb n 16 h, eq-eqb (length T) n l) (take-at T (replicate (16 - length T) 0) n l)
 

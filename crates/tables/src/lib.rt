@@ -1,6 +1,8 @@
 // The parties' points: the table that is loaded, or 1 to n.
 ghost use mathlib.Core.Path.{_≡_};
-ghost use Prim.Native.Nat.{_≤_};
+ghost use mathlib.Core.Bool.{cond};
+ghost use Prim.Native.Nat.{suc, _≤_, _<_};
+ghost use lib.Dec.{ltb};
 ghost use lib.ListN.{length, getD};
 ghost use Rattle.lists.specs.Tabulate.{pad};
 ghost use Rattle.field.specs.Modulus.{modulus};
@@ -116,7 +118,26 @@ pub fn in_array(n: u8, table: &[u16]) -> [u16; 16]
     padded(table)
 }
 
-// The table 1 to n as it is kept; zeros for more than sixteen parties.
+// 1 to 16: where a table is lent its first n are 1 to n.
+pub fn sixteen() -> [u16; 16]
+    ensures { λ r. ⌜ r ≡ oneTo 16 ⌝ }
+{
+    [1, 2, 3, 4, 5, 6, 7, 8, 9, 10, 11, 12, 13, 14, 15, 16]
+}
+
+// The number at place k of the table 1 to n, and 0 behind it.
+fn number_or_zero(n: u8, k: u8) -> u16
+    requires { ⌜ k < 16 ⌝ }
+    ensures { λ r. ⌜ r ≡ cond (ltb k n) (suc k) 0 ⌝ }
+{
+    if k < n {
+        return k as u16 + 1;
+    }
+    0
+}
+
+// The table 1 to n as it is kept; zeros for more than sixteen parties. All sixteen places are written: a loop of known length is done at
+// once, and not number by number, for which a copy of the array would wait.
 pub fn one_to(n: u8) -> [u16; 16]
     ensures { λ r. ⌜ r ≡ inArray n (oneTo n) ⌝ }
 {
@@ -124,8 +145,8 @@ pub fn one_to(n: u8) -> [u16; 16]
     if 16 < n {
         return array;
     }
-    for k in 0..n {
-        array[k as usize] = k as u16 + 1;
+    for k in 0..16 {
+        array[k as usize] = number_or_zero(n, k);
     }
     array
 }

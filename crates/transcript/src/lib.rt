@@ -110,7 +110,7 @@ fn fitted(bytes: &[u8], n: u8, t: u8) -> Fitted
 {
     let count = n as usize;
     let list = part(bytes, 3, 0, count);
-    recovery::published(n, t, tables::one_to(n), &list[..count])
+    recovery::published(n, t, tables::sixteen(), &list[..count])
 }
 
 // Puts what the published shares open, or the refusal after a rejected dealer.

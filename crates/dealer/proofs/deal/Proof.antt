@@ -8,7 +8,7 @@ use borrow.Author.Needs.{needs}
 use Rattle.field.specs.Modulus.{modulus}
 use Rattle.parties.proofs.Parties.{sizes-facts}
 use Rattle.tables.specs.Tables.{oneTo}
-use Rattle.tables.proofs.Tables.{length-one-to, kept-front}
+use Rattle.tables.proofs.Tables.{sixteen-front}
 use Rattle.dealer.specs.Desk.{deals}
 use Rattle.dealer.specs.declared.Dealing.the-variants.{Written}
 use Rattle.dealer.proofs.Desk.{Deals, desk-passed, desk-by-pass, desk-by-fail}
@@ -32,8 +32,8 @@ dealt c =
     let a = v .before .before .before .args in
     desk-passed modulus (a .n) (a .t) (oneTo (a .n)) (a .list .now) _ (sym (v .admission .ensures) ∙ c .enum-told .given .1)
 
-one-to-requires : tie.Need-one-to-requires
-one-to-requires c κs = search needs
+sixteen-requires : tie.Need-sixteen-requires
+sixteen-requires c κs = search needs
 
 array-share-prefix-table : tie.Need-array-share-prefix-table
 array-share-prefix-table c =
@@ -74,9 +74,9 @@ returns-2 c =
     let v = told .before .before in
     let a = v .before .before .before .args in
     let d = dealt told in
-    let table = c .before .before .before .before .before .one-to .ensures in
+    let table = c .before .before .before .before .before .sixteen .ensures in
     let points : take (a .n) _ ≡ oneTo (a .n) =
-    ap (take (a .n)) table ∙ kept-front (a .n) (oneTo (a .n)) (sizes-facts (a .n) (a .t) (d .size) .3) (length-one-to (a .n)) in
+    ap (take (a .n)) table ∙ sixteen-front (a .n) (sizes-facts (a .n) (a .t) (d .size) .3) in
     ap (λ l. (l, Written))
     (c .before .before .write-deals .ensures ∙ ap₂ (λ w T. deals modulus w T (a .list .now) (a .n)) (add-one (a .t)) points)
     ∙ desk-by-pass modulus _ _ _ _ _ (sym (v .admission .ensures) ∙ told .enum-told .given .1)
@@ -88,7 +88,7 @@ deal-spec =
     admission-requires
     enum-known-admitted
     enum-told
-    one-to-requires
+    sixteen-requires
     array-share-prefix-table
     slice-aggregate-write-deals
     add-write-deals

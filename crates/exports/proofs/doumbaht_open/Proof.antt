@@ -5,7 +5,7 @@ use Prim.Native.Nat.{ℕ}
 use lib.ListN.{length, take}
 use Rattle.field.specs.Modulus.{modulus}
 use Rattle.tables.specs.Tables.{oneTo, IsTable}
-use Rattle.tables.proofs.Tables.{length-one-to, one-to-table, kept-front}
+use Rattle.tables.proofs.Tables.{one-to-table, sixteen-front}
 use Rattle.recovery.specs.Recovery.{openingOf, publishedTests}
 use Rattle.answers.specs.Refusals.{lowest}
 use Rattle.exports.specs.Exports.{openedIf}
@@ -15,15 +15,15 @@ use Rattle.exports.proofs.doumbaht_open.Statement.{statement}
 use Rattle.exports.proofs.doumbaht_open.Tie as tie
 
 -- The points are 1 to n.
-abbrev start : tie.After-one-to → tie.Start
+abbrev start : tie.After-sixteen → tie.Start
 start o = o .before .before .before
 
-points : (o : tie.After-one-to) → let n = start o .args .n in take n (o .one-to .result) ≡ oneTo n
+points : (o : tie.After-sixteen) → let n = start o .args .n in take n (o .sixteen .result) ≡ oneTo n
 points o =
     let n = start o .args .n in
-    ap (take n) (o .one-to .ensures) ∙ kept-front n (oneTo n) (omega arith) (length-one-to n)
+    ap (take n) (o .sixteen .ensures) ∙ sixteen-front n (omega arith)
 
-table : (o : tie.After-one-to) → let n = start o .args .n in IsTable modulus n (oneTo n)
+table : (o : tie.After-sixteen) → let n = start o .args .n in IsTable modulus n (oneTo n)
 table o = one-to-table modulus (start o .args .n) (omega arith)
 
 refusal-number-requires : tie.Need-refusal-number-requires
@@ -35,8 +35,8 @@ returns c =
     ap (λ (k : ℕ). (a .opened .now, k)) (c .refusal-number .ensures)
     ∙ open-many (a .n) (a .t) (oneTo (a .n)) (a .shares .now) (a .opened .now) (c .before .if1 .taken)
 
-one-to-requires : tie.Need-one-to-requires
-one-to-requires c κs = search needs
+sixteen-requires : tie.Need-sixteen-requires
+sixteen-requires c κs = search needs
 
 opened-at-requires : tie.Need-opened-at-requires
 opened-at-requires c κs = let o = c .before in subst (IsTable modulus (start o .args .n)) (sym (points o)) (table o)
@@ -56,6 +56,6 @@ doumbaht-open-spec =
     (tie.spec
     refusal-number-requires
     returns
-    one-to-requires
+    sixteen-requires
     opened-at-requires
     returns-2)

@@ -6,7 +6,7 @@ use lib.ListN.{length, take}
 use lib.Seq.{length-take-le}
 use Rattle.field.specs.Modulus.{modulus}
 use Rattle.tables.specs.Tables.{oneTo, IsTable}
-use Rattle.tables.proofs.Tables.{length-one-to, one-to-table, kept-front}
+use Rattle.tables.proofs.Tables.{one-to-table, sixteen-front}
 use Rattle.recovery.specs.Recovery.{publishedIn}
 use Rattle.recovery.proofs.Fitting.{published-admitted}
 use Rattle.record.specs.Record.{numbersOf}
@@ -22,16 +22,16 @@ facts s =
     (fine-facts (a .bytes .now) (a .n) (a .t) (s .pre) .3, shares-count (a .bytes .now) (a .n) (a .t) (s .pre))
 
 -- The points are 1 to n.
-points : (o : tie.After-one-to) → let a = o .before .before .before .args in take (a .n) (o .one-to .result) ≡ oneTo (a .n)
+points : (o : tie.After-sixteen) → let a = o .before .before .before .args in take (a .n) (o .sixteen .result) ≡ oneTo (a .n)
 points o =
     let s = o .before .before .before in
-    ap (take (s .args .n)) (o .one-to .ensures) ∙ kept-front (s .args .n) (oneTo (s .args .n)) (facts s .0) (length-one-to (s .args .n))
+    ap (take (s .args .n)) (o .sixteen .ensures) ∙ sixteen-front (s .args .n) (facts s .0)
 
 part-requires : tie.Need-part-requires
 part-requires c κs = let f = facts (c .before) in (omega arith, omega arith, omega arith)
 
-one-to-requires : tie.Need-one-to-requires
-one-to-requires c κs = search needs
+sixteen-requires : tie.Need-sixteen-requires
+sixteen-requires c κs = search needs
 
 array-share-prefix-list : tie.Need-array-share-prefix-list
 array-share-prefix-list c = omega (arith, facts (c .before .before .before))
@@ -59,4 +59,4 @@ returns c =
 pub fitted-spec : {M : Type 1} → statement M
 fitted-spec =
     tie.close
-    (tie.spec part-requires one-to-requires array-share-prefix-list slice-aggregate-published published-requires returns)
+    (tie.spec part-requires sixteen-requires array-share-prefix-list slice-aggregate-published published-requires returns)
