@@ -9,7 +9,7 @@
  * that of `opened` too, is valid for that many numbers, aligned, and not null even where the count is 0; what is
  * written overlaps nothing else of the same call, and nothing else changes a list while the call runs.
  *
- * A `uint8_t` answer is DOUMBAHT_DONE, or the number of the refusal: the lowest that applies, but that 14 comes right
+ * A `uint8_t` answer is DOUMBAHT_DONE, or the number of the refusal: the lowest that applies, except that 14 comes right
  * after 3. A list or a number lent for writing is written where the answer is DOUMBAHT_DONE, and holds what it held
  * otherwise.
  */

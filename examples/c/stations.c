@@ -12,6 +12,9 @@ enum { N = 5, T = 1 };
 
 static const uint16_t stations[N] = {40961, 7, 65520, 3, 21000};
 static const uint16_t rising[N] = {3, 7, 21000, 40961, 65520};
+/* Numbers in a row, and the points of lamps without a table. */
+static const uint16_t in_a_row[N] = {101, 102, 103, 104, 105};
+static const uint16_t one_to_n[N] = {1, 2, 3, 4, 5};
 
 /* F = 7 + 3X + 2Y + 4XY. At x the row is 7 + 2x, 3 + 4x, and the column 7 + 3x, 2 + 4x, less multiples of the prime. */
 static const uint16_t f[DOUMBAHT_COEFFICIENTS(T)] = {7, 2, 3, 4};
@@ -108,6 +111,9 @@ int main(void)
     deal(rising, others);
     open_shares(rising, others, 999);
     open_shares(rising, shares, shares[2]);
+    /* That is not always refused: nothing shows for which table a share was made, and another number may be opened. */
+    deal(in_a_row, others);
+    open_shares(one_to_n, others, others[2]);
     bad_tables();
     if (fflush(stdout) != 0 || ferror(stdout)) {
         perror("standard output");

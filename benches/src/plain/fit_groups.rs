@@ -26,8 +26,14 @@ pub fn fit_by(
     if 3 < t || xs.len() != ys.len() {
         return None;
     }
+    // Four points have their own way, as in the library.
+    let differences = &differences;
     let test = |taken: &Taken| {
-        let f = interpolate(taken);
+        let f = if taken.count == 4 {
+            cubic(taken.xs, differences(taken.xs, taken.ys))
+        } else {
+            interpolate(taken)
+        };
         enough(&f, need, xs, ys).then_some(f)
     };
     let next = |i| test(&taken_from(i, t + 1, xs, ys)?);

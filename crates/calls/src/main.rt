@@ -1,8 +1,9 @@
-// Calls one lamp after another as standard input says, and writes a line for each call: what it answered, and what the lamp holds.
+// Calls one lamp after another as standard input says, and writes a line for each call: what it answered, and behind `;` what the lamp
+// holds: its stage (0 waiting, 1 dealt, 2 reported, 3 holding, 4 closed), share, happy set and report. The desk's line has the deals.
 // A call is a byte for its kind, a count, and as many numbers as it counts, all but the kind in 16 bits, high byte first:
 // 0 makes a lamp for n, t and its number; 1 takes a deal, 2 says the pair for the lamp named, 3 hears pairs, 4 settles, 5 opens;
 // 6 is the desk's: n, t, the room for the deals, and the dealer's list. 7 makes a lamp with a table, which stands behind the number; 8 is
-// the desk with a table: behind the room stand how many numbers it has, the table, and the dealer's list. An unknown kind, a count that
+// the desk with a table: behind the room stand how many numbers the table has, these, and the dealer's list. An unknown kind, a count that
 // its kind does not take, more than 200 numbers or as much room, and a call cut short end the input.
 ghost use Prim.Native.Nat.{_≤_};
 use lamp::Lamp;

@@ -80,7 +80,7 @@ fn stations() {
     let opened = settled.lamp.open(&[57369, 28, 999, 16, 63007]);
     line(b"open ", opened);
 
-    // A lamp that is given 7 twice is made, and refused at every call.
+    // Given 7 twice, the making answers 14; the lamp is given back all the same, and every call refuses it.
     let bad = Lamp::make_with(5, 1, 1, &[40961, 7, 65520, 7, 21000]);
     line(b"make ", bad);
 }

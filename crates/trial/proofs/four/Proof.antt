@@ -1,51 +1,43 @@
 -- `trial::four` meets its contract: the cubic through the four points, if it passes.
-use mathlib.Core.Path.{_∙_}
+use mathlib.Core.Path.{_≡_, refl, sym, _∙_}
 use native.Mathlib.Omega.{arith}
+use lib.ListN.{length}
+use Rattle.lists.proofs.InPlace.{drop-end}
 use Rattle.field.specs.Modulus.{modulus}
-use Rattle.trial.proofs.Arrays.{four-given}
+use Rattle.trial.proofs.Arrays.{four-taken}
 use borrow.Author.Needs.{needs}
 use Rattle.trial.proofs.four.Statement.{statement}
 use Rattle.trial.proofs.four.Tie as tie
 
-cubic-requires : tie.Need-cubic-requires
-cubic-requires c κs = search needs
+-- The arrays hold four numbers each.
+widths : (s : tie.Start) → (length (s .args .t4) ≡ 4) × (length (s .args .cy) ≡ 4)
+widths s = (omega arith, omega arith)
 
-array-read-enough : tie.Need-array-read-enough
-array-read-enough c = search needs
+slice-aggregate-test : tie.Need-slice-aggregate-test
+slice-aggregate-test c = search needs
 
-array-read-enough-2 : tie.Need-array-read-enough-2
-array-read-enough-2 c = search needs
+slice-aggregate-test-2 : tie.Need-slice-aggregate-test-2
+slice-aggregate-test-2 c = search needs
 
-array-read-enough-3 : tie.Need-array-read-enough-3
-array-read-enough-3 c = search needs
-
-array-read-enough-4 : tie.Need-array-read-enough-4
-array-read-enough-4 c = search needs
-
-enough-requires : tie.Need-enough-requires
-enough-requires c κs = search needs
+test-requires : tie.Need-test-requires
+test-requires c κs =
+    let s = c .before .before .before .before in
+    let l = widths s in
+    (s .pre .lengths, ((omega arith, l .0, l .1), drop-end (s .args .cy) 4 (omega (arith, l .1))))
 
 given-requires : tie.Need-given-requires
 given-requires c κs = search needs
 
 returns : tie.Need-returns
 returns c =
-    let counted = c .before in
-    let f = counted .before in
-    let s = f .before .before .before .args in
+    let tested = c .before .before in
+    let s = tested .before .before .before .before .before in
+    let l = widths s in
     c .given .ensures
-    ∙ four-given modulus (s .need) (s .xs .now) (s .ys .now) (s .cx) (s .cy) (f .cubic .result) (omega arith) (f .cubic .ensures) _
-    (counted .enough .ensures)
+    ∙ tested .test .ensures
+    ∙ sym (four-taken modulus (s .args .need) _ _ 4 (s .args .t4) (s .args .cy) refl (l .0) (l .1))
 
 pub four-spec : {M : Type 1} → statement M
 four-spec =
     tie.close
-    (tie.spec
-    cubic-requires
-    array-read-enough
-    array-read-enough-2
-    array-read-enough-3
-    array-read-enough-4
-    enough-requires
-    given-requires
-    returns)
+    (tie.spec slice-aggregate-test slice-aggregate-test-2 test-requires given-requires returns)
