@@ -74,6 +74,14 @@ fn enough(a: u16, b: u16, c: u16, d: u16, xs: &[u16], ys: &[u16], need: usize) -
     true
 }
 
+// The numbers of a list of four.
+fn all_four(list: &[u16]) -> [u16; 4]
+    requires { ⌜ length (now list) ≡ 4 ⌝ }
+    ensures { λ r. ⌜ r ≡ now (list .entry) ⌝ }
+{
+    [list[0], list[1], list[2], list[3]]
+}
+
 // Puts the cubic through four points in the place of their values, and says whether it agrees with enough of all points.
 // Nothing else calls `cubic`: a compiler writes a long function out where it has one caller, and calls it, which is slower, for two.
 fn test_four(xs: &[u16], ys: &[u16], need: usize, cx: &[u16], f: &mut [u16]) -> bool
@@ -82,7 +90,7 @@ fn test_four(xs: &[u16], ys: &[u16], need: usize, cx: &[u16], f: &mut [u16]) -> 
     ensures { λ r. ⌜ given r (now (f .exit)) ≡ resultOf (fittingThrough modulus need (now (xs .entry)) (now (ys .entry))
         (now (cx .entry)) (now (f .entry))) ⌝ }
 {
-    let g = interpolation::cubic([cx[0], cx[1], cx[2], cx[3]], [f[0], f[1], f[2], f[3]]);
+    let g = interpolation::cubic(all_four(cx), all_four(f));
     f[0] = g[0];
     f[1] = g[1];
     f[2] = g[2];
