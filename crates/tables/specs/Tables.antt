@@ -1,7 +1,7 @@
 -- The parties' points (docs/PROTOCOL.md, "Station numbers"): a table has one for each party, in party order.
 --   pointAt T i        party i's point
 --   oneTo n            1 to n: the table where none is loaded
---   IsTable p n T     T is a table of n parties: n residues, none 0, none twice; isTable p n T is the test for it
+--   IsTable p n T      T is a table of n parties: n residues, none 0, none twice; isTable p n T is the test for it
 --   tableTests p n T   what a table lent for n parties is looked at for, in the order of the refusals
 --   absent, distinctResidues   parts of that test
 --   inArray n T        the array that holds the table T loaded for n parties
