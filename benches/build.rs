@@ -1,7 +1,8 @@
-//! Links the proved library: the folder in DOUMBAHT_LIB, or target/staticlib of the repository.
+//! Links the proved library: the folder in DOUMBAHT_LIB, or target/staticlib of the repository. Where DOUMBAHT_OLD names a
+//! folder, also the older library in it, libold.a, whose names begin with `old_` (benches/ab).
 
 use std::env;
-use std::path::PathBuf;
+use std::path::{Path, PathBuf};
 
 fn main() {
     let folder = match env::var_os("DOUMBAHT_LIB") {
@@ -9,7 +10,17 @@ fn main() {
         None => PathBuf::from(env::var_os("CARGO_MANIFEST_DIR").unwrap()).join("../target/staticlib"),
     };
     println!("cargo:rerun-if-env-changed=DOUMBAHT_LIB");
-    println!("cargo:rerun-if-changed={}", folder.join("libexports.a").display());
+    println!("cargo:rerun-if-env-changed=DOUMBAHT_OLD");
+    println!("cargo:rustc-check-cfg=cfg(old)");
+    link(&folder, "exports");
+    if let Some(folder) = env::var_os("DOUMBAHT_OLD") {
+        println!("cargo:rustc-cfg=old");
+        link(Path::new(&folder), "old");
+    }
+}
+
+fn link(folder: &Path, name: &str) {
+    println!("cargo:rerun-if-changed={}", folder.join(format!("lib{name}.a")).display());
     println!("cargo:rustc-link-search=native={}", folder.display());
-    println!("cargo:rustc-link-lib=static=exports");
+    println!("cargo:rustc-link-lib=static={name}");
 }

@@ -1,5 +1,6 @@
 /*
- * Doumbaht: verifiable secret sharing with t faulty among n lamps, modulo 65,521, for C and what speaks C.
+ * Doumbaht: verifiable secret sharing with t faulty among n lamps, modulo 65,521 or 2,147,483,647, for C and what
+ * speaks C.
  *
  * The functions are those of crates/exports, built by `rt staticlib exports` into target/staticlib/libexports.a.
  * Each is proved to answer what its contract there says, for every argument, and to return. What the words mean
@@ -8,6 +9,10 @@
  * A list is a pointer and the count of its numbers. What no proof can see is the caller's to keep: every pointer,
  * that of `opened` too, is valid for that many numbers, aligned, and not null even where the count is 0; what is
  * written overlaps nothing else of the same call, and nothing else changes a list while the call runs.
+ *
+ * A harbour uses numbers of 16 bits modulo MODULUS, or, wide, numbers of 32 bits modulo WIDE_MODULUS. The functions for
+ * the latter end in `_wide` or have it before `_with`: each answers and refuses as the one without it, of the other prime.
+ * Deals, points and published shares of one are nothing to the other, and do not say which they are.
  *
  * A `uint8_t` answer is DOUMBAHT_DONE, or the number of the refusal: the lowest that applies, except that 14 comes right
  * after 3. A list or a number lent for writing is written where the answer is DOUMBAHT_DONE, and holds what it held
@@ -21,7 +26,7 @@
 
 /* The version of this header and of the library built from the same tree; as one number, 10203 is 1.2.3. */
 #define DOUMBAHT_VERSION_MAJOR 0
-#define DOUMBAHT_VERSION_MINOR 3
+#define DOUMBAHT_VERSION_MINOR 4
 #define DOUMBAHT_VERSION_PATCH 0
 #define DOUMBAHT_VERSION (10000 * DOUMBAHT_VERSION_MAJOR + 100 * DOUMBAHT_VERSION_MINOR + DOUMBAHT_VERSION_PATCH)
 
@@ -29,6 +34,9 @@
 #define DOUMBAHT_MODULUS 65521
 /* What a sender writes for "not sent". In every message but a report each number from the prime up means it. */
 #define DOUMBAHT_NOT_SENT 65535
+/* The same of a wide harbour. */
+#define DOUMBAHT_WIDE_MODULUS UINT32_C(2147483647)
+#define DOUMBAHT_WIDE_NOT_SENT UINT32_C(4294967295)
 
 /* The sizes: t from T_LEAST to T_MOST, n from N_LEAST(t) to N_MOST. */
 #define DOUMBAHT_T_LEAST 1
@@ -52,8 +60,9 @@
  * table: its numbers are for the points 1 to n, and so is its text.
  */
 
-/* The bytes of the longest record, and those that are enough for any text. */
+/* The bytes of the longest record, narrow and wide, and those that are enough for any text. */
 #define DOUMBAHT_RECORD_MOST 1362
+#define DOUMBAHT_WIDE_RECORD_MOST 2674
 #define DOUMBAHT_TEXT 512
 
 /* Whether lamp i, from 1, is in a set. */
@@ -72,7 +81,8 @@ enum doumbaht_refusal {
     DOUMBAHT_DEALER_REJECTED = 8,  /* no n - t lamps all agree */
     DOUMBAHT_NO_COLUMN = 9,        /* no polynomial fits the points of a repair */
     DOUMBAHT_NO_OPENING = 10,      /* no polynomial fits the published shares */
-    DOUMBAHT_WRONG_TABLE = 14      /* a table's number, or a point of a repair, is 0, the prime or above, or there twice */
+    DOUMBAHT_WRONG_TABLE = 14,     /* a table's number, or a point of a repair, is 0, the prime or above, or there twice */
+    DOUMBAHT_WRONG_WIDTH = 18      /* a call of the other prime than the lamp's */
 };
 
 #ifdef __cplusplus
@@ -87,12 +97,19 @@ extern "C" {
  */
 uint8_t doumbaht_deal(uint8_t n, uint8_t t, const uint16_t *f, size_t f_count, uint16_t *deals, size_t deals_count);
 
+/* The same, wide. */
+uint8_t doumbaht_deal_wide(uint8_t n, uint8_t t, const uint32_t *f, size_t f_count, uint32_t *deals, size_t deals_count);
+
 /*
- * The same with the lamps' points in a table: a lamp with the point x has the row F(X,x) and the column F(x,Y). Refused
+ * Dealing with the lamps' points in a table: a lamp with the point x has the row F(X,x) and the column F(x,Y). Refused
  * with WRONG_SIZE, WRONG_LENGTH (any of the lists; `table` has n numbers), WRONG_TABLE, NOT_RESIDUE, in this order.
  */
 uint8_t doumbaht_deal_with(uint8_t n, uint8_t t, const uint16_t *table, size_t table_count, const uint16_t *f,
                            size_t f_count, uint16_t *deals, size_t deals_count);
+
+/* The same, wide. */
+uint8_t doumbaht_deal_wide_with(uint8_t n, uint8_t t, const uint32_t *table, size_t table_count, const uint32_t *f,
+                                size_t f_count, uint32_t *deals, size_t deals_count);
 
 /*
  * Answers the happy set: the largest set of lamps that all agree by the reports, bit i-1 for lamp i. Two lamps agree
@@ -112,6 +129,10 @@ uint16_t doumbaht_happy_set(const uint16_t *reports, size_t reports_count);
 uint8_t doumbaht_repair(uint8_t t, const uint16_t *xs, size_t xs_count, const uint16_t *ys, size_t ys_count,
                         uint16_t *column, size_t column_count);
 
+/* The same, wide. */
+uint8_t doumbaht_repair_wide(uint8_t t, const uint32_t *xs, size_t xs_count, const uint32_t *ys, size_t ys_count,
+                             uint32_t *column, size_t column_count);
+
 /*
  * Opens the published shares of lamps 1 to n, by themselves: writes to `opened` the constant of the polynomial of
  * degree at most t from which at most t of them differ; one that was not sent always differs. At most one polynomial
@@ -119,15 +140,22 @@ uint8_t doumbaht_repair(uint8_t t, const uint16_t *xs, size_t xs_count, const ui
  */
 uint8_t doumbaht_open(uint8_t n, uint8_t t, const uint16_t *shares, size_t shares_count, uint16_t *opened);
 
+/* The same, wide. */
+uint8_t doumbaht_open_wide(uint8_t n, uint8_t t, const uint32_t *shares, size_t shares_count, uint32_t *opened);
+
 /*
- * The same with the lamps' points in the table that they were dealt with. Refused with WRONG_SIZE, WRONG_LENGTH unless
+ * Opening with the lamps' points in the table that they were dealt with. Refused with WRONG_SIZE, WRONG_LENGTH unless
  * there are n shares and n numbers in `table`, WRONG_TABLE, NO_OPENING, in this order.
  */
 uint8_t doumbaht_open_with(uint8_t n, uint8_t t, const uint16_t *table, size_t table_count, const uint16_t *shares,
                            size_t shares_count, uint16_t *opened);
 
+/* The same, wide. */
+uint8_t doumbaht_open_wide_with(uint8_t n, uint8_t t, const uint32_t *table, size_t table_count, const uint32_t *shares,
+                                size_t shares_count, uint32_t *opened);
+
 /*
- * Writes the text of a record, what the program `bench` prints for these bytes, over the front of `out`, with no 0
+ * Writes the text of a record, narrow or wide, what the program `bench` prints for these bytes, over the front of `out`, with no 0
  * behind it, and answers its length. `out` needs TEXT bytes, as many as are enough for any text: with less it is left
  * alone, and the answer is 0. No text is empty.
  */

@@ -1,49 +1,62 @@
-//! Random questions of every kind, asked of all contenders before anything is timed.
+//! Random questions of every kind and of either prime, asked of all contenders before anything is timed.
 
 use crate::contenders::{dealing, dealing_with, happy, opening, opening_with, repairing, writing};
 use crate::graphs;
 use crate::inputs::{Dealing, Reports, Tabled};
 use crate::measure::Bench;
+use crate::plain::field::Number;
 use crate::plain::{happy_new, happy_old};
-use crate::points::{any_points, any_shares, any_table, any_tabled_shares, bad_points, sometimes_spoilt};
+use crate::points::{any_points, any_shares, any_table, any_tabled_shares, bad_points, raised, sometimes_spoilt};
+use crate::proved::Library;
 use crate::records::any_record;
 use crate::rng::Rng;
 
 /// Asks so many questions of each kind; answers how many in all.
 pub fn check(seed: u64, count: usize) -> Result<usize, String> {
     let mut rng = Rng::new(seed);
-    let rng = &mut rng;
     let worst = [happy_old::WORST, happy_new::WORST].map(|graph| Reports(graph.to_vec()));
-    let reports = (0..count).map(|_| any_reports(rng)).chain(worst).collect();
-    let rows: [Box<dyn Bench>; 8] = [
-        Box::new(dealing("", "random dealing", (0..count).map(|_| any_dealing(rng)).collect())),
-        Box::new(dealing_with("", "random dealing with a table", (0..count).map(|_| any_tabled(rng)).collect())),
-        Box::new(happy("", "random reports", reports)),
-        Box::new(repairing("", "random points", (0..count).map(|_| any_points(rng)).collect())),
-        Box::new(repairing("", "random bad points", (0..count).map(|_| bad_points(rng)).collect())),
-        Box::new(opening("", "random shares", (0..count).map(|_| any_shares(rng)).collect())),
-        Box::new(opening_with("", "random shares with a table", (0..count).map(|_| any_tabled_shares(rng)).collect())),
-        Box::new(writing("", "random record", (0..count / 4).map(|_| any_record(rng)).collect())),
+    let reports = (0..count).map(|_| any_reports(&mut rng)).chain(worst).collect();
+    happy("", "random reports", reports).compare()?;
+    check_prime::<u16>(&mut rng, count, "")?;
+    check_prime::<u32>(&mut rng, count, ", wide")?;
+    Ok(13 * count + count / 4 * 2)
+}
+
+/// The questions that there are for each prime.
+fn check_prime<N: Library>(rng: &mut Rng, count: usize, width: &str) -> Result<(), String> {
+    let title = |what| format!("random {what}{width}");
+    let rows: [Box<dyn Bench>; 7] = [
+        Box::new(dealing::<N>("", &title("dealing"), many(rng, count, any_dealing))),
+        Box::new(dealing_with::<N>("", &title("dealing with a table"), many(rng, count, any_tabled))),
+        Box::new(repairing::<N>("", &title("points"), many(rng, count, any_points))),
+        Box::new(repairing::<N>("", &title("bad points"), many(rng, count, bad_points))),
+        Box::new(opening::<N>("", &title("shares"), many(rng, count, any_shares))),
+        Box::new(opening_with::<N>("", &title("shares with a table"), many(rng, count, any_tabled_shares))),
+        Box::new(writing("", &title("record"), many(rng, count / 4, any_record::<N>))),
     ];
-    for row in &rows {
-        row.compare()?;
-    }
-    Ok(7 * count + count / 4)
+    rows.iter().try_for_each(|row| row.compare())
+}
+
+fn many<I>(rng: &mut Rng, count: usize, any: fn(&mut Rng) -> I) -> Vec<I> {
+    (0..count).map(|_| any(rng)).collect()
 }
 
 /// Any dealing: mostly right, else a size, a length or a number that is refused.
-fn any_dealing(rng: &mut Rng) -> Dealing {
+fn any_dealing<N: Number>(rng: &mut Rng) -> Dealing<N> {
     let t = 1 + rng.below(3);
     let n = 4 * t + 1 + rng.below(16 - 4 * t);
     let width = t + 1;
-    let mut f = rng.elements(width * width);
+    let mut f: Vec<N> = (0..width * width).map(|_| rng.edge()).collect();
     let mut dealing = Dealing { n: n as u8, t: t as u8, f: Vec::new(), room: 2 * n * width };
     match rng.below(12) {
         0 => dealing.n = rng.below(20) as u8,
         1 => dealing.t = rng.below(6) as u8,
         2 => dealing.room = rng.below(129),
         3 => f.truncate(rng.below(f.len())),
-        4 => f[rng.below(width * width)] = 65_521 + rng.below(15) as u16,
+        4 => {
+            let place = rng.below(f.len());
+            f[place] = raised(rng, f[place]);
+        }
         _ => {}
     }
     dealing.f = f;
@@ -51,7 +64,7 @@ fn any_dealing(rng: &mut Rng) -> Dealing {
 }
 
 /// Any dealing with any table for it, some of them bad too.
-fn any_tabled(rng: &mut Rng) -> Tabled<Dealing> {
+fn any_tabled<N: Number>(rng: &mut Rng) -> Tabled<N, Dealing<N>> {
     let question = any_dealing(rng);
     let table = any_table(rng, usize::from(question.n).max(2));
     Tabled { table: sometimes_spoilt(rng, table), question }

@@ -3,57 +3,71 @@
 
 use crate::inputs::{Bytes, Dealing, Deals, Points, Reports, Shares, Tabled, Text};
 use crate::measure::{Contender, Role, Row};
+use crate::plain::field::Number;
 use crate::plain::lamp::Ways;
-use crate::plain::tables::{is_table, refusal, ONE_TO};
+use crate::plain::tables::{is_table, refusal};
 use crate::plain::{deal, differences_once, differences_slopes, text};
 use crate::plain::{fit_groups, fit_newton, fit_now, fit_old, happy_new, happy_now, happy_old};
-use crate::{bitset, gao, naive, proved};
+use crate::proved::{self, Library};
+use crate::{bitset, gao, naive};
 
 /// Role, name and function of a contender.
 type Entry<I, O> = (Role, &'static str, fn(&I, &mut O));
 
-type DealWith = fn(u8, u8, &[u16], &[u16], &mut [u16]) -> u8;
+type Deal<N> = fn(u8, u8, &[N], &mut [N]) -> u8;
 
-type Fit = fn(usize, usize, &[u16], &[u16]) -> Option<[u16; 4]>;
+type DealWith<N> = fn(u8, u8, &[N], &[N], &mut [N]) -> u8;
 
-fn row<I, O>(key: &str, title: &str, inputs: Vec<I>, blank: O, contenders: &[Entry<I, O>]) -> Row<I, O> {
-    let contenders = contenders.iter().map(|&(role, name, call)| Contender { role, name, call }).collect();
+type Fit<N> = fn(usize, usize, &[N], &[N]) -> Option<[N; 4]>;
+
+/// A row with the library's function, that of the older library, if it is there, and the others.
+fn row<I, O>(
+    (key, title): (&str, &str),
+    inputs: Vec<I>,
+    blank: O,
+    now: fn(&I, &mut O),
+    old: Option<fn(&I, &mut O)>,
+    others: &[Entry<I, O>],
+) -> Row<I, O> {
+    let library = [(Role::Proved, "proved", now)].into_iter().chain(old.map(|old| (Role::Old, "old", old)));
+    let all = library.chain(others.iter().copied());
+    let contenders = all.map(|(role, name, call)| Contender { role, name, call }).collect();
     Row { key: key.to_string(), title: title.to_string(), inputs, blank, contenders }
 }
 
-fn dealt(input: &Dealing, out: &mut Deals, deal: fn(u8, u8, &[u16], &mut [u16]) -> u8) {
+fn dealt<N: Number>(input: &Dealing<N>, out: &mut Deals<N>, deal: Deal<N>) {
     out.answer = deal(input.n, input.t, &input.f, &mut out.deals[..input.room]);
 }
 
-pub fn dealing(key: &str, title: &str, inputs: Vec<Dealing>) -> Row<Dealing, Deals> {
-    let blank = Deals { answer: 0, deals: [1; 128] };
+pub fn dealing<N: Library>(key: &str, title: &str, inputs: Vec<Dealing<N>>) -> Row<Dealing<N>, Deals<N>> {
     row(
-        key,
-        title,
+        (key, title),
         inputs,
-        blank,
+        Deals { answer: 0, deals: [N::from(1); 128] },
+        N::NOW.deal,
+        N::OLD.map(|old| old.deal),
         &[
-            (Role::Proved, "proved", proved::deal),
             (Role::Plain, "plain", |input, out| dealt(input, out, deal::deal)),
             (Role::Special, "by width", |input, out| dealt(input, out, deal::deal_by_width)),
         ],
     )
 }
 
-fn dealt_with(input: &Tabled<Dealing>, out: &mut Deals, deal: DealWith) {
+fn dealt_with<N: Number>(input: &Tabled<N, Dealing<N>>, out: &mut Deals<N>, deal: DealWith<N>) {
     let Dealing { n, t, f, room } = &input.question;
     out.answer = deal(*n, *t, &input.table, f, &mut out.deals[..*room]);
 }
 
-pub fn dealing_with(key: &str, title: &str, inputs: Vec<Tabled<Dealing>>) -> Row<Tabled<Dealing>, Deals> {
-    let blank = Deals { answer: 0, deals: [1; 128] };
+type Dealings<N> = Vec<Tabled<N, Dealing<N>>>;
+
+pub fn dealing_with<N: Library>(key: &str, title: &str, inputs: Dealings<N>) -> Row<Tabled<N, Dealing<N>>, Deals<N>> {
     row(
-        key,
-        title,
+        (key, title),
         inputs,
-        blank,
+        Deals { answer: 0, deals: [N::from(1); 128] },
+        N::NOW.deal_with,
+        N::OLD.map(|old| old.deal_with),
         &[
-            (Role::Proved, "proved", proved::deal_with),
             (Role::Plain, "plain", |input, out| dealt_with(input, out, deal::deal_with)),
             (Role::Special, "by width", |input, out| dealt_with(input, out, deal::deal_by_width_with)),
         ],
@@ -62,12 +76,12 @@ pub fn dealing_with(key: &str, title: &str, inputs: Vec<Tabled<Dealing>>) -> Row
 
 pub fn happy(key: &str, title: &str, inputs: Vec<Reports>) -> Row<Reports, u16> {
     row(
-        key,
-        title,
+        (key, title),
         inputs,
         0,
+        proved::NOW.happy_set,
+        proved::OLD.map(|old| old.happy_set),
         &[
-            (Role::Proved, "proved", proved::happy_set),
             (Role::Plain, "plain", |input, out| *out = happy_now::happy_set(&input.0)),
             (Role::Special, "bitset", |input, out| *out = bitset::happy_set(&input.0)),
             (Role::Naive, "all sets", |input, out| *out = naive::happy_set(&input.0)),
@@ -78,17 +92,17 @@ pub fn happy(key: &str, title: &str, inputs: Vec<Reports>) -> Row<Reports, u16> 
 }
 
 /// Decoding by groups with the divided differences of four points taken in other ways.
-fn fit_by_slopes(t: usize, need: usize, xs: &[u16], ys: &[u16]) -> Option<[u16; 4]> {
-    fit_groups::fit_by(differences_slopes::differences, t, need, xs, ys)
+fn fit_by_slopes<N: Number>(t: usize, need: usize, xs: &[N], ys: &[N]) -> Option<[N; 4]> {
+    fit_groups::fit_by(differences_slopes::differences::<N>, t, need, xs, ys)
 }
 
-fn fit_by_one_inverse(t: usize, need: usize, xs: &[u16], ys: &[u16]) -> Option<[u16; 4]> {
-    fit_groups::fit_by(differences_once::differences, t, need, xs, ys)
+fn fit_by_one_inverse<N: Number>(t: usize, need: usize, xs: &[N], ys: &[N]) -> Option<[N; 4]> {
+    fit_groups::fit_by(differences_once::differences::<N>, t, need, xs, ys)
 }
 
 /// A repair by a fit: lengths are right; points that no table may hold are refused.
 #[inline(always)]
-fn repaired(input: &Points, out: &mut (u8, [u16; 4]), fit: Fit) {
+fn repaired<N: Number>(input: &Points<N>, out: &mut (u8, [N; 4]), fit: Fit<N>) {
     let t = usize::from(input.t);
     if !is_table(&input.xs) {
         out.0 = 14;
@@ -103,14 +117,14 @@ fn repaired(input: &Points, out: &mut (u8, [u16; 4]), fit: Fit) {
     }
 }
 
-pub fn repairing(key: &str, title: &str, inputs: Vec<Points>) -> Row<Points, (u8, [u16; 4])> {
+pub fn repairing<N: Library>(key: &str, title: &str, inputs: Vec<Points<N>>) -> Row<Points<N>, (u8, [N; 4])> {
     row(
-        key,
-        title,
+        (key, title),
         inputs,
-        (0, [0; 4]),
+        (0, [N::from(0); 4]),
+        N::NOW.repair,
+        N::OLD.map(|old| old.repair),
         &[
-            (Role::Proved, "proved", proved::repair),
             (Role::Plain, "plain", |input, out| repaired(input, out, fit_now::fit)),
             (Role::Special, "Gao", |input, out| repaired(input, out, gao::fit)),
             (Role::Naive, "all choices", |input, out| repaired(input, out, naive::fit)),
@@ -125,22 +139,22 @@ pub fn repairing(key: &str, title: &str, inputs: Vec<Points>) -> Row<Points, (u8
 
 /// An opening by a fit: sizes and lengths are right.
 #[inline(always)]
-fn opened(input: &Shares, out: &mut (u8, u16), fit: Fit) {
+fn opened<N: Number>(input: &Shares<N>, out: &mut (u8, N), fit: Fit<N>) {
     let (n, t) = (usize::from(input.n), usize::from(input.t));
-    match fit(t, n - t, &ONE_TO[..n], &input.shares) {
+    match fit(t, n - t, &N::ONE_TO[..n], &input.shares) {
         Some(f) => *out = (0, f[0]),
         None => out.0 = 10,
     }
 }
 
-pub fn opening(key: &str, title: &str, inputs: Vec<Shares>) -> Row<Shares, (u8, u16)> {
+pub fn opening<N: Library>(key: &str, title: &str, inputs: Vec<Shares<N>>) -> Row<Shares<N>, (u8, N)> {
     row(
-        key,
-        title,
+        (key, title),
         inputs,
-        (0, 0),
+        (0, N::from(0)),
+        N::NOW.open,
+        N::OLD.map(|old| old.open),
         &[
-            (Role::Proved, "proved", proved::open),
             (Role::Plain, "plain", |input, out| opened(input, out, fit_now::fit)),
             (Role::Special, "Gao", |input, out| opened(input, out, gao::fit)),
             (Role::Naive, "all choices", |input, out| opened(input, out, naive::fit)),
@@ -155,7 +169,7 @@ pub fn opening(key: &str, title: &str, inputs: Vec<Shares>) -> Row<Shares, (u8, 
 
 /// The same at the points of a table, which may be refused.
 #[inline(always)]
-fn opened_with(input: &Tabled<Shares>, out: &mut (u8, u16), fit: Fit) {
+fn opened_with<N: Number>(input: &Tabled<N, Shares<N>>, out: &mut (u8, N), fit: Fit<N>) {
     let Shares { n, t, shares } = &input.question;
     let bad = refusal(*n, &input.table);
     if bad != 0 {
@@ -169,14 +183,16 @@ fn opened_with(input: &Tabled<Shares>, out: &mut (u8, u16), fit: Fit) {
     }
 }
 
-pub fn opening_with(key: &str, title: &str, inputs: Vec<Tabled<Shares>>) -> Row<Tabled<Shares>, (u8, u16)> {
+type Openings<N> = Vec<Tabled<N, Shares<N>>>;
+
+pub fn opening_with<N: Library>(key: &str, title: &str, inputs: Openings<N>) -> Row<Tabled<N, Shares<N>>, (u8, N)> {
     row(
-        key,
-        title,
+        (key, title),
         inputs,
-        (0, 0),
+        (0, N::from(0)),
+        N::NOW.open_with,
+        N::OLD.map(|old| old.open_with),
         &[
-            (Role::Proved, "proved", proved::open_with),
             (Role::Plain, "plain", |input, out| opened_with(input, out, fit_now::fit)),
             (Role::Special, "Gao", |input, out| opened_with(input, out, gao::fit)),
             (Role::Naive, "all choices", |input, out| opened_with(input, out, naive::fit)),
@@ -197,7 +213,7 @@ impl Ways for Plain {
     fn happy_set(reports: &[u16]) -> u16 {
         happy_now::happy_set(reports)
     }
-    fn fit(t: usize, need: usize, xs: &[u16], ys: &[u16]) -> Option<[u16; 4]> {
+    fn fit<N: Number>(t: usize, need: usize, xs: &[N], ys: &[N]) -> Option<[N; 4]> {
         fit_now::fit(t, need, xs, ys)
     }
 }
@@ -210,7 +226,7 @@ impl Ways for Special {
     fn happy_set(reports: &[u16]) -> u16 {
         bitset::happy_set(reports)
     }
-    fn fit(t: usize, need: usize, xs: &[u16], ys: &[u16]) -> Option<[u16; 4]> {
+    fn fit<N: Number>(t: usize, need: usize, xs: &[N], ys: &[N]) -> Option<[N; 4]> {
         gao::fit(t, need, xs, ys)
     }
 }
@@ -223,7 +239,7 @@ impl Ways for Naive {
     fn happy_set(reports: &[u16]) -> u16 {
         naive::happy_set(reports)
     }
-    fn fit(t: usize, need: usize, xs: &[u16], ys: &[u16]) -> Option<[u16; 4]> {
+    fn fit<N: Number>(t: usize, need: usize, xs: &[N], ys: &[N]) -> Option<[N; 4]> {
         naive::fit(t, need, xs, ys)
     }
 }
@@ -234,12 +250,12 @@ fn written<W: Ways>(bytes: &Bytes, out: &mut Text) {
 
 pub fn writing(key: &str, title: &str, inputs: Vec<Bytes>) -> Row<Bytes, Text> {
     row(
-        key,
-        title,
+        (key, title),
         inputs,
         Text { length: 0, bytes: [0; 512] },
+        proved::NOW.text,
+        proved::OLD.map(|old| old.text),
         &[
-            (Role::Proved, "proved", proved::text),
             (Role::Plain, "plain", written::<Plain>),
             (Role::Special, "bitset, Gao, one search", written::<Special>),
             (Role::Naive, "all sets, all choices", written::<Naive>),

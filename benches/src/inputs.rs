@@ -1,4 +1,4 @@
-//! What the functions are given and what they answer.
+//! What the functions are given and what they answer, N being a lent number.
 
 /// The reports of all lamps.
 pub struct Reports(pub Vec<u16>);
@@ -6,36 +6,36 @@ pub struct Reports(pub Vec<u16>);
 /// The bytes of a record.
 pub struct Bytes(pub Vec<u8>);
 
-pub struct Dealing {
+pub struct Dealing<N> {
     pub n: u8,
     pub t: u8,
-    pub f: Vec<u16>,
+    pub f: Vec<N>,
     /// How many numbers are lent for the deals.
     pub room: usize,
 }
 
 /// A question with the lamps' points in a table.
-pub struct Tabled<I> {
-    pub table: Vec<u16>,
+pub struct Tabled<N, I> {
+    pub table: Vec<N>,
     pub question: I,
 }
 
 #[derive(Clone, PartialEq, Debug)]
-pub struct Deals {
+pub struct Deals<N> {
     pub answer: u8,
-    pub deals: [u16; 128],
+    pub deals: [N; 128],
 }
 
-pub struct Shares {
+pub struct Shares<N> {
     pub n: u8,
     pub t: u8,
-    pub shares: Vec<u16>,
+    pub shares: Vec<N>,
 }
 
-pub struct Points {
+pub struct Points<N> {
     pub t: u8,
-    pub xs: Vec<u16>,
-    pub ys: Vec<u16>,
+    pub xs: Vec<N>,
+    pub ys: Vec<N>,
 }
 
 #[derive(Clone, PartialEq)]

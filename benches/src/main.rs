@@ -1,6 +1,7 @@
 //! Times the proved library beside plain Rust of the same algorithms, beside specialists and beside the naive ways, and
 //! compares all their answers: a difference ends it with 1.
 
+mod ab;
 mod bitset;
 mod check;
 mod contenders;
@@ -18,7 +19,7 @@ mod rng;
 mod rows;
 mod table;
 
-use measure::{Pace, Role};
+use measure::{Bench, Pace, Role, TIMED};
 use plain::{differences_now, fit_now, happy_new, happy_now, happy_old};
 use std::io::Write;
 use std::process::ExitCode;
@@ -27,7 +28,8 @@ use std::time::Instant;
 const USAGE: &str = "usage: benches [--quick]                     compares and times all
        benches hunt [now|old|new [SEED [CLIMBS]]] hunts for the graph that costs the search most
        benches count ROW proved|plain|specialist|empty N   asks N times, for a counter of instructions
-       benches rows                             names the rows";
+       benches rows                             names the rows
+       benches ab [ROW..]                       times two libraries, where benches/ab has linked them";
 
 /// So many random questions of each kind, inputs to a row, and how they are timed.
 struct Plan {
@@ -48,7 +50,8 @@ fn main() -> ExitCode {
         ["--quick"] => run(&QUICK),
         ["hunt", ref rest @ ..] => hunt(rest),
         ["count", row, who, times] => count(row, who, times),
-        ["rows"] => rows::all(1).iter().try_for_each(|row| say(&format!("{:22} {}", row.key(), row.title()))),
+        ["rows"] => rows::all(1).iter().try_for_each(|row| say(&format!("{:27} {}", row.key(), row.title()))),
+        ["ab", ref keys @ ..] => ab::run(keys, FULL.inputs, FULL.pace),
         _ => Err(USAGE.to_string()),
     };
     match done {
@@ -63,20 +66,13 @@ fn main() -> ExitCode {
 fn run(plan: &Plan) -> Result<(), String> {
     let start = Instant::now();
     let asked = check::check(1, plan.questions)?;
-    let rows = rows::all(plan.inputs);
-    for row in &rows {
-        row.compare()?;
-    }
-    say(&format!("All answers agree: {asked} random questions, {} rows of {} inputs.", rows.len(), plan.inputs))?;
+    let (rows, wide) = (rows::narrow(plan.inputs), rows::wide(plan.inputs));
+    rows.iter().chain(&wide).try_for_each(|row| row.compare())?;
+    let count = rows.len() + wide.len();
+    say(&format!("All answers agree: {asked} random questions, {count} rows of {} inputs.", plan.inputs))?;
     say(&format!("Plain Rust finds the happy set by {}; fits by {};", happy_now::NAME, fit_now::NAME))?;
     say(&format!("takes the divided differences of four points by {}.\n", differences_now::NAME))?;
-    say(&table::head())?;
-    let mut misses = Vec::new();
-    for row in &rows {
-        let times = row.measure(plan.pace);
-        say(&table::line(row.title(), &times))?;
-        misses.extend(table::misses(row.key(), row.title(), &times));
-    }
+    let misses = measured(&rows, &wide, plan.pace)?;
     let samples = plan.pace.samples;
     say(&format!("\nNanoseconds per call: the median of {samples} samples (tenth to ninetieth percentile)."))?;
     say(&format!("Misses: {}", if misses.is_empty() { "none" } else { "" }))?;
@@ -84,8 +80,30 @@ fn run(plan: &Plan) -> Result<(), String> {
     say(&format!("Taken in {} s.", start.elapsed().as_secs()))
 }
 
+/// Prints both tables; answers what misses its target. A wide row is timed right after its narrow companion, so that a
+/// machine that slows down for a while does so for both.
+fn measured(rows: &[Box<dyn Bench>], wide: &[Box<dyn Bench>], pace: Pace) -> Result<Vec<String>, String> {
+    let (mut lines, mut misses) = (vec![table::wide_head()], Vec::new());
+    say(&table::head())?;
+    for row in rows {
+        let times = row.measure(pace, &TIMED);
+        say(&table::line(row.title(), &times))?;
+        misses.extend(table::misses(row.key(), row.title(), &times));
+        let Some(wide) = wide.iter().find(|wide| wide.key() == rows::wide_key(row.key())) else {
+            continue;
+        };
+        let wide_times = wide.measure(pace, &TIMED);
+        lines.push(table::wide_line(wide.title(), &times, &wide_times));
+        misses.extend(table::misses(wide.key(), wide.title(), &wide_times));
+        misses.extend(table::wide_miss(wide.key(), wide.title(), &times, &wide_times));
+    }
+    say("")?;
+    lines.iter().try_for_each(|line| say(line))?;
+    Ok(misses)
+}
+
 /// Prints a line; a reader that has gone away is an error, not a panic.
-fn say(line: &str) -> Result<(), String> {
+pub fn say(line: &str) -> Result<(), String> {
     writeln!(std::io::stdout(), "{line}").map_err(|error| error.to_string())
 }
 

@@ -4,7 +4,8 @@ use std::fmt::Debug;
 use std::hint::black_box;
 use std::time::Instant;
 
-/// Who answers: the columns of the table. `Version` is compared, not timed.
+/// Who answers: the columns of the table. `Version` is compared, not timed; `Old` is an older library's function, where
+/// one is linked (benches/ab).
 #[derive(Clone, Copy, PartialEq, Eq)]
 pub enum Role {
     Proved,
@@ -12,6 +13,7 @@ pub enum Role {
     Special,
     Naive,
     Version,
+    Old,
 }
 
 pub const TIMED: [Role; 4] = [Role::Proved, Role::Plain, Role::Special, Role::Naive];
@@ -57,7 +59,8 @@ pub trait Bench {
     fn title(&self) -> &str;
     /// Whether all contenders answer alike on every input.
     fn compare(&self) -> Result<(), String>;
-    fn measure(&self, pace: Pace) -> Vec<Times>;
+    /// Times the contenders of these roles.
+    fn measure(&self, pace: Pace, roles: &[Role]) -> Vec<Times>;
     /// Calls one contender over and over; nothing is called where there is no such role.
     fn repeat(&self, role: Option<Role>, times: usize);
 }
@@ -90,8 +93,8 @@ impl<I, O: Clone + PartialEq + Debug> Bench for Row<I, O> {
         Ok(())
     }
 
-    fn measure(&self, pace: Pace) -> Vec<Times> {
-        let timed: Vec<_> = self.contenders.iter().filter(|c| c.role != Role::Version).collect();
+    fn measure(&self, pace: Pace, roles: &[Role]) -> Vec<Times> {
+        let timed: Vec<_> = self.contenders.iter().filter(|c| roles.contains(&c.role)).collect();
         let batches = self.batches(&timed, pace);
         let mut times: Vec<Times> =
             timed.iter().map(|c| Times { role: c.role, name: c.name, samples: Vec::new() }).collect();

@@ -1,7 +1,7 @@
 //! Shares and points to be decoded: a random polynomial, some lies, some values not sent.
 
 use crate::inputs::{Points, Shares, Tabled};
-use crate::plain::field::value;
+use crate::plain::field::{value, Number};
 use crate::rng::Rng;
 
 /// Where the lies stand.
@@ -20,84 +20,100 @@ fn places(rng: &mut Rng, lies: Lies, n: usize) -> Vec<usize> {
     }
 }
 
-/// Values of a random polynomial at the points, but for the lies.
-pub fn values(rng: &mut Rng, t: usize, xs: &[u16], lies: Lies) -> Vec<u16> {
-    let f = rng.elements(t + 1);
-    let mut ys: Vec<u16> = xs.iter().map(|&x| value(&f, u32::from(x)) as u16).collect();
+/// Values of a polynomial at the points, but for the lies.
+fn values_of<N: Number>(rng: &mut Rng, f: &[N], xs: &[N], lies: Lies) -> Vec<N> {
+    let mut ys: Vec<N> = xs.iter().map(|&x| N::lent(value(f, x.into()))).collect();
     for place in places(rng, lies, xs.len()) {
         ys[place] = rng.wrong(ys[place]);
     }
     ys
 }
 
-/// The points of lamps 1 to n.
-pub fn lamps(n: usize) -> Vec<u16> {
-    (1..=n as u16).collect()
+/// Those of a random polynomial.
+pub fn values<N: Number>(rng: &mut Rng, t: usize, xs: &[N], lies: Lies) -> Vec<N> {
+    let f: Vec<N> = rng.elements(t + 1);
+    values_of(rng, &f, xs, lies)
 }
 
-pub fn shares(rng: &mut Rng, n: u8, t: u8, lies: Lies) -> Shares {
+/// The points of lamps 1 to n.
+pub fn lamps<N: Number>(n: usize) -> Vec<N> {
+    N::ONE_TO[..n].to_vec()
+}
+
+pub fn shares<N: Number>(rng: &mut Rng, n: u8, t: u8, lies: Lies) -> Shares<N> {
     let shares = values(rng, usize::from(t), &lamps(usize::from(n)), lies);
     Shares { n, t, shares }
 }
 
 /// Shares at the points of a random table.
-pub fn tabled_shares(rng: &mut Rng, n: u8, t: u8, lies: Lies) -> Tabled<Shares> {
+pub fn tabled_shares<N: Number>(rng: &mut Rng, n: u8, t: u8, lies: Lies) -> Tabled<N, Shares<N>> {
     let table = rng.table(usize::from(n));
     let shares = values(rng, usize::from(t), &table, lies);
     Tabled { table, question: Shares { n, t, shares } }
 }
 
 /// The points of `count` lamps of 16, in order, and their values.
-pub fn happy_points(rng: &mut Rng, count: usize, t: u8, lies: Lies) -> Points {
-    let mut xs: Vec<u16> = rng.order(16).into_iter().take(count).map(|k| k as u16 + 1).collect();
+pub fn happy_points<N: Number>(rng: &mut Rng, count: usize, t: u8, lies: Lies) -> Points<N> {
+    let mut xs: Vec<N> = rng.order(16).into_iter().take(count).map(|k| N::ONE_TO[k]).collect();
     xs.sort_unstable();
     let ys = values(rng, usize::from(t), &xs, lies);
     Points { t, xs, ys }
 }
 
 /// So many points of a random table, and their values.
-pub fn tabled_points(rng: &mut Rng, count: usize, t: u8, lies: Lies) -> Points {
+pub fn tabled_points<N: Number>(rng: &mut Rng, count: usize, t: u8, lies: Lies) -> Points<N> {
     let xs = rng.table(count);
     let ys = values(rng, usize::from(t), &xs, lies);
     Points { t, xs, ys }
 }
 
 /// Any table of n lamps: near points, far ones or both, rising or in any order.
-pub fn any_table(rng: &mut Rng, n: usize) -> Vec<u16> {
+pub fn any_table<N: Number>(rng: &mut Rng, n: usize) -> Vec<N> {
     let near = [0, 50, 100][rng.below(3)];
-    let mut table = rng.distinct(n, |rng| if rng.chance(near) { 1 + rng.below(20) as u16 } else { rng.point() });
+    let far = |rng: &mut Rng| rng.edge::<N>().max(N::from(1));
+    let mut table = rng.distinct(n, |rng| if rng.chance(near) { N::from(1 + rng.below(20) as u16) } else { far(rng) });
     if rng.chance(30) {
         table.sort_unstable();
     }
     table
 }
 
+/// No residue: the number that is a prime above x, where it is lent as such, else any.
+pub fn raised<N: Number>(rng: &mut Rng, x: N) -> N {
+    let y = u64::from(x.into()) + u64::from(N::P);
+    if y <= u64::from(N::NOT_SENT.into()) && rng.chance(50) {
+        N::lent(y as u32)
+    } else {
+        rng.above()
+    }
+}
+
 /// Makes one entry of a table 0, no residue, or that of another lamp.
-pub fn spoil(rng: &mut Rng, table: &mut [u16]) {
+pub fn spoil<N: Number>(rng: &mut Rng, table: &mut [N]) {
     let place = rng.below(table.len());
     table[place] = match rng.below(3) {
-        0 => 0,
-        1 => 65_521 + rng.below(15) as u16,
+        0 => N::from(0),
+        1 => raised(rng, table[place]),
         _ => table[(place + 1 + rng.below(table.len() - 1)) % table.len()],
     };
 }
 
 /// Mostly as it was; else with a bad entry, one entry short, one too many, or both.
-pub fn sometimes_spoilt(rng: &mut Rng, mut table: Vec<u16>) -> Vec<u16> {
+pub fn sometimes_spoilt<N: Number>(rng: &mut Rng, mut table: Vec<N>) -> Vec<N> {
     let kind = rng.below(12);
     if kind < 3 {
         spoil(rng, &mut table);
     }
     match kind {
         2 | 3 => drop(table.pop()),
-        4 => table.push(rng.any()),
+        4 => table.push(rng.edge()),
         _ => {}
     }
     table
 }
 
 /// Any distinct points, and values with more or fewer lies than may be, some not sent.
-pub fn any_points(rng: &mut Rng) -> Points {
+pub fn any_points<N: Number>(rng: &mut Rng) -> Points<N> {
     let t = 1 + rng.below(3);
     let count = 3 * t + 1 + rng.below(16 - 3 * t);
     let xs = any_table(rng, count);
@@ -106,14 +122,14 @@ pub fn any_points(rng: &mut Rng) -> Points {
 }
 
 /// The same, with a point that is 0, no residue, or there twice.
-pub fn bad_points(rng: &mut Rng) -> Points {
+pub fn bad_points<N: Number>(rng: &mut Rng) -> Points<N> {
     let mut points = any_points(rng);
     spoil(rng, &mut points.xs);
     points
 }
 
 /// Any published shares of any size, likewise.
-pub fn any_shares(rng: &mut Rng) -> Shares {
+pub fn any_shares<N: Number>(rng: &mut Rng) -> Shares<N> {
     let t = 1 + rng.below(3);
     let n = 4 * t + 1 + rng.below(16 - 4 * t);
     let shares = disturbed(rng, t, &lamps(n));
@@ -121,7 +137,7 @@ pub fn any_shares(rng: &mut Rng) -> Shares {
 }
 
 /// Any shares at the points of any table, the table sometimes bad.
-pub fn any_tabled_shares(rng: &mut Rng) -> Tabled<Shares> {
+pub fn any_tabled_shares<N: Number>(rng: &mut Rng) -> Tabled<N, Shares<N>> {
     let t = 1 + rng.below(3);
     let n = 4 * t + 1 + rng.below(16 - 4 * t);
     let table = any_table(rng, n);
@@ -129,12 +145,17 @@ pub fn any_tabled_shares(rng: &mut Rng) -> Tabled<Shares> {
     Tabled { table: sometimes_spoilt(rng, table), question: Shares { n: n as u8, t: t as u8, shares } }
 }
 
-fn disturbed(rng: &mut Rng, t: usize, xs: &[u16]) -> Vec<u16> {
+/// Values of any polynomial, sometimes a constant one: some lie, some lie by little, some were not sent.
+fn disturbed<N: Number>(rng: &mut Rng, t: usize, xs: &[N]) -> Vec<N> {
+    let mut f: Vec<N> = (0..=t).map(|_| rng.edge()).collect();
+    if rng.chance(20) {
+        f[1..].fill(N::from(0));
+    }
     let lies = rng.below(t + 3);
-    let mut ys = values(rng, t, xs, Lies::Any(lies));
+    let mut ys = values_of(rng, &f, xs, Lies::Any(lies));
     for _ in 0..rng.below(t + 2) {
         let place = rng.below(ys.len());
-        ys[place] = 65_521 + rng.below(15) as u16;
+        ys[place] = if rng.chance(70) { raised(rng, ys[place]) } else { rng.edge() };
     }
     ys
 }

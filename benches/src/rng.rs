@@ -1,6 +1,6 @@
 //! Seeded random numbers (splitmix64): a seed always gives the same.
 
-use crate::plain::field::P;
+use crate::plain::field::Number;
 
 pub struct Rng(u64);
 
@@ -32,21 +32,43 @@ impl Rng {
     }
 
     /// A field element.
-    pub fn element(&mut self) -> u16 {
-        self.below(P as usize) as u16
+    pub fn element<N: Number>(&mut self) -> N {
+        N::lent(self.below(N::P as usize) as u32)
     }
 
-    pub fn elements(&mut self, count: usize) -> Vec<u16> {
+    pub fn elements<N: Number>(&mut self, count: usize) -> Vec<N> {
         (0..count).map(|_| self.element()).collect()
     }
 
     /// What a table may hold: a field element other than 0.
-    pub fn point(&mut self) -> u16 {
-        1 + self.below(P as usize - 1) as u16
+    pub fn point<N: Number>(&mut self) -> N {
+        N::lent(1 + self.below(N::P as usize - 1) as u32)
+    }
+
+    /// A field element, often one next to 0, to either prime or to a power of 2 above it.
+    pub fn edge<N: Number>(&mut self) -> N {
+        let edges = [0, u16::P, 1 << 16, u32::P];
+        let near = edges[self.below(4)].wrapping_add(self.below(5) as u32).wrapping_sub(2);
+        if near < N::P && self.chance(50) {
+            N::lent(near)
+        } else {
+            self.element()
+        }
+    }
+
+    /// A number that is no field element: the prime, the next few, those at the other end, or any.
+    pub fn above<N: Number>(&mut self) -> N {
+        let most: u32 = N::NOT_SENT.into();
+        let count = (most - N::P) as usize + 1;
+        N::lent(match self.below(3) {
+            0 => N::P + self.below(3) as u32,
+            1 => most - self.below(3) as u32,
+            _ => N::P + self.below(count) as u32,
+        })
     }
 
     /// Points drawn until there are so many distinct ones, in the order in which they came.
-    pub fn distinct(&mut self, count: usize, mut draw: impl FnMut(&mut Rng) -> u16) -> Vec<u16> {
+    pub fn distinct<N: Number>(&mut self, count: usize, mut draw: impl FnMut(&mut Rng) -> N) -> Vec<N> {
         let mut list = Vec::new();
         while list.len() < count {
             let x = draw(self);
@@ -58,13 +80,14 @@ impl Rng {
     }
 
     /// A table of any points, in any order.
-    pub fn table(&mut self, count: usize) -> Vec<u16> {
+    pub fn table<N: Number>(&mut self, count: usize) -> Vec<N> {
         self.distinct(count, Rng::point)
     }
 
     /// A field element other than the given one.
-    pub fn wrong(&mut self, right: u16) -> u16 {
-        ((usize::from(right) + 1 + self.below(P as usize - 1)) % P as usize) as u16
+    pub fn wrong<N: Number>(&mut self, right: N) -> N {
+        let right: u32 = right.into();
+        N::lent(((right as usize + 1 + self.below(N::P as usize - 1)) % N::P as usize) as u32)
     }
 
     /// The numbers below n in random order.

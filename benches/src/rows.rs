@@ -5,22 +5,49 @@ use crate::graphs::{self, Graph};
 use crate::hunt::{calls, neighbours};
 use crate::inputs::{Bytes, Dealing, Tabled, Text};
 use crate::measure::{Bench, Row};
+use crate::plain::field::Number;
 use crate::plain::happy_now;
 use crate::points::{happy_points, shares, tabled_points, tabled_shares, Lies};
-use crate::records::{honest, shifted, EXAMPLE, LIARS};
+use crate::proved::Library;
+use crate::records::{honest, shifted, widened, EXAMPLE, LIARS};
 use crate::rng::Rng;
 
 const SEED: u64 = 1971;
 
 /// All rows, each with so many inputs.
 pub fn all(count: usize) -> Vec<Box<dyn Bench>> {
-    let mut rows = deal_rows(count);
+    narrow(count).into_iter().chain(wide(count)).collect()
+}
+
+/// Those of numbers of 16 bits, and of no numbers.
+pub fn narrow(count: usize) -> Vec<Box<dyn Bench>> {
+    let mut rows = deal_rows::<u16>(count);
     rows.extend(happy_rows(count));
-    rows.extend(repair_rows(count));
-    rows.extend(open_rows(count));
-    rows.extend(tabled_rows(count));
+    rows.extend(decoding_rows::<u16>(count));
     rows.extend(text_rows(count));
     rows
+}
+
+/// Those of numbers of 32 bits.
+pub fn wide(count: usize) -> Vec<Box<dyn Bench>> {
+    let mut rows = deal_rows::<u32>(count);
+    rows.extend(decoding_rows::<u32>(count));
+    rows.extend(wide_text_rows(count));
+    rows
+}
+
+/// The key of a row's wide companion.
+pub fn wide_key(key: &str) -> String {
+    format!("wide-{key}")
+}
+
+/// The key and the title of a row of such numbers.
+fn named<N: Number>(key: &str, title: &str) -> (String, String) {
+    if N::MARK == u16::MARK {
+        (key.to_string(), title.to_string())
+    } else {
+        (wide_key(key), format!("wide {title}"))
+    }
 }
 
 /// Inputs made one after the other with one source of random numbers.
@@ -29,12 +56,14 @@ fn made<I>(count: usize, mut make: impl FnMut(&mut Rng) -> I) -> Vec<I> {
     (0..count).map(|_| make(&mut rng)).collect()
 }
 
-fn deal_rows(count: usize) -> Vec<Box<dyn Bench>> {
-    let question = |rng: &mut Rng| Dealing { n: 16, t: 3, f: rng.elements(16), room: 128 };
-    let tabled = |rng: &mut Rng| Tabled { table: rng.table(16), question: question(rng) };
+fn deal_rows<N: Library>(count: usize) -> Vec<Box<dyn Bench>> {
+    let question = |rng: &mut Rng| Dealing { n: 16, t: 3, f: rng.elements::<N>(16), room: 128 };
+    let tabled = |rng: &mut Rng| Tabled { table: rng.table::<N>(16), question: question(rng) };
+    let (key, title) = named::<N>("deal", "dealing, n = 16, t = 3");
+    let (table_key, table_title) = named::<N>("deal-table", "dealing, n = 16, t = 3, points in a table");
     vec![
-        Box::new(dealing("deal", "dealing, n = 16, t = 3", made(count, question))),
-        Box::new(dealing_with("deal-table", "dealing, n = 16, t = 3, points in a table", made(count, tabled))),
+        Box::new(dealing(&key, &title, made(count, question))),
+        Box::new(dealing_with(&table_key, &table_title, made(count, tabled))),
     ]
 }
 
@@ -115,18 +144,27 @@ const REPAIRS: [(&str, usize, &[usize]); 5] = [
     ("groups", 16, &[0, 4, 8]),
 ];
 
-fn repair_rows(count: usize) -> Vec<Box<dyn Bench>> {
+fn decoding_rows<N: Library>(count: usize) -> Vec<Box<dyn Bench>> {
+    let mut rows = repair_rows::<N>(count);
+    rows.extend(open_rows::<N>(count));
+    rows.extend(tabled_rows::<N>(count));
+    rows
+}
+
+fn repair_rows<N: Library>(count: usize) -> Vec<Box<dyn Bench>> {
     let row = |(key, points, places): (&str, usize, &'static [usize])| -> Box<dyn Bench> {
-        let inputs = made(count, |rng| happy_points(rng, points, 3, Lies::At(places)));
+        let inputs = made(count, |rng| happy_points::<N>(rng, points, 3, Lies::At(places)));
         let title = format!("repair, {points} points, t = 3, {}", lies_at(places));
-        Box::new(repairing(&format!("repair{points}-{key}"), &title, inputs))
+        let (key, title) = named::<N>(&format!("repair{points}-{key}"), &title);
+        Box::new(repairing(&key, &title, inputs))
     };
     REPAIRS.map(row).into()
 }
 
-fn open_row(key: &str, (n, t): (u8, u8), count: usize, lies: Lies, title: &str) -> Box<dyn Bench> {
-    let inputs = made(count, |rng| shares(rng, n, t, lies));
-    Box::new(opening(&format!("open{n}-{key}"), &format!("opening, n = {n}, t = {t}, {title}"), inputs))
+fn open_row<N: Library>(key: &str, (n, t): (u8, u8), count: usize, lies: Lies, title: &str) -> Box<dyn Bench> {
+    let inputs = made(count, |rng| shares::<N>(rng, n, t, lies));
+    let (key, title) = named::<N>(&format!("open{n}-{key}"), &format!("opening, n = {n}, t = {t}, {title}"));
+    Box::new(opening(&key, &title, inputs))
 }
 
 /// The lies at each size, with a word for them.
@@ -143,25 +181,27 @@ fn openings() -> Vec<(&'static str, (u8, u8), &'static [usize])> {
     all
 }
 
-fn open_rows(count: usize) -> Vec<Box<dyn Bench>> {
-    let at = |(key, size, places)| open_row(key, size, count, Lies::At(places), &lies_at(places));
+fn open_rows<N: Library>(count: usize) -> Vec<Box<dyn Bench>> {
+    let at = |(key, size, places)| open_row::<N>(key, size, count, Lies::At(places), &lies_at(places));
     let mut rows: Vec<_> = openings().into_iter().map(at).collect();
-    rows.push(open_row("any", (16, 3), count, Lies::Any(3), "3 lies anywhere"));
-    rows.push(open_row("refused", (16, 3), count, Lies::At(&[0, 4, 8, 12]), "4 lies, refused"));
+    rows.push(open_row::<N>("any", (16, 3), count, Lies::Any(3), "3 lies anywhere"));
+    rows.push(open_row::<N>("refused", (16, 3), count, Lies::At(&[0, 4, 8, 12]), "4 lies, refused"));
     rows
 }
 
 /// The same repairs and openings with the points in a table, each input with another.
-fn tabled_rows(count: usize) -> Vec<Box<dyn Bench>> {
+fn tabled_rows<N: Library>(count: usize) -> Vec<Box<dyn Bench>> {
     let repair = |(key, points, places): (&str, usize, &'static [usize])| -> Box<dyn Bench> {
-        let inputs = made(count, |rng| tabled_points(rng, points, 3, Lies::At(places)));
+        let inputs = made(count, |rng| tabled_points::<N>(rng, points, 3, Lies::At(places)));
         let title = format!("repair, {points} points in a table, t = 3, {}", lies_at(places));
-        Box::new(repairing(&format!("repair{points}-{key}-table"), &title, inputs))
+        let (key, title) = named::<N>(&format!("repair{points}-{key}-table"), &title);
+        Box::new(repairing(&key, &title, inputs))
     };
     let open = |(key, (n, t), places): (&str, (u8, u8), &'static [usize])| -> Box<dyn Bench> {
-        let inputs = made(count, |rng| tabled_shares(rng, n, t, Lies::At(places)));
+        let inputs = made(count, |rng| tabled_shares::<N>(rng, n, t, Lies::At(places)));
         let title = format!("opening, n = {n}, t = {t}, points in a table, {}", lies_at(places));
-        Box::new(opening_with(&format!("open{n}-{key}-table"), &title, inputs))
+        let (key, title) = named::<N>(&format!("open{n}-{key}-table"), &title);
+        Box::new(opening_with(&key, &title, inputs))
     };
     REPAIRS.into_iter().map(repair).chain(openings().into_iter().map(open)).collect()
 }
@@ -169,13 +209,27 @@ fn tabled_rows(count: usize) -> Vec<Box<dyn Bench>> {
 fn text_rows(count: usize) -> Vec<Box<dyn Bench>> {
     let others = |record: &'static [u8]| {
         let mut inputs = vec![Bytes(record.to_vec())];
-        inputs.extend(made(count - 1, |rng| shifted(rng, record)));
+        inputs.extend(made(count - 1, |rng| shifted::<u16>(rng, record)));
         inputs
     };
     let rows: [Row<Bytes, Text>; 3] = [
         writing("text-example", "text of the example, n = 5", others(EXAMPLE)),
-        writing("text-honest", "text, n = 16, all honest", made(count, |rng| honest(rng, 16, 3))),
+        writing("text-honest", "text, n = 16, all honest", made(count, |rng| honest::<u16>(rng, 16, 3))),
         writing("text-liars", "text, n = 16, three liars", others(LIARS)),
     ];
     rows.into_iter().map(|row| -> Box<dyn Bench> { Box::new(row) }).collect()
+}
+
+fn wide_text_rows(count: usize) -> Vec<Box<dyn Bench>> {
+    let liars = widened(LIARS);
+    let all_honest = made(count, |rng| honest::<u32>(rng, 16, 3));
+    let three_liars = made(count, |rng| shifted::<u32>(rng, &liars));
+    let row = |key, title, inputs| -> Box<dyn Bench> {
+        let (key, title) = named::<u32>(key, title);
+        Box::new(writing(&key, &title, inputs))
+    };
+    vec![
+        row("text-honest", "text, n = 16, all honest", all_honest),
+        row("text-liars", "text, n = 16, three liars", three_liars),
+    ]
 }

@@ -1,4 +1,4 @@
-//! The table, in the form that docs/PERFORMANCE.md shows, and what misses its target.
+//! The tables, in the form that docs/PERFORMANCE.md shows, and what misses its target.
 
 use crate::measure::{quantile, ratio, Role, Times, TIMED};
 
@@ -7,22 +7,35 @@ use crate::measure::{quantile, ratio, Role, Times, TIMED};
 const SEARCH: (f64, f64) = (1.0, 1.5);
 const DECODING: (f64, f64) = (1.0, 1.1);
 const OTHERS: (f64, f64) = (1.25, f64::INFINITY);
+/// Decoding of wide numbers: for these the specialist and the naive way are shown, and no target is set.
+const WIDE_DECODING: (f64, f64) = (1.0, f64::INFINITY);
+/// A wide row takes at most so many times the time of its narrow companion: at the points 1 to n, and in a table.
+const WIDER: f64 = 1.4;
+const WIDER_TABLE: f64 = 2.0;
 /// At least so many times faster than the naive way.
 const FASTER: f64 = 10.0;
 
 pub fn head() -> String {
+    headed(&[])
+}
+
+pub fn wide_head() -> String {
+    headed(&["wide / narrow"])
+}
+
+fn headed(more: &[&'static str]) -> String {
     let names = ["", "proved", "plain", "specialist", "naive"];
     let ratios = ["proved / plain", "proved / specialist", "naive / proved"];
-    let head: Vec<&str> = names.into_iter().chain(ratios).collect();
+    let head: Vec<&str> = names.into_iter().chain(ratios).chain(more.iter().copied()).collect();
     format!("| {} |\n|{}", head.join(" | "), "---|".repeat(head.len()))
 }
 
-fn of(times: &[Times], role: Role) -> Option<&Times> {
+pub fn of(times: &[Times], role: Role) -> Option<&Times> {
     times.iter().find(|t| t.role == role)
 }
 
 /// The median and, in brackets, where the middle eight tenths lie.
-fn cell(times: Option<&Times>) -> String {
+pub fn cell(times: Option<&Times>) -> String {
     let Some(times) = times else {
         return String::new();
     };
@@ -48,6 +61,25 @@ pub fn line(title: &str, times: &[Times]) -> String {
     format!("| {} |", cells.join(" | "))
 }
 
+/// The line of a wide row, with that of its narrow companion.
+pub fn wide_line(title: &str, narrow: &[Times], wide: &[Times]) -> String {
+    format!("{} {} |", line(title, wide), shown(wider(narrow, wide)))
+}
+
+/// How many times longer the library takes with wide numbers: the two rows have no batches in common, so the medians
+/// are compared.
+fn wider(narrow: &[Times], wide: &[Times]) -> Option<f64> {
+    let median = |times| Some(quantile(&of(times, Role::Proved)?.samples, 0.5));
+    Some(median(wide)? / median(narrow)?)
+}
+
+/// What this wide row misses beside its narrow companion.
+pub fn wide_miss(key: &str, title: &str, narrow: &[Times], wide: &[Times]) -> Option<String> {
+    let target = if key.ends_with("-table") { WIDER_TABLE } else { WIDER };
+    let r = wider(narrow, wide).filter(|r| target + 0.005 <= *r)?;
+    Some(format!("{title}: {r:.2} times the narrow row, target {target}"))
+}
+
 /// What this row misses.
 pub fn misses(key: &str, title: &str, times: &[Times]) -> Vec<String> {
     let mut misses = Vec::new();
@@ -67,7 +99,11 @@ pub fn misses(key: &str, title: &str, times: &[Times]) -> Vec<String> {
 
 fn targets(key: &str) -> (f64, f64) {
     let is_one_of = |starts: [&str; 2]| starts.iter().any(|start| key.starts_with(start));
-    if is_one_of(["repair", "open"]) {
+    if is_one_of(["wide-repair", "wide-open"]) {
+        WIDE_DECODING
+    } else if is_one_of(["wide-deal", "wide-text"]) {
+        OTHERS
+    } else if is_one_of(["repair", "open"]) {
         DECODING
     } else if is_one_of(["deal", "text"]) {
         OTHERS
@@ -78,5 +114,7 @@ fn targets(key: &str) -> (f64, f64) {
 
 /// The rows at n = 16, t = 3 where the naive way has to try many.
 fn has_naive_target(key: &str) -> bool {
-    !["open5", "open9", "open13", "open16-none", "repair10", "text-example"].iter().any(|start| key.starts_with(start))
+    !["wide-", "open5", "open9", "open13", "open16-none", "repair10", "text-example"]
+        .iter()
+        .any(|start| key.starts_with(start))
 }

@@ -68,6 +68,45 @@ static void not_sent(void)
     expect(all_publish(DOUMBAHT_NOT_SENT) == DOUMBAHT_NO_OPENING, "NOT_SENT is none");
 }
 
+static uint32_t wide_numbers[20];
+
+/* A dealing of this secret, and an opening of five of this number. */
+static uint8_t wide_deal(uint32_t secret)
+{
+    const uint32_t f[] = {secret, 0, 0, 0};
+    return doumbaht_deal_wide(5, 1, f, 4, wide_numbers, 20);
+}
+
+static uint8_t wide_open(uint32_t number)
+{
+    const uint32_t shares[] = {number, number, number, number, number};
+    uint32_t opened = 0;
+    return doumbaht_open_wide(5, 1, shares, 5, &opened);
+}
+
+/* A dealing, an opening and a repair of zeros, at the points 1 to 5 but for the last. */
+static int wide_answer(uint32_t last, uint8_t answer)
+{
+    const uint32_t table[] = {1, 2, 3, 4, last}, zeros[5] = {0};
+    uint32_t opened = 0;
+    return doumbaht_deal_wide_with(5, 1, table, 5, zeros, 4, wide_numbers, 20) == answer &&
+           doumbaht_open_wide_with(5, 1, table, 5, zeros, 5, &opened) == answer &&
+           doumbaht_repair_wide(1, table, 5, zeros, 5, wide_numbers, 2) == answer;
+}
+
+static void wide(void)
+{
+    expect(wide_deal(DOUMBAHT_WIDE_MODULUS - 1) == DOUMBAHT_DONE, "below the wide prime is a secret");
+    expect(wide_numbers[2] == DOUMBAHT_WIDE_MODULUS - 1, "and every lamp's share, where the rest is 0");
+    expect(wide_deal(DOUMBAHT_WIDE_MODULUS) == DOUMBAHT_NOT_RESIDUE, "the wide prime is none");
+    expect(wide_open(DOUMBAHT_WIDE_MODULUS - 1) == DOUMBAHT_DONE, "below the wide prime is a share");
+    expect(wide_open(DOUMBAHT_WIDE_MODULUS) == DOUMBAHT_NO_OPENING, "the wide prime is none");
+    expect(wide_open(DOUMBAHT_WIDE_NOT_SENT) == DOUMBAHT_NO_OPENING, "WIDE_NOT_SENT is none");
+    expect(wide_answer(DOUMBAHT_WIDE_MODULUS - 1, DOUMBAHT_DONE), "below the wide prime is a point");
+    expect(wide_answer(DOUMBAHT_WIDE_MODULUS, DOUMBAHT_WRONG_TABLE), "the wide prime is none");
+    expect(wide_answer(0, DOUMBAHT_WRONG_TABLE), "nor is 0");
+}
+
 static uint8_t repair(int t, int points, int room)
 {
     static const uint16_t xs[] = {1, 2, 3, 4, 5, 6, 7, 8, 9, 10, 11, 12, 13, 14, 15, 16, 17};
@@ -130,6 +169,11 @@ static void text(void)
     expect(out[0] == 'r', "a byte less is none");
     expect(doumbaht_text(bytes, sizeof bytes, out, sizeof out) != 0, "TEXT bytes are enough");
     expect(doumbaht_text(bytes, sizeof bytes, out, sizeof out - 1) == 0, "fewer are not");
+    static const uint8_t wide[DOUMBAHT_WIDE_RECORD_MOST] = {144, 3, 0, 18, 2, 0, 2, 18, 8, 0, 10, 18, 0, 32, 10, 50, 0, 64};
+    doumbaht_text(wide, sizeof wide, out, sizeof out);
+    expect(out[0] == 's', "WIDE_RECORD_MOST is the longest wide record");
+    doumbaht_text(wide, sizeof wide - 1, out, sizeof out);
+    expect(out[0] == 'r', "a byte less is none");
 }
 
 int main(void)
@@ -137,6 +181,7 @@ int main(void)
     sizes();
     modulus();
     not_sent();
+    wide();
     points();
     tables();
     text();

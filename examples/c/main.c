@@ -87,7 +87,7 @@ static void happy(void)
 static int text(const char *path)
 {
     /* One byte more than the longest record: what is longer is refused, and not cut to a record. */
-    static uint8_t bytes[DOUMBAHT_RECORD_MOST + 1];
+    static uint8_t bytes[DOUMBAHT_WIDE_RECORD_MOST + 1];
     uint8_t out[DOUMBAHT_TEXT];
     FILE *file = fopen(path, "rb");
     if (file == NULL) {

@@ -32,7 +32,7 @@ fn opened_line(record: &Record, accepted: bool) -> String {
     if !accepted {
         return "opened refused 8\n".to_string();
     }
-    match open_all(&record.shares, record.t) {
+    match open_all(record.width, &record.shares, record.t) {
         Ok(number) => format!("opened {number}\n"),
         Err(refusal) => format!("opened refused {refusal}\n"),
     }

@@ -1,8 +1,7 @@
 //! Self tests on random lists of calls: what must hold after any of them.
 
-use crate::calls::{call_name, Call, Desk, Step};
+use crate::calls::{call_name, call_width, Call, Desk, Step};
 use crate::check::{count, expect, Outcome, Tally};
-use crate::field::{NOT_SENT, P};
 use crate::lists::random_list;
 use crate::party::Stage;
 use crate::poly::value;
@@ -10,7 +9,8 @@ use crate::rng::Rng;
 use crate::scenario::value_of_f;
 use crate::stations::{one_to, point};
 
-/// Any calls: what is refused changes nothing, but 8 and 9 close.
+/// Any calls: what is refused changes nothing, but 8 and 9 close. 18 comes
+/// exactly for a call of the other prime to a party that is rightly made.
 pub fn any_calls(rng: &mut Rng, tally: &mut Tally) -> Outcome {
     for step in random_list(rng) {
         let name = call_name(&step.call);
@@ -37,9 +37,26 @@ pub fn any_calls(rng: &mut Rng, tally: &mut Tally) -> Outcome {
             )?,
             Ok(_) => {}
         }
+        any_width(&step)?;
         any_desk(&step)?;
     }
     Ok(())
+}
+
+/// A call of the other prime is refused with 1, 2 or 18, and with 18 no other.
+fn any_width(step: &Step) -> Outcome {
+    let lends = matches!(step.call, Call::Deal(..) | Call::Hear(..) | Call::Open(..));
+    let other = lends && call_width(&step.call) != Some(step.before.width);
+    let refused = step.answer.result.as_ref().err();
+    let wanted = match step.before.check_made() {
+        Err(refusal) => refusal,
+        Ok(()) => 18,
+    };
+    expect(
+        !other || refused == Some(&wanted),
+        "the other prime is taken",
+    )?;
+    expect(other || refused != Some(&18), "18 for the own prime")
 }
 
 /// A making, refused or not, puts a new party in the place of the old one.
@@ -52,7 +69,8 @@ fn is_making(call: &Call) -> bool {
 fn any_desk(step: &Step) -> Outcome {
     let written = &step.answer.written;
     let (desk, table) = match &step.call {
-        Call::Desk(desk) => (desk, one_to(desk.n)),
+        // A size that is none may be too large for a table.
+        Call::Desk(desk) => (desk, one_to(desk.n.min(16))),
         Call::DeskWith(desk, table) => (desk, table.clone()),
         _ => return expect(written.is_empty(), "a call to a party writes to a list"),
     };
@@ -60,7 +78,9 @@ fn any_desk(step: &Step) -> Outcome {
     expect(written.len() == desk.room, "the room has another length")?;
     match step.answer.result {
         Err(_) => expect(
-            written.iter().all(|&number| number == NOT_SENT),
+            written
+                .iter()
+                .all(|&number| number == desk.width.not_sent()),
             "a refused desk writes",
         ),
         Ok(_) => expect(deals_lie_on_f(desk, &table, written), "a deal is not on F"),
@@ -70,9 +90,9 @@ fn any_desk(step: &Step) -> Outcome {
 /// For party i, whose point is y, the row is F(x, y) and the column F(y, x) at
 /// t+1 places x, which decides them, for neither has more than t+1
 /// coefficients.
-fn deals_lie_on_f(desk: &Desk, table: &[u16], deals: &[u16]) -> bool {
-    let (t, f) = (desk.t, &desk.coefs);
-    let in_field = deals.iter().all(|&number| u64::from(number) < P);
+fn deals_lie_on_f(desk: &Desk, table: &[u32], deals: &[u32]) -> bool {
+    let (width, t, f) = (desk.width, desk.t, &desk.coefs);
+    let in_field = deals.iter().all(|&number| width.is_sent(number));
     let halves: Vec<Vec<u64>> = deals
         .chunks(t + 1)
         .map(|half| half.iter().map(|&c| c.into()).collect())
@@ -81,7 +101,8 @@ fn deals_lie_on_f(desk: &Desk, table: &[u16], deals: &[u16]) -> bool {
         let (row, column) = (&halves[2 * i - 2], &halves[2 * i - 1]);
         let y = point(table, i);
         (0..=t as u64).all(|x| {
-            value(row, x) == value_of_f(f, t, x, y) && value(column, x) == value_of_f(f, t, y, x)
+            value(width, row, x) == value_of_f(width, f, t, x, y)
+                && value(width, column, x) == value_of_f(width, f, t, y, x)
         })
     };
     in_field && halves.len() == 2 * desk.n && (1..=desk.n).all(party_is_right)

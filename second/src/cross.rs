@@ -2,6 +2,7 @@
 //! longer than any record. The two must print the same bytes.
 
 use crate::bench;
+use crate::field::Width;
 use crate::make::random_record;
 use crate::outcome::{self, Counts};
 use crate::program::compare;
@@ -97,7 +98,7 @@ fn work(queue: &Mutex<Queue>, program: &Path) -> Result<Counts, Mismatch> {
     while let Some((number, bytes)) = take(queue) {
         let text = bench::run(&bytes);
         match compare(program, &bytes, &text) {
-            Ok(()) => outcome::count(&mut counts, &text),
+            Ok(()) => outcome::count(&mut counts, &bytes, &text),
             Err(what) => {
                 queue.lock().expect("no panic while it is held").end = 0;
                 return Err((number, what));
@@ -110,28 +111,30 @@ fn work(queue: &Mutex<Queue>, program: &Path) -> Result<Counts, Mismatch> {
 // ---- long inputs ----
 
 /// 64 KiB and 10 MB, each of zeros, of random bytes, and of both zeros and
-/// copies of itself behind a legal record. With 64 KiB behind it a record
-/// looks right to a reader that keeps its length in 16 bits.
+/// copies of itself behind a legal record, a narrow and a wide one. With 64 KiB
+/// behind it a record looks right to a reader that keeps its length in 16 bits.
 fn long_inputs(seed: u64) -> Vec<(String, Vec<u8>)> {
     // Other numbers than those of the records, also for the same seed.
     let mut rng = Rng::new(!seed);
     let mut inputs = Vec::new();
     for length in [1 << 16, 10_000_000] {
-        let (n, t) = legal_size(&mut rng);
-        let record = write(&build(&mut rng, n, t, HONEST).record);
         let zeros = vec![0; length];
         let random = (0..length).map(|_| rng.byte()).collect();
-        let copies: Vec<u8> = record.iter().copied().cycle().take(length).collect();
         inputs.push((format!("{length} random bytes"), random));
-        let behind = |tail: &[u8]| [&record, tail].concat();
-        inputs.push((
-            format!("a record and {length} zeros behind it"),
-            behind(&zeros),
-        ));
-        inputs.push((
-            format!("a record and {length} bytes of its copies behind it"),
-            behind(&copies),
-        ));
+        for (width, name) in [(Width::Narrow, "a record"), (Width::Wide, "a wide record")] {
+            let (n, t) = legal_size(&mut rng);
+            let record = write(&build(&mut rng, width, n, t, HONEST).record);
+            let copies: Vec<u8> = record.iter().copied().cycle().take(length).collect();
+            let behind = |tail: &[u8]| [&record, tail].concat();
+            inputs.push((
+                format!("{name} and {length} zeros behind it"),
+                behind(&zeros),
+            ));
+            inputs.push((
+                format!("{name} and {length} bytes of its copies behind it"),
+                behind(&copies),
+            ));
+        }
         inputs.push((format!("{length} zeros"), zeros));
     }
     inputs

@@ -2,7 +2,8 @@
 //! a run, then short inputs, most of them with a call that ends them. The two
 //! must print the same lines.
 
-use crate::calls::{call_name, call_text, Step};
+use crate::calls::{call_name, call_text, Call, Step};
+use crate::field::Width;
 use crate::lists::random_lists;
 use crate::outcome::all_met;
 use crate::program::{self, Ran};
@@ -14,17 +15,27 @@ use std::path::Path;
 /// A run's input has at most so many bytes.
 const BATCH_LIMIT: usize = 60_000;
 
-/// Every kind of answer there is, by call; 0 stands for "ok".
-pub const ANSWERS: [(&str, &[u8]); 9] = [
+/// Every kind of answer there is, by call; 0 stands for "ok". Saying a pair and
+/// settling are counted by the width of the party.
+pub const ANSWERS: [(&str, &[u8]); 18] = [
     ("make", &[0, 1, 2]),
-    ("deal", &[0, 1, 2, 3, 4, 14]),
+    ("deal", &[0, 1, 2, 3, 4, 14, 18]),
     ("say", &[0, 1, 2, 4, 14]),
-    ("hear", &[0, 1, 2, 3, 4, 14]),
+    ("hear", &[0, 1, 2, 3, 4, 14, 18]),
     ("settle", &[0, 1, 2, 3, 4, 7, 8, 9, 14]),
-    ("open", &[0, 1, 2, 3, 4, 10, 14]),
+    ("open", &[0, 1, 2, 3, 4, 10, 14, 18]),
     ("desk", &[0, 1, 3, 5]),
     ("make-table", &[0, 1, 2, 3, 14]),
     ("desk-table", &[0, 1, 3, 5, 14]),
+    ("wide-make", &[0, 1, 2]),
+    ("wide-deal", &[0, 1, 2, 3, 4, 14, 18]),
+    ("wide-say", &[0, 1, 2, 4, 14]),
+    ("wide-hear", &[0, 1, 2, 3, 4, 14, 18]),
+    ("wide-settle", &[0, 1, 2, 3, 4, 7, 8, 9, 14]),
+    ("wide-open", &[0, 1, 2, 3, 4, 10, 14, 18]),
+    ("wide-desk", &[0, 1, 3, 5]),
+    ("wide-make-table", &[0, 1, 2, 3, 14]),
+    ("wide-desk-table", &[0, 1, 3, 5, 14]),
 ];
 
 /// How often each call had each answer.
@@ -99,7 +110,16 @@ fn cross_lists(seed: u64, count: usize, program: &Path) -> Result<Done, String> 
 pub fn count_answers(counts: &mut Counts, list: &[Step]) {
     for step in list {
         let answer = step.answer.result.as_ref().err().copied().unwrap_or(0);
-        *counts.entry((call_name(&step.call), answer)).or_default() += 1;
+        *counts.entry((counted_as(step), answer)).or_default() += 1;
+    }
+}
+
+/// The call's name, with the party's width if it has none of its own.
+fn counted_as(step: &Step) -> &'static str {
+    match (&step.call, step.before.width) {
+        (Call::Say(_), Width::Wide) => "wide-say",
+        (Call::Settle(_), Width::Wide) => "wide-settle",
+        (call, _) => call_name(call),
     }
 }
 

@@ -1,26 +1,26 @@
 //! The fit: a polynomial of degree at most t from which at most t of the
 //! given points differ. Found by trying every choice of t+1 sent points.
 
-use crate::field::is_sent;
+use crate::field::Width;
 use crate::poly::{interpolate, value};
 use crate::stations::one_to;
 
 /// A point: x, and the number sent for it (perhaps "not sent").
-pub type Point = (u64, u16);
+pub type Point = (u64, u32);
 
 /// How many points differ from the polynomial. What was not sent always does.
-pub fn differing(points: &[Point], poly: &[u64]) -> usize {
+pub fn differing(width: Width, points: &[Point], poly: &[u64]) -> usize {
     points
         .iter()
-        .filter(|&&(x, y)| !is_sent(y) || value(poly, x) != u64::from(y))
+        .filter(|&&(x, y)| !width.is_sent(y) || value(width, poly, x) != u64::from(y))
         .count()
 }
 
 /// The points of the list that were sent, as field elements.
-fn sent_points(points: &[Point]) -> Vec<(u64, u64)> {
+fn sent_points(width: Width, points: &[Point]) -> Vec<(u64, u64)> {
     points
         .iter()
-        .filter(|&&(_, y)| is_sent(y))
+        .filter(|&&(_, y)| width.is_sent(y))
         .map(|&(x, y)| (x, u64::from(y)))
         .collect()
 }
@@ -40,16 +40,16 @@ fn picked(list: &[(u64, u64)], mask: u32) -> Vec<(u64, u64)> {
 /// all choices of t+1 sent points include it. With 3t+1 points or more two
 /// that fit share t+1 points and are the same; this is checked, not assumed,
 /// which is why the search does not stop at the first.
-pub fn fit(points: &[Point], t: usize) -> Option<Vec<u64>> {
+pub fn fit(width: Width, points: &[Point], t: usize) -> Option<Vec<u64>> {
     assert!(points.len() > 3 * t, "too few points for one answer");
-    let sent = sent_points(points);
+    let sent = sent_points(width, points);
     let mut found: Option<Vec<u64>> = None;
     for mask in 0u32..1 << sent.len() {
         if mask.count_ones() as usize != t + 1 {
             continue;
         }
-        let poly = interpolate(&picked(&sent, mask));
-        if differing(points, &poly) <= t {
+        let poly = interpolate(width, &picked(&sent, mask));
+        if differing(width, points, &poly) <= t {
             if let Some(earlier) = &found {
                 assert_eq!(earlier, &poly, "two polynomials fit");
             }
@@ -60,18 +60,18 @@ pub fn fit(points: &[Point], t: usize) -> Option<Vec<u64>> {
 }
 
 /// The opening of n published numbers at the points 1 to n.
-pub fn open_all(published: &[u16], t: usize) -> Result<u16, u8> {
-    open_with(&one_to(published.len()), published, t)
+pub fn open_all(width: Width, published: &[u32], t: usize) -> Result<u32, u8> {
+    open_with(width, &one_to(published.len()), published, t)
 }
 
 /// The opening of published numbers at the points of a table: the constant of
 /// what fits, or 10.
-pub fn open_with(table: &[u16], published: &[u16], t: usize) -> Result<u16, u8> {
+pub fn open_with(width: Width, table: &[u32], published: &[u32], t: usize) -> Result<u32, u8> {
     assert_eq!(table.len(), published.len(), "a number for each point");
     let xs = table.iter().map(|&x| u64::from(x));
     let points: Vec<Point> = xs.zip(published.iter().copied()).collect();
-    match fit(&points, t) {
-        Some(poly) => Ok(poly[0] as u16),
+    match fit(width, &points, t) {
+        Some(poly) => Ok(poly[0] as u32),
         None => Err(10),
     }
 }

@@ -1,15 +1,16 @@
 //! Random lists of calls to one party, and to the desk in between. About half
-//! of the parties have a table; some lists are whole runs.
+//! of the parties have a table, and a third are wide; some lists are whole
+//! runs.
 
-use crate::calls::{line, step, Call, Step, LENT_LIMIT};
+use crate::calls::{line, of_other_width, step, Call, Step, LENT_LIMIT};
 use crate::desk_calls::random_desk_call;
-use crate::field::NOT_SENT;
+use crate::field::Width;
 use crate::follow;
-use crate::lies::{about_t, enlarge, garble, wrong};
+use crate::lies::{about_t, enlarge, garble, garble_reports, wrong};
 use crate::party::{Party, Stage};
 use crate::poly::value;
 use crate::random_runs::random_run;
-use crate::record::pair_place;
+use crate::record::{pair_place, Record};
 use crate::rng::Rng;
 use crate::scenario::{build, build_on, legal_size, polynomial, Scenario, HONEST};
 use crate::stations::{check_table, point};
@@ -23,13 +24,17 @@ const RUNS: usize = 25;
 /// the call too.
 const TABLE_LIMIT: usize = LENT_LIMIT - 3;
 
+/// So many calls of a hundred are for the other prime.
+const OTHER_PRIME: usize = 10;
+
 /// A random list, a making first.
 pub fn random_list(rng: &mut Rng) -> Vec<Step> {
+    let width = rng.width();
     if rng.chance(RUNS) {
-        return random_run(rng);
+        return random_run(rng, width);
     }
-    let mut party = Party::make(0, 0, 0).0;
-    let make = random_make(rng);
+    let mut party = Party::make(width, 0, 0, 0).0;
+    let make = random_make(rng, width);
     let mut steps = vec![step(&mut party, make)];
     let world = world_of(rng, &party);
     for _ in 0..rng.between(2, 16) {
@@ -40,56 +45,68 @@ pub fn random_list(rng: &mut Rng) -> Vec<Step> {
 }
 
 /// A making with a good table, with a bad one, or with none.
-fn random_make(rng: &mut Rng) -> Call {
-    let (n, t, number) = made_for(rng);
+fn random_make(rng: &mut Rng, width: Width) -> Call {
+    let (n, t, number) = made_for(rng, width);
     let length = n.min(TABLE_LIMIT);
-    match rng.below(6) {
-        0..=2 => Call::Make(n, t, number),
-        3..=4 => Call::MakeWith(n, t, number, good_table(rng, length)),
-        _ => Call::MakeWith(n, t, number, bad_table(rng, length, TABLE_LIMIT)),
-    }
+    let table = match rng.below(6) {
+        0..=2 => return Call::Make(width, n, t, number),
+        3..=4 => good_table(rng, width, length),
+        _ => bad_table(rng, width, length, TABLE_LIMIT),
+    };
+    Call::MakeWith(width, n, t, number, table)
 }
 
 /// Size, number and table are not refused.
 fn is_usable(party: &Party) -> bool {
-    party.check_made().is_ok() && check_table(&party.table).is_ok()
+    party.check_made().is_ok() && check_table(party.width, &party.table).is_ok()
 }
 
 /// What the other parties would say. Mostly they have the party's own table. A
 /// bad table is replaced by 1 to n, so that the lists have the right lengths; a
 /// bad size borrows a legal one.
 fn world_of(rng: &mut Rng, party: &Party) -> Scenario {
+    let width = party.width;
     if party.check_made().is_err() {
         let (n, t) = legal_size(rng);
-        return build(rng, n, t, HONEST);
+        return build(rng, width, n, t, HONEST);
     }
     let (n, t) = (party.n, party.t);
     match rng.below(15) {
-        _ if !is_usable(party) => build(rng, n, t, HONEST),
+        _ if !is_usable(party) => build(rng, width, n, t, HONEST),
         0 => {
-            let other = good_table(rng, n);
-            build_on(rng, &other, t, HONEST)
+            let other = good_table(rng, width, n);
+            build_on(rng, width, &other, t, HONEST)
         }
-        _ => build_on(rng, &party.table, t, HONEST),
+        _ => build_on(rng, width, &party.table, t, HONEST),
     }
 }
 
 /// Size and number, mostly legal.
-fn made_for(rng: &mut Rng) -> (usize, usize, usize) {
+fn made_for(rng: &mut Rng, width: Width) -> (usize, usize, usize) {
     let (n, t) = match rng.below(10) {
-        0 => bad_size(rng),
+        0 => bad_size(rng, width),
         _ => legal_size(rng),
     };
     let number = match rng.below(10) {
-        0 => bad_number(rng, n),
+        0 => bad_number(rng, width, n),
         _ => rng.between(1, n.max(1)),
     };
     (n, t, number)
 }
 
 /// A size that is none, or by chance is one. Some are legal to a reader that
-/// keeps only a number's low byte.
-pub fn bad_size(rng: &mut Rng) -> (usize, usize) {
+/// keeps only a number's low byte, or of a wide one only 16 bits.
+pub fn bad_size(rng: &mut Rng, width: Width) -> (usize, usize) {
+    if width == Width::Wide && rng.chance(30) {
+        let (n, t) = legal_size(rng);
+        let largest = width.not_sent() as usize;
+        return rng.pick(&[
+            (n + 65_536, t),
+            (n, t + 65_536),
+            (n + (1 << 31), t),
+            (largest, largest),
+        ]);
+    }
     let any = (rng.below(20), rng.below(6));
     let large = (rng.between(256, 65_535), rng.between(256, 65_535));
     let (n, t) = legal_size(rng);
@@ -113,8 +130,12 @@ pub fn bad_size(rng: &mut Rng) -> (usize, usize) {
 }
 
 /// A party that is none. Some are parties to a reader that keeps only a
-/// number's low byte.
-fn bad_number(rng: &mut Rng, n: usize) -> usize {
+/// number's low byte, or of a wide one only 16 bits.
+fn bad_number(rng: &mut Rng, width: Width, n: usize) -> usize {
+    if width == Width::Wide && rng.chance(30) {
+        let party = rng.between(1, n.clamp(1, 16));
+        return rng.pick(&[party + 65_536, party + (1 << 31), width.not_sent() as usize]);
+    }
     let large = rng.between(256, 65_535);
     let low_byte = 256 + rng.between(1, n.clamp(1, 16));
     let next = (n + 1).min(65_535);
@@ -124,6 +145,7 @@ fn bad_number(rng: &mut Rng, n: usize) -> usize {
 /// Some go to the desk: of all calls, makes among them, about one in ten. The
 /// others are mostly the call that comes next; else any, at any stage. A party
 /// badly made has no next call, so it gets any, and wrong lengths more often.
+/// Some calls are for the other prime.
 fn random_call(rng: &mut Rng, party: &Party, world: &Scenario) -> Call {
     if rng.chance(12) {
         return random_desk_call(rng);
@@ -138,21 +160,25 @@ fn random_call(rng: &mut Rng, party: &Party, world: &Scenario) -> Call {
         Stage::Closed => rng.below(5),
     };
     let mut call = match kind {
-        0 => Call::Deal(deal_list(rng, party, world)),
+        0 => Call::Deal(party.width, deal_list(rng, party, world)),
         1 => Call::Say(said_for(rng, party)),
-        2 => Call::Hear(pair_list(rng, party, world)),
+        2 => Call::Hear(party.width, pair_list(rng, party, world)),
         3 => Call::Settle(report_list(rng, party, world)),
-        _ => Call::Open(share_list(rng, world)),
+        _ => Call::Open(party.width, share_list(rng, world)),
     };
     if rng.chance(if usable { 12 } else { 30 }) {
         spoil_length(rng, &mut call);
+    }
+    if rng.chance(OTHER_PRIME) {
+        call = of_other_width(call);
     }
     call
 }
 
 fn said_for(rng: &mut Rng, party: &Party) -> usize {
     match rng.below(8) {
-        0 => bad_number(rng, party.n),
+        // The number of a saying has 16 bits whatever the party's width is.
+        0 => bad_number(rng, Width::Narrow, party.n),
         1 => party.number,
         _ => rng.between(1, party.n.max(1)),
     }
@@ -172,11 +198,17 @@ pub fn other_length(rng: &mut Rng, length: usize, limit: usize) -> usize {
 }
 
 fn spoil_length(rng: &mut Rng, call: &mut Call) {
-    let (Call::Deal(list) | Call::Hear(list) | Call::Settle(list) | Call::Open(list)) = call else {
-        return;
-    };
-    let length = other_length(rng, list.len(), LENT_LIMIT);
-    list.resize(length, NOT_SENT);
+    match call {
+        Call::Deal(width, list) | Call::Hear(width, list) | Call::Open(width, list) => {
+            let length = other_length(rng, list.len(), LENT_LIMIT);
+            list.resize(length, width.not_sent());
+        }
+        Call::Settle(list) => {
+            let length = other_length(rng, list.len(), LENT_LIMIT);
+            list.resize(length, 65_535);
+        }
+        _ => {}
+    }
 }
 
 /// The number of the party within the world; a bad one stands for party 1.
@@ -189,23 +221,23 @@ fn number_in(party: &Party, world: &Scenario) -> usize {
 }
 
 /// The party's stretch of the deals, or one that is not right.
-fn deal_list(rng: &mut Rng, party: &Party, world: &Scenario) -> Vec<u16> {
-    let t = world.record.t;
+fn deal_list(rng: &mut Rng, party: &Party, world: &Scenario) -> Vec<u32> {
+    let (width, t) = (world.record.width, world.record.t);
     let i = number_in(party, world);
-    let width = 2 * (t + 1);
-    let stretch = (i - 1) * width..i * width;
+    let length = 2 * (t + 1);
+    let stretch = (i - 1) * length..i * length;
     let mut list = world.record.deals[stretch.clone()].to_vec();
     match rng.below(12) {
         0 => {
-            let k = rng.below(width);
-            list[k] = wrong(rng, list[k]);
+            let k = rng.below(length);
+            list[k] = wrong(rng, width, list[k]);
         }
         1 => {
-            let other = polynomial(rng, t);
-            list = follow::deals(&world.table, t, &other)[stretch].to_vec();
+            let other = polynomial(rng, width, t);
+            list = follow::deals(width, &world.table, t, &other)[stretch].to_vec();
         }
-        2 => enlarge(rng, &mut list),
-        3 => garble(rng, &mut list),
+        2 => enlarge(rng, width, &mut list),
+        3 => garble(rng, width, &mut list),
         _ => {}
     }
     list
@@ -213,42 +245,42 @@ fn deal_list(rng: &mut Rng, party: &Party, world: &Scenario) -> Vec<u16> {
 
 /// What the party hears: the truth, about t lies in first numbers, some in
 /// second ones, another column, or worse.
-fn pair_list(rng: &mut Rng, party: &Party, world: &Scenario) -> Vec<u16> {
-    let (n, t) = (world.record.n, world.record.t);
+fn pair_list(rng: &mut Rng, party: &Party, world: &Scenario) -> Vec<u32> {
+    let Record { width, n, t, .. } = world.record;
     let start = pair_place(n, number_in(party, world), 1);
     let mut list = world.record.pairs[start..start + 2 * n].to_vec();
     match rng.below(10) {
         0..=2 => {}
         3..=5 => {
-            lie_at(rng, &mut list, n, t, 0);
-            lie_at(rng, &mut list, n, t, 1);
+            lie_at(rng, &world.record, &mut list, 0);
+            lie_at(rng, &world.record, &mut list, 1);
         }
-        6 => lie_at(rng, &mut list, n, t, 1),
-        7 => hear_other_column(rng, &mut list, &world.table, t),
-        8 => enlarge(rng, &mut list),
-        _ => garble(rng, &mut list),
+        6 => lie_at(rng, &world.record, &mut list, 1),
+        7 => hear_other_column(rng, width, &mut list, &world.table, t),
+        8 => enlarge(rng, width, &mut list),
+        _ => garble(rng, width, &mut list),
     }
     list
 }
 
 /// Lies in the first (0) or second (1) numbers of about t pairs.
-fn lie_at(rng: &mut Rng, list: &mut [u16], n: usize, t: usize, which: usize) {
-    let count = about_t(rng, n, t);
-    for j in rng.some_of(n, count) {
+fn lie_at(rng: &mut Rng, record: &Record, list: &mut [u32], which: usize) {
+    let count = about_t(rng, record.n, record.t);
+    for j in rng.some_of(record.n, count) {
         let k = 2 * (j - 1) + which;
-        list[k] = wrong(rng, list[k]);
+        list[k] = wrong(rng, record.width, list[k]);
     }
 }
 
 /// First numbers of a column that is not its own, but for about t of them.
-fn hear_other_column(rng: &mut Rng, list: &mut [u16], table: &[u16], t: usize) {
+fn hear_other_column(rng: &mut Rng, width: Width, list: &mut [u32], table: &[u32], t: usize) {
     let n = table.len();
-    let column: Vec<u64> = (0..=t).map(|_| rng.element().into()).collect();
+    let column: Vec<u64> = (0..=t).map(|_| rng.element(width).into()).collect();
     let count = about_t(rng, n, t);
     let spared = rng.some_of(n, count);
     for j in 1..=n {
         if !spared.contains(&j) {
-            list[2 * (j - 1)] = value(&column, point(table, j)) as u16;
+            list[2 * (j - 1)] = value(width, &column, point(table, j)) as u32;
         }
     }
 }
@@ -265,7 +297,7 @@ fn report_list(rng: &mut Rng, party: &Party, world: &Scenario) -> Vec<u16> {
                 list[a - 1] &= !(1 << (b - 1));
             }
         }
-        _ => garble(rng, &mut list),
+        _ => garble_reports(rng, &mut list),
     }
     let own = number_in(party, world) - 1;
     list[own] = match rng.below(10) {
@@ -284,8 +316,8 @@ fn report_list(rng: &mut Rng, party: &Party, world: &Scenario) -> Vec<u16> {
 }
 
 /// Published shares: all true, about t wrong, another polynomial, or worse.
-fn share_list(rng: &mut Rng, world: &Scenario) -> Vec<u16> {
-    let (n, t) = (world.record.n, world.record.t);
+fn share_list(rng: &mut Rng, world: &Scenario) -> Vec<u32> {
+    let Record { width, n, t, .. } = world.record;
     let mut list = world.record.shares.clone();
     let count = about_t(rng, n, t);
     let some = rng.some_of(n, count);
@@ -293,17 +325,17 @@ fn share_list(rng: &mut Rng, world: &Scenario) -> Vec<u16> {
         0..=1 => {}
         2..=6 => {
             for j in some {
-                list[j - 1] = wrong(rng, list[j - 1]);
+                list[j - 1] = wrong(rng, width, list[j - 1]);
             }
         }
         7 => {
-            let poly: Vec<u64> = (0..=t).map(|_| rng.element().into()).collect();
+            let poly: Vec<u64> = (0..=t).map(|_| rng.element(width).into()).collect();
             for j in (1..=n).filter(|j| !some.contains(j)) {
-                list[j - 1] = value(&poly, point(&world.table, j)) as u16;
+                list[j - 1] = value(width, &poly, point(&world.table, j)) as u32;
             }
         }
-        8 => enlarge(rng, &mut list),
-        _ => garble(rng, &mut list),
+        8 => enlarge(rng, width, &mut list),
+        _ => garble(rng, width, &mut list),
     }
     list
 }

@@ -1,17 +1,19 @@
 //! What the random lists of calls hold, and what the comparisons count.
 
-use crate::calls::{call_name, Call, Desk, Step};
+use crate::calls::{call_name, call_width, Call, Desk, Step};
 use crate::cross;
 use crate::cross_calls::{self, count_answers, never_met, Counts, Done, ANSWERS};
 use crate::dealer::legal_size;
+use crate::field::Width::{Narrow, Wide};
 use crate::lists::random_lists;
 use crate::outcome::{self, OUTCOMES};
+use crate::stations::check_table;
 use std::sync::OnceLock;
 
 /// Enough lists for every kind of answer; the tests share them.
 pub fn steps() -> &'static [Step] {
     static STEPS: OnceLock<Vec<Step>> = OnceLock::new();
-    STEPS.get_or_init(|| random_lists(1, 1000).flatten().collect())
+    STEPS.get_or_init(|| random_lists(1, 2000).flatten().collect())
 }
 
 fn desks() -> Vec<&'static Desk> {
@@ -31,21 +33,65 @@ fn wrong_size(desk: &Desk) -> bool {
 }
 
 fn wrong_list(desk: &Desk) -> bool {
-    desk.coefs.len() != (desk.t + 1) * (desk.t + 1)
+    desk.coefs.len() != (desk.t + 1).saturating_mul(desk.t + 1)
 }
 
 fn wrong_room(desk: &Desk) -> bool {
-    desk.room != 2 * desk.n * (desk.t + 1)
+    desk.room != (2 * desk.n).saturating_mul(desk.t + 1)
 }
 
 fn too_large(desk: &Desk) -> bool {
-    desk.coefs.iter().any(|&c| c > 65_520)
+    desk.coefs.iter().any(|&c| !desk.width.is_sent(c))
 }
 
 #[test]
 fn one_call_in_ten_is_the_desks() {
     let (all, desks) = (steps().len(), desks().len());
     assert!((8 * all..12 * all).contains(&(100 * desks)), "{desks}");
+}
+
+/// Of the desks and of the parties that are made.
+#[test]
+fn a_third_is_wide() {
+    for names in [["make", "wide-make"], ["desk", "wide-desk"]] {
+        let [narrow, wide] = names.map(|name| {
+            let named = |step: &&Step| call_name(&step.call).starts_with(name);
+            steps().iter().filter(named).count()
+        });
+        let all = narrow + wide;
+        assert!((28 * all..39 * all).contains(&(100 * wide)), "{names:?}");
+    }
+}
+
+/// Calls for the other prime come to parties of both widths, at each stage, with
+/// right and wrong lengths, and to parties that are badly made.
+#[test]
+fn the_other_prime_comes() {
+    for width in [Narrow, Wide] {
+        let refused = |refusal: u8, holds: &dyn Fn(&Step) -> bool| {
+            let other = |step: &&Step| {
+                let of_party =
+                    matches!(step.call, Call::Deal(..) | Call::Hear(..) | Call::Open(..));
+                of_party && step.before.width == width && call_width(&step.call) != Some(width)
+            };
+            let so = |step: &&Step| step.answer.result == Err(refusal) && holds(step);
+            steps().iter().filter(other).filter(so).count()
+        };
+        for stage in 0..=4 {
+            let at = |step: &Step| step.before.stage as u8 == stage;
+            assert!(refused(18, &at) >= 10, "{width:?} {stage}");
+        }
+        assert!(refused(1, &|_| true) >= 5 && refused(2, &|_| true) >= 5);
+        let wrong_length = |step: &Step| match &step.call {
+            Call::Deal(_, list) => list.len() != 2 * (step.before.t + 1),
+            Call::Hear(_, list) => list.len() != 2 * step.before.n,
+            Call::Open(_, list) => list.len() != step.before.n,
+            _ => false,
+        };
+        assert!(refused(18, &wrong_length) >= 10);
+        let bad = |step: &Step| check_table(width, &step.before.table).is_err();
+        assert!(refused(18, &bad) >= 5);
+    }
 }
 
 /// Most are right; each fault comes alone, and with the others.
@@ -65,7 +111,22 @@ fn desks_of_every_sort() {
         assert!(times(|desk| fault(desk) && faults(desk) > 1) >= 10);
     }
     for edge in [0, 1, 65_520, 65_521, 65_535] {
-        assert!(times(|desk| desk.coefs.contains(&edge)) >= 10, "{edge}");
+        let has = |desk: &Desk| desk.width == Narrow && desk.coefs.contains(&edge);
+        assert!(times(has) >= 10, "{edge}");
+    }
+    let prime = 2_147_483_647;
+    for edge in [
+        0,
+        1,
+        65_520,
+        65_521,
+        65_536,
+        prime - 1,
+        prime,
+        4_294_967_295,
+    ] {
+        let has = |desk: &Desk| desk.width == Wide && desk.coefs.contains(&edge);
+        assert!(times(has) >= 10, "wide {edge}");
     }
     for t in 1..=3 {
         let least = times(|desk| desk.t == t && desk.n == 4 * t + 1);
@@ -77,7 +138,7 @@ fn desks_of_every_sort() {
 /// For whom a party is made, with a table or without: n, t and i.
 fn made_for() -> Vec<(usize, usize, usize)> {
     let numbers = |step: &Step| match step.call {
-        Call::Make(n, t, i) | Call::MakeWith(n, t, i, _) => Some((n, t, i)),
+        Call::Make(_, n, t, i) | Call::MakeWith(_, n, t, i, _) => Some((n, t, i)),
         _ => None,
     };
     steps().iter().filter_map(numbers).collect()
@@ -104,6 +165,11 @@ fn wide_numbers_come() {
     // One of the two wide, the other right.
     assert!(made(&|n, t, _| (261..=272).contains(&n) && (1..=3).contains(&t)) >= 2);
     assert!(made(&|n, t, _| (5..=16).contains(&n) && (257..=259).contains(&t)) >= 2);
+    // Above 65,535, and right to a reader of 16 bits.
+    let sly = |n: usize, t: usize| n + t > 65_536 && legal_size(n % 65_536, t % 65_536);
+    assert!(made(&|n, t, _| sly(n, t)) >= 2 && times(|desk| sly(desk.n, desk.t)) >= 2);
+    assert!(made(&|n, _, i| n <= 16 && (65_537..=65_552).contains(&i)) >= 2);
+    assert!(made(&|n, _, _| n == 4_294_967_295) >= 2);
 }
 
 // ---- what was never met ----
@@ -124,14 +190,15 @@ fn every_answer_is_listed() {
         assert!(listed.1.contains(answer), "{name} {answer}");
     }
     let listed: usize = ANSWERS.iter().map(|(_, answers)| answers.len()).sum();
-    assert_eq!((listed, counts.len()), (50, 50));
+    assert_eq!((listed, counts.len()), (106, 106));
 }
 
 /// So a list is answered the same wherever it stands in a stream.
 #[test]
 fn every_list_begins_with_a_making() {
     for list in random_lists(1, 1000) {
-        assert!(call_name(&list[0].call).starts_with("make"));
+        let name = call_name(&list[0].call);
+        assert!(name.starts_with("make") || name.starts_with("wide-make"));
         assert!(list.len() > 2);
     }
 }

@@ -19,6 +19,7 @@ mod lists;
 mod lists_tests;
 mod make;
 mod named;
+mod named_wide;
 mod outcome;
 mod party;
 mod poly;
@@ -51,6 +52,10 @@ mod story_stations_tests;
 mod story_tables;
 #[cfg(test)]
 mod story_tables_tests;
+mod story_wide;
+#[cfg(test)]
+mod story_wide_tests;
+mod story_widths;
 mod tables;
 #[cfg(test)]
 mod tables_tests;
@@ -58,6 +63,8 @@ mod tamper_deals;
 mod tamper_sent;
 #[cfg(test)]
 mod tests;
+#[cfg(test)]
+mod wide_tests;
 mod wire;
 #[cfg(test)]
 mod wire_tests;

@@ -1,6 +1,7 @@
 //! Random records of every kind, as bytes and as files.
 
-use crate::record::{head, lengths, write, HEAD};
+use crate::field::Width;
+use crate::record::{head, lengths, write, Record, HEAD};
 use crate::rng::Rng;
 use crate::scenario::{
     build, legal_size, Plan, DEAL_FAULTS, HONEST, PAIR_FAULTS, REPORT_FAULTS, SHARE_FAULTS,
@@ -23,9 +24,14 @@ pub enum Kind {
     RandomBytes,
     Directory,
     BadSize,
+    /// Head, directory and sections of two widths.
+    TwoWidths,
 }
 
-/// Each kind as often as it stands here.
+/// So many of a hundred records have head, directory and sections of two widths.
+const TWO_WIDTHS: usize = 4;
+
+/// Each other kind as often as it stands here.
 const KINDS: [Kind; 21] = [
     Kind::Honest,
     Kind::FewLiars,
@@ -96,19 +102,29 @@ fn mixed_plan(rng: &mut Rng, n: usize) -> Plan {
     plan
 }
 
-/// One random record.
+/// One random record: of three, one is wide.
 pub fn random_record(rng: &mut Rng) -> (Kind, Vec<u8>) {
+    let width = rng.width();
+    if rng.chance(TWO_WIDTHS) {
+        return (Kind::TwoWidths, two_widths(rng, width));
+    }
+    random_record_of(rng, width)
+}
+
+/// One random record of a width.
+pub fn random_record_of(rng: &mut Rng, width: Width) -> (Kind, Vec<u8>) {
     let kind = rng.pick(&KINDS);
     let bytes = match kind {
-        Kind::RandomBytes => random_bytes(rng),
-        Kind::BadSize => bad_size(rng),
+        Kind::RandomBytes => random_bytes(rng, width),
+        Kind::BadSize => bad_size(rng, width),
         _ => {
             let (n, t) = legal_size(rng);
             let plan = plan(rng, kind, n, t);
-            let mut bytes = write(&build(rng, n, t, plan).record);
+            let record = build(rng, width, n, t, plan).record;
+            let mut bytes = write(&record);
             match kind {
-                Kind::Sections => garble_sections(rng, &mut bytes, n, t),
-                Kind::Directory => damage(rng, &mut bytes, n, t),
+                Kind::Sections => garble_sections(rng, &mut bytes, &record),
+                Kind::Directory => damage(rng, &mut bytes, &record),
                 _ => {}
             }
             bytes
@@ -117,11 +133,29 @@ pub fn random_record(rng: &mut Rng) -> (Kind, Vec<u8>) {
     (kind, bytes)
 }
 
+/// An honest record in which the first byte tells the other width; or the
+/// directory does, over the sections as they were or over zeros of the lengths
+/// it says; or both do.
+fn two_widths(rng: &mut Rng, width: Width) -> Vec<u8> {
+    let (n, t) = legal_size(rng);
+    let bytes = write(&build(rng, width, n, t, HONEST).record);
+    let sections = lengths(width.other(), n, t);
+    let own = head(width, n, t, sections);
+    let other = head(width.other(), n, t, sections);
+    let zeros = vec![0; sections.iter().sum()];
+    match rng.below(4) {
+        0 => [&other[..1], &bytes[1..]].concat(),
+        1 => [&own[..], &bytes[HEAD..]].concat(),
+        2 => [&own[..], &zeros].concat(),
+        _ => [&other[..], &bytes[HEAD..]].concat(),
+    }
+}
+
 /// Random bytes into one or more sections. The directory stays right.
-fn garble_sections(rng: &mut Rng, bytes: &mut [u8], n: usize, t: usize) {
+fn garble_sections(rng: &mut Rng, bytes: &mut [u8], record: &Record) {
     let percent = rng.between(20, 100);
     let mut start = HEAD;
-    for length in lengths(n, t) {
+    for length in lengths(record.width, record.n, record.t) {
         if rng.chance(percent) {
             bytes[start..start + length].fill_with(|| rng.byte());
         }
@@ -131,15 +165,15 @@ fn garble_sections(rng: &mut Rng, bytes: &mut [u8], n: usize, t: usize) {
 
 /// Random bytes of random length; sometimes a legal size or even a right
 /// head stands before them.
-fn random_bytes(rng: &mut Rng) -> Vec<u8> {
+fn random_bytes(rng: &mut Rng, width: Width) -> Vec<u8> {
     let limit = rng.pick(&[3, 20, 100, 1500]);
     let count = rng.below(limit);
     let mut bytes: Vec<u8> = (0..count).map(|_| rng.byte()).collect();
     let (n, t) = legal_size(rng);
     let right = match rng.below(3) {
         0 => Vec::new(),
-        1 => vec![n as u8, t as u8],
-        _ => head(n, t, lengths(n, t)),
+        1 => vec![n as u8 + width.mark(), t as u8],
+        _ => head(width, n, t, lengths(width, n, t)),
     };
     for (byte, put) in bytes.iter_mut().zip(right) {
         *byte = put;
@@ -147,9 +181,11 @@ fn random_bytes(rng: &mut Rng) -> Vec<u8> {
     bytes
 }
 
-/// A well-shaped record, but of a size that is not allowed.
-fn bad_size(rng: &mut Rng) -> Vec<u8> {
-    let any = (rng.between(17, 255), rng.below(256));
+/// A well-shaped record, but of a size that is not allowed. From 128 up a first
+/// byte tells that the record is wide, so there are fewer wide ones.
+fn bad_size(rng: &mut Rng, width: Width) -> Vec<u8> {
+    let largest = 255 - usize::from(width.mark());
+    let any = (rng.between(17, largest), rng.below(256));
     let (n, t) = rng.pick(&[
         (4, 1),
         (8, 2),
@@ -164,12 +200,12 @@ fn bad_size(rng: &mut Rng) -> Vec<u8> {
         (0, 0),
         (0, 1),
         (1, 1),
-        (255, 3),
+        (largest, 3),
         (16, 255),
         any,
     ]);
-    let sections = lengths(n, t);
-    let mut bytes = head(n, t, sections);
+    let sections = lengths(width, n, t);
+    let mut bytes = head(width, n, t, sections);
     let total = sections.iter().sum::<usize>().min(4000);
     bytes.extend((0..total).map(|_| rng.byte()));
     if rng.chance(20) {
@@ -181,7 +217,7 @@ fn bad_size(rng: &mut Rng) -> Vec<u8> {
 
 // ---- damage to head and length ----
 
-fn damage(rng: &mut Rng, bytes: &mut Vec<u8>, n: usize, t: usize) {
+fn damage(rng: &mut Rng, bytes: &mut Vec<u8>, record: &Record) {
     match rng.below(12) {
         0 | 1 => off_by_one(rng, bytes),
         2 => any_number(rng, bytes),
@@ -197,7 +233,7 @@ fn damage(rng: &mut Rng, bytes: &mut Vec<u8>, n: usize, t: usize) {
         }
         _ => {
             let order = rng.some_of(4, 4);
-            *bytes = reordered(bytes, n, t, [order[0], order[1], order[2], order[3]]);
+            *bytes = reordered(bytes, record, [order[0], order[1], order[2], order[3]]);
         }
     }
 }
@@ -301,11 +337,12 @@ pub fn swap_entries(bytes: &mut [u8], a: usize, b: usize) {
 }
 
 /// The record with its sections (1 to 4) in another order, and a directory
-/// that says so. If only the last two, of equal length, change places, the
-/// record stays a right one with other contents.
-pub fn reordered(bytes: &[u8], n: usize, t: usize, order: [usize; 4]) -> Vec<u8> {
-    let sections = lengths(n, t);
-    let mut changed = head(n, t, order.map(|k| sections[k - 1]));
+/// that says so. If only the last two, in a narrow record of equal length,
+/// change places, it stays a right one with other contents.
+pub fn reordered(bytes: &[u8], record: &Record, order: [usize; 4]) -> Vec<u8> {
+    let Record { width, n, t, .. } = *record;
+    let sections = lengths(width, n, t);
+    let mut changed = head(width, n, t, order.map(|k| sections[k - 1]));
     for k in order {
         let start = HEAD + sections[..k - 1].iter().sum::<usize>();
         changed.extend(&bytes[start..start + sections[k - 1]]);

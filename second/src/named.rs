@@ -1,7 +1,8 @@
 //! Sharings made by hand, each for one thing that can go wrong. Where not
 //! said otherwise n = 5, t = 1 and F is that of the example.
 
-use crate::field::{add, NOT_SENT, P};
+use crate::field::Width::{self, Narrow};
+use crate::field::{NOT_SENT, P};
 use crate::record::{pair_place, Record};
 use crate::rng::Rng;
 use crate::scenario::{
@@ -9,18 +10,24 @@ use crate::scenario::{
 };
 
 /// F = 7 + 3X + 2Y + 4XY: place u(t+1)+v holds the coefficient of X^u Y^v.
-pub const F: [u16; 4] = [7, 2, 3, 4];
+pub const F: [u32; 4] = [7, 2, 3, 4];
 
 pub type Named = (String, Record);
 
 // ---- pieces ----
 
-/// The all-honest sharing of a dealer's list.
-pub fn honest(n: usize, t: usize, coefs: &[u16]) -> Record {
+/// The all-honest narrow sharing of a dealer's list.
+pub fn honest(n: usize, t: usize, coefs: &[u32]) -> Record {
+    honest_of(Narrow, n, t, coefs)
+}
+
+/// That of a width.
+pub fn honest_of(width: Width, n: usize, t: usize, coefs: &[u32]) -> Record {
     let record = Record {
+        width,
         n,
         t,
-        deals: honest_deals(n, t, coefs),
+        deals: honest_deals(width, n, t, coefs),
         pairs: vec![0; 2 * n * n],
         reports: vec![0; n],
         shares: vec![0; n],
@@ -39,19 +46,24 @@ fn five() -> Record {
 
 /// An honest sharing of some list, the same every time.
 fn any(n: usize, t: usize) -> Record {
+    any_of(Narrow, n, t)
+}
+
+/// That of a width.
+pub fn any_of(width: Width, n: usize, t: usize) -> Record {
     let mut rng = Rng::new((100 * n + t) as u64);
-    let coefs: Vec<u16> = (0..(t + 1) * (t + 1)).map(|_| rng.element()).collect();
-    honest(n, t, &coefs)
+    let coefs: Vec<u32> = (0..(t + 1) * (t + 1)).map(|_| rng.element(width)).collect();
+    honest_of(width, n, t, &coefs)
 }
 
 /// The record changed, and nothing following from it.
-fn with(mut record: Record, change: impl FnOnce(&mut Record)) -> Record {
+pub fn with(mut record: Record, change: impl FnOnce(&mut Record)) -> Record {
     change(&mut record);
     record
 }
 
 /// The pairs changed; reports and shares are then those of honest parties.
-fn following(record: Record, change: impl FnOnce(&mut Record)) -> Record {
+pub fn following(record: Record, change: impl FnOnce(&mut Record)) -> Record {
     let mut record = with(record, change);
     follow_reports(&mut record);
     follow_shares(&mut record);
@@ -59,44 +71,44 @@ fn following(record: Record, change: impl FnOnce(&mut Record)) -> Record {
 }
 
 /// The deals changed; all the rest is then that of honest parties.
-fn all_following(record: Record, change: impl FnOnce(&mut Record)) -> Record {
+pub fn all_following(record: Record, change: impl FnOnce(&mut Record)) -> Record {
     let mut record = with(record, change);
     follow_pairs(&mut record);
     following(record, |_| {})
 }
 
 /// The first number that the receiver hears from the sender.
-fn first(record: &mut Record, receiver: usize, sender: usize) -> &mut u16 {
+pub fn first(record: &mut Record, receiver: usize, sender: usize) -> &mut u32 {
     let place = pair_place(record.n, receiver, sender);
     &mut record.pairs[place]
 }
 
 /// The second one.
-fn second(record: &mut Record, receiver: usize, sender: usize) -> &mut u16 {
+pub fn second(record: &mut Record, receiver: usize, sender: usize) -> &mut u32 {
     let place = pair_place(record.n, receiver, sender) + 1;
     &mut record.pairs[place]
 }
 
 /// A sent number made another one.
-fn off(number: &mut u16) {
-    *number = add((*number).into(), 1) as u16;
+pub fn off(width: Width, number: &mut u32) {
+    *number = width.add((*number).into(), 1) as u32;
 }
 
 /// The receiver hears a wrong second number, so that it reports a zero for
 /// the sender; a repair, which uses first numbers, is not touched.
 fn doubt(record: &mut Record, receiver: usize, sender: usize) {
-    off(second(record, receiver, sender));
+    off(record.width, second(record, receiver, sender));
 }
 
 /// Both doubt each other, for each pair of parties given.
-fn part(record: &mut Record, edges: &[(usize, usize)]) {
+pub fn part(record: &mut Record, edges: &[(usize, usize)]) {
     for &(a, b) in edges {
         doubt(record, a, b);
         doubt(record, b, a);
     }
 }
 
-fn named(name: &str, record: Record) -> Named {
+pub fn named(name: &str, record: Record) -> Named {
     (name.to_string(), record)
 }
 
@@ -162,7 +174,7 @@ pub fn openings() -> Vec<Named> {
         .map(|(n, t, count)| {
             let record = with(any(n, t), |r| {
                 // Spread over the list, the last place among them.
-                (0..count).for_each(|k| off(&mut r.shares[n - 1 - 3 * k]));
+                (0..count).for_each(|k| off(r.width, &mut r.shares[n - 1 - 3 * k]));
             });
             (format!("open-{n:02}-{t}-wrong-{count}"), record)
         })
@@ -197,17 +209,17 @@ pub fn seven() -> Vec<Named> {
 
 /// Every number of every section the same.
 fn fill(record: &mut Record, number: u16) {
-    record.deals.fill(number);
-    record.pairs.fill(number);
+    record.deals.fill(number.into());
+    record.pairs.fill(number.into());
     record.reports.fill(number);
-    record.shares.fill(number);
+    record.shares.fill(number.into());
 }
 
 /// Party 5 is unhappy and hears two wrong first numbers from happy ones.
 fn two_lies() -> Record {
     following(five(), |r| {
         part(r, &[(4, 5)]);
-        off(first(r, 5, 2));
+        off(r.width, first(r, 5, 2));
         *first(r, 5, 3) = 0;
     })
 }
@@ -229,21 +241,28 @@ pub fn nine() -> Vec<Named> {
         named("lamp-9-two-not-sent", not_sent(&[1, 2])),
         named("repair-one-not-sent", not_sent(&[3])),
         // Sixteen parties would bear more lies, but t is 1.
-        named("lamp-9-two-lies-of-15", lies_to_last(16, 1, &[3, 8])),
-        named("repair-one-lie-of-15", lies_to_last(16, 1, &[3])),
-        named("lamp-9-three-lies-t2", lies_to_last(9, 2, &[1, 4, 7])),
-        named("repair-two-lies-t2", lies_to_last(9, 2, &[1, 7])),
-        named("lamp-9-four-lies-t3", lies_to_last(16, 3, &[1, 2, 3, 15])),
-        named("repair-three-lies-t3", lies_to_last(16, 3, &[1, 2, 15])),
+        named("lamp-9-two-lies-of-15", lies_to_last(any(16, 1), &[3, 8])),
+        named("repair-one-lie-of-15", lies_to_last(any(16, 1), &[3])),
+        named("lamp-9-three-lies-t2", lies_to_last(any(9, 2), &[1, 4, 7])),
+        named("repair-two-lies-t2", lies_to_last(any(9, 2), &[1, 7])),
+        named(
+            "lamp-9-four-lies-t3",
+            lies_to_last(any(16, 3), &[1, 2, 3, 15]),
+        ),
+        named(
+            "repair-three-lies-t3",
+            lies_to_last(any(16, 3), &[1, 2, 15]),
+        ),
     ]
 }
 
 /// The last party hears wrong first numbers from the given senders. It
 /// doubts all others, so it alone is unhappy.
-fn lies_to_last(n: usize, t: usize, senders: &[usize]) -> Record {
-    following(any(n, t), |r| {
+pub fn lies_to_last(record: Record, senders: &[usize]) -> Record {
+    let n = record.n;
+    following(record, |r| {
         (1..n).for_each(|j| doubt(r, n, j));
-        senders.iter().for_each(|&j| off(first(r, n, j)));
+        senders.iter().for_each(|&j| off(r.width, first(r, n, j)));
     })
 }
 
@@ -277,7 +296,9 @@ pub fn unsound() -> Vec<Named> {
         ),
         named(
             "unsound-all",
-            all_following(five(), |r| (0..5).for_each(|i| off(&mut r.deals[4 * i]))),
+            all_following(five(), |r| {
+                (0..5).for_each(|i| off(r.width, &mut r.deals[4 * i]))
+            }),
         ),
     ]
 }
@@ -290,7 +311,7 @@ fn blind_trap() -> Record {
         let value = |half: usize| {
             let place = 4 * (sender - 1) + 2 * half;
             let (constant, slope) = (record.deals[place], record.deals[place + 1]);
-            ((u64::from(constant) + u64::from(slope) * receiver as u64) % P) as u16
+            ((u64::from(constant) + u64::from(slope) * receiver as u64) % P) as u32
         };
         let (row_at, column_at) = (value(0), value(1));
         *first(&mut record, receiver, sender) = row_at;
@@ -306,8 +327,8 @@ fn blind_trap() -> Record {
 /// what it holds. Its report must be 0 all the same.
 fn heard_alike() -> Record {
     following(five(), |r| {
-        off(&mut r.deals[16]);
-        (1..5).for_each(|j| off(second(r, 5, j)));
+        off(r.width, &mut r.deals[16]);
+        (1..5).for_each(|j| off(r.width, second(r, 5, j)));
     })
 }
 
@@ -343,7 +364,7 @@ pub fn agreements() -> Vec<Named> {
 fn own_pairs(record: &mut Record) {
     for i in 1..=5 {
         // F(i,i), both by row and by column.
-        let own = (7 + 5 * i + 4 * i * i) as u16;
+        let own = (7 + 5 * i + 4 * i * i) as u32;
         *first(record, i, i) = own;
         *second(record, i, i) = own;
     }
@@ -396,14 +417,14 @@ pub fn repairs() -> Vec<Named> {
         named(
             "repair-seconds-on-a-line",
             following(five(), |r| {
-                (1..5).for_each(|j| *second(r, 5, j) = 1000 + j as u16)
+                (1..5).for_each(|j| *second(r, 5, j) = 1000 + j as u32)
             }),
         ),
         // First numbers do; the repair has to believe them.
         named(
             "repair-firsts-on-a-line",
             following(five(), |r| {
-                (1..5).for_each(|j| *first(r, 5, j) = 1000 + j as u16)
+                (1..5).for_each(|j| *first(r, 5, j) = 1000 + j as u32)
             }),
         ),
         named("repair-happy-alone", happy_alone()),
@@ -417,7 +438,7 @@ fn happy_alone() -> Record {
     following(any(9, 2), |r| {
         part(r, &[(8, 1), (8, 9)]);
         for j in [1, 2, 8] {
-            off(first(r, 9, j));
+            off(r.width, first(r, 9, j));
         }
     })
 }
@@ -425,7 +446,7 @@ fn happy_alone() -> Record {
 /// Party 5's deal is of another polynomial, sound in itself: it is unhappy,
 /// and its dealt column is set aside.
 fn foreign_deal() -> Record {
-    let other = honest_deals(5, 1, &[1, 20, 300, 4000]);
+    let other = honest_deals(Narrow, 5, 1, &[1, 20, 300, 4000]);
     all_following(five(), |r| r.deals[16..].copy_from_slice(&other[16..]))
 }
 
@@ -438,12 +459,12 @@ pub fn edges() -> Vec<Named> {
         named("edge-everywhere-65520", honest(5, 1, &[65_520, 0, 0, 0])),
         named(
             "edge-coefficients-65520",
-            honest(13, 3, &[(P - 1) as u16; 16]),
+            honest(13, 3, &[(P - 1) as u32; 16]),
         ),
         named("edge-report-65520", with(five(), |r| r.reports[1] = 65_520)),
     ];
     for number in [65_521, NOT_SENT] {
-        let base = honest(5, 1, &[number - P as u16, 0, 0, 0]);
+        let base = honest(5, 1, &[number - P as u32, 0, 0, 0]);
         let share = with(base.clone(), |r| r.shares[1] = number);
         let two_shares = with(share.clone(), |r| r.shares[3] = number);
         list.extend(
@@ -458,7 +479,7 @@ pub fn edges() -> Vec<Named> {
                     "second",
                     following(base.clone(), |r| *second(r, 2, 3) = number),
                 ),
-                ("report", with(base, |r| r.reports[1] = number)),
+                ("report", with(base, |r| r.reports[1] = number as u16)),
                 ("share", share),
                 ("two-shares", two_shares),
             ]
@@ -486,21 +507,25 @@ pub fn liars() -> Vec<Named> {
         .map(|k| {
             (
                 format!("liars-16-3-no-{k}"),
-                build(&mut rng, 16, 3, plan).record,
+                build(&mut rng, Narrow, 16, 3, plan).record,
             )
         })
         .collect();
-    list.push(named("liars-16-3-silent", silent(&[1, 9, 16])));
-    list.push(named("liars-16-3-four-silent", silent(&[1, 8, 9, 16])));
+    list.push(named("liars-16-3-silent", silent(Narrow, &[1, 9, 16])));
+    list.push(named(
+        "liars-16-3-four-silent",
+        silent(Narrow, &[1, 8, 9, 16]),
+    ));
     list
 }
 
 /// The given parties say nothing, report nothing and publish nothing.
-fn silent(parties: &[usize]) -> Record {
-    let record = with(any(16, 3), |r| {
+pub fn silent(width: Width, parties: &[usize]) -> Record {
+    let not_sent = width.not_sent();
+    let record = with(any_of(width, 16, 3), |r| {
         for &j in parties {
-            (1..=16).for_each(|i| *first(r, i, j) = NOT_SENT);
-            (1..=16).for_each(|i| *second(r, i, j) = NOT_SENT);
+            (1..=16).for_each(|i| *first(r, i, j) = not_sent);
+            (1..=16).for_each(|i| *second(r, i, j) = not_sent);
         }
     });
     let mut record = following(record, |_| {});
@@ -508,7 +533,7 @@ fn silent(parties: &[usize]) -> Record {
     follow_shares(&mut record);
     parties
         .iter()
-        .for_each(|&j| record.shares[j - 1] = NOT_SENT);
+        .for_each(|&j| record.shares[j - 1] = not_sent);
     record
 }
 

@@ -1,7 +1,13 @@
-//! The kinds of outcome that a record's text shows, to be counted.
+//! The kinds of outcome that a record's text shows, to be counted for narrow and
+//! for wide records apart.
 
-/// Every kind, in the order of the lines.
-pub const OUTCOMES: [&str; 12] = [
+use crate::field::Width;
+
+/// How many kinds there are for each width.
+const OF_WIDTH: usize = 12;
+
+/// Every kind, in the order of the lines; first those of narrow records.
+pub const OUTCOMES: [&str; 2 * OF_WIDTH] = [
     "record refused 1",
     "record refused 6",
     "dealer accepted",
@@ -14,6 +20,18 @@ pub const OUTCOMES: [&str; 12] = [
     "opened",
     "opened refused 8",
     "opened refused 10",
+    "wide record refused 1",
+    "wide record refused 6",
+    "wide dealer accepted",
+    "wide dealer rejected",
+    "wide lamp share, happy",
+    "wide lamp share, repaired",
+    "wide lamp refused 7",
+    "wide lamp refused 8",
+    "wide lamp refused 9",
+    "wide opened",
+    "wide opened refused 8",
+    "wide opened refused 10",
 ];
 
 /// How often each kind was met.
@@ -32,9 +50,13 @@ fn kind_of(line: &str, happy: &[&str]) -> String {
     }
 }
 
-/// Adds the outcomes of a text. The lines of size and of happy lamps are
-/// none.
-pub fn count(counts: &mut Counts, text: &str) {
+/// Adds the outcomes of a record's text. The lines of size and of happy lamps
+/// are none. A record is wide if its first byte says so.
+pub fn count(counts: &mut Counts, record: &[u8], text: &str) {
+    let first = match record.first().map(|&byte| Width::of_byte(byte)) {
+        Some(Width::Wide) => OF_WIDTH,
+        _ => 0,
+    };
     let happy: Vec<&str> = text
         .lines()
         .filter(|line| line.starts_with("happy "))
@@ -42,8 +64,9 @@ pub fn count(counts: &mut Counts, text: &str) {
         .collect();
     for line in text.lines() {
         let kind = kind_of(line, &happy);
-        if let Some(k) = OUTCOMES.iter().position(|&name| name == kind) {
-            counts[k] += 1;
+        let kinds = &OUTCOMES[..OF_WIDTH];
+        if let Some(k) = kinds.iter().position(|&name| name == kind) {
+            counts[first + k] += 1;
         }
     }
 }

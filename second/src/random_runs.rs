@@ -2,12 +2,13 @@
 //! are made and go from their deal to an opening. Liars are not called; what
 //! they send stands in the others' lists. About half of the runs have a table.
 
-use crate::calls::{step, Call, Desk, Step};
+use crate::calls::{of_other_width, step, Call, Desk, Step};
 use crate::clique::verdict;
 use crate::desk_calls::random_desk_call;
+use crate::field::Width;
 use crate::lies::wrong;
 use crate::party::Party;
-use crate::record::pair_place;
+use crate::record::{pair_place, Record};
 use crate::rng::Rng;
 use crate::scenario::{build, build_on, legal_size, DealFault, PairFault, Plan, Scenario, HONEST};
 use crate::tables::good_table;
@@ -16,25 +17,30 @@ use crate::tables::good_table;
 const CALLED: usize = 3;
 
 /// A run as steps. It begins with a making, as every list does; the desk comes
-/// next, and now and then once more in between.
-pub fn random_run(rng: &mut Rng) -> Vec<Step> {
+/// next, and now and then once more in between. Now and then a call comes for
+/// the other prime first, which must change nothing.
+pub fn random_run(rng: &mut Rng, width: Width) -> Vec<Step> {
     let (n, t) = legal_size(rng);
     let plan = random_plan(rng, t);
-    let table = rng.chance(55).then(|| good_table(rng, n));
+    let table = rng.chance(55).then(|| good_table(rng, width, n));
     let world = match &table {
-        Some(table) => build_on(rng, table, t, plan),
-        None => build(rng, n, t, plan),
+        Some(table) => build_on(rng, width, table, t, plan),
+        None => build(rng, width, n, t, plan),
     };
     let mut calls = Vec::new();
     for i in called(&world) {
         calls.extend(party_calls(rng, &world, table.as_deref(), i));
     }
     calls.insert(1, desk_call(&world, table.as_deref()));
-    let mut party = Party::make(0, 0, 0).0;
+    let mut party = Party::make(width, 0, 0, 0).0;
     let mut steps = Vec::new();
     for call in calls {
         if !steps.is_empty() && rng.chance(8) {
             steps.push(step(&mut party, random_desk_call(rng)));
+        }
+        let other = of_other_width(call.clone());
+        if other != call && rng.chance(8) {
+            steps.push(step(&mut party, other));
         }
         steps.push(step(&mut party, call));
     }
@@ -82,9 +88,10 @@ fn called(world: &Scenario) -> Vec<usize> {
     honest
 }
 
-fn desk_call(world: &Scenario, table: Option<&[u16]>) -> Call {
+fn desk_call(world: &Scenario, table: Option<&[u32]>) -> Call {
     let (n, t) = (world.record.n, world.record.t);
     let desk = Desk {
+        width: world.record.width,
         n,
         t,
         room: 2 * n * (t + 1),
@@ -98,28 +105,28 @@ fn desk_call(world: &Scenario, table: Option<&[u16]>) -> Call {
 
 /// Party i from its making to two openings, the second with one more number
 /// wrong, and some of its pairs on the way.
-fn party_calls(rng: &mut Rng, world: &Scenario, table: Option<&[u16]>, i: usize) -> Vec<Call> {
+fn party_calls(rng: &mut Rng, world: &Scenario, table: Option<&[u32]>, i: usize) -> Vec<Call> {
     let record = &world.record;
-    let (n, t) = (record.n, record.t);
-    let width = 2 * (t + 1);
+    let Record { width, n, t, .. } = *record;
+    let length = 2 * (t + 1);
     let start = pair_place(n, i, 1);
     let mut shares = record.shares.clone();
     let place = rng.below(n);
-    shares[place] = wrong(rng, shares[place]);
+    shares[place] = wrong(rng, width, shares[place]);
     let mut calls = vec![
         match table {
-            Some(table) => Call::MakeWith(n, t, i, table.to_vec()),
-            None => Call::Make(n, t, i),
+            Some(table) => Call::MakeWith(width, n, t, i, table.to_vec()),
+            None => Call::Make(width, n, t, i),
         },
-        Call::Deal(record.deals[(i - 1) * width..i * width].to_vec()),
+        Call::Deal(width, record.deals[(i - 1) * length..i * length].to_vec()),
     ];
     calls.extend(rng.some_of(n, 3).into_iter().map(Call::Say));
     calls.extend([
-        Call::Hear(record.pairs[start..start + 2 * n].to_vec()),
+        Call::Hear(width, record.pairs[start..start + 2 * n].to_vec()),
         Call::Settle(record.reports.clone()),
         Call::Say(rng.between(1, n)),
-        Call::Open(record.shares.clone()),
-        Call::Open(shares),
+        Call::Open(width, record.shares.clone()),
+        Call::Open(width, shares),
     ]);
     calls
 }

@@ -1,6 +1,6 @@
 //! Seeded random numbers (splitmix64), so that a seed always gives the same.
 
-use crate::field::P;
+use crate::field::{Width, P, WIDE_P};
 
 pub struct Rng(u64);
 
@@ -44,19 +44,53 @@ impl Rng {
         self.next() as u8
     }
 
+    /// A width: of three, one is wide.
+    pub fn width(&mut self) -> Width {
+        self.pick(&[Width::Narrow, Width::Narrow, Width::Wide])
+    }
+
+    /// Any number of the width.
+    pub fn number(&mut self, width: Width) -> u32 {
+        width.cut(self.next() as u32)
+    }
+
     /// A field element.
-    pub fn element(&mut self) -> u16 {
-        self.below(P as usize) as u16
+    pub fn element(&mut self, width: Width) -> u32 {
+        self.below(width.prime() as usize) as u32
     }
 
     /// A field element other than 0.
-    pub fn unit(&mut self) -> u16 {
-        self.between(1, P as usize - 1) as u16
+    pub fn unit(&mut self, width: Width) -> u32 {
+        self.between(1, width.prime() as usize - 1) as u32
     }
 
-    /// A number that means "not sent", mostly not the customary one.
-    pub fn not_sent(&mut self) -> u16 {
-        self.between(P as usize, 65_535) as u16
+    /// A number that means "not sent", mostly not the customary one. Of the
+    /// many wide ones the first and the last come often.
+    pub fn not_sent(&mut self, width: Width) -> u32 {
+        let (first, last) = (width.prime() as usize, width.not_sent() as usize);
+        let number = match width {
+            Width::Narrow => self.between(first, last),
+            Width::Wide => match self.below(3) {
+                0 => self.between(first, first + 3),
+                1 => self.between(last - 3, last),
+                _ => self.between(first, last),
+            },
+        };
+        number as u32
+    }
+
+    /// A number at an edge: "not sent", or just below. Wide ones lie also
+    /// around what would be an edge to a narrow reader.
+    pub fn edge(&mut self, width: Width) -> u32 {
+        let number = match width {
+            Width::Narrow => self.between(P as usize - 1, 65_535),
+            Width::Wide => match self.below(4) {
+                0 => self.between(P as usize - 1, 65_537),
+                1 => self.between(WIDE_P as usize - 2, WIDE_P as usize + 1),
+                _ => return self.not_sent(width),
+            },
+        };
+        number as u32
     }
 
     /// `count` different numbers from 1 to n, in random order.

@@ -6,7 +6,7 @@
 //! faults reach the verdict, the repair and the opening instead of ending
 //! in refusal 7.
 
-use crate::field::{add, mul, P};
+use crate::field::Width;
 use crate::follow;
 use crate::lies::{lie_in_pairs, lie_in_reports, lie_in_shares};
 use crate::record::Record;
@@ -18,9 +18,9 @@ use crate::tamper_sent::{tamper_pairs, tamper_reports, tamper_shares};
 pub struct Scenario {
     pub record: Record,
     /// The parties' points.
-    pub table: Vec<u16>,
+    pub table: Vec<u32>,
     /// The dealer's list.
-    pub coefs: Vec<u16>,
+    pub coefs: Vec<u32>,
     /// The parties that lie.
     pub faulty: Vec<usize>,
 }
@@ -36,7 +36,7 @@ pub enum DealFault {
     Sly,
     /// The own-crossing trap: t+2 parties agree, two deals are unsound.
     Crossing,
-    /// Numbers at and above 65,521, and just below.
+    /// Numbers at and above the prime, and just below.
     Large,
     Garbage,
 }
@@ -139,19 +139,20 @@ pub fn legal_size(rng: &mut Rng) -> (usize, usize) {
 }
 
 /// Builds a sharing after a plan, with the points 1 to n.
-pub fn build(rng: &mut Rng, n: usize, t: usize, plan: Plan) -> Scenario {
-    build_on(rng, &one_to(n), t, plan)
+pub fn build(rng: &mut Rng, width: Width, n: usize, t: usize, plan: Plan) -> Scenario {
+    build_on(rng, width, &one_to(n), t, plan)
 }
 
 /// Builds a sharing after a plan, with the points of a table.
-pub fn build_on(rng: &mut Rng, table: &[u16], t: usize, plan: Plan) -> Scenario {
+pub fn build_on(rng: &mut Rng, width: Width, table: &[u32], t: usize, plan: Plan) -> Scenario {
     let n = table.len();
-    let coefs = polynomial(rng, t);
+    let coefs = polynomial(rng, width, t);
     let faulty = rng.some_of(n, plan.liars);
     let mut record = Record {
+        width,
         n,
         t,
-        deals: follow::deals(table, t, &coefs),
+        deals: follow::deals(width, table, t, &coefs),
         pairs: vec![0; 2 * n * n],
         reports: vec![0; n],
         shares: vec![0; n],
@@ -177,32 +178,38 @@ pub fn build_on(rng: &mut Rng, table: &[u16], t: usize, plan: Plan) -> Scenario 
 // ---- the dealer's list ----
 
 /// A dealer's list for t.
-pub fn polynomial(rng: &mut Rng, t: usize) -> Vec<u16> {
-    coefficients(rng, (t + 1) * (t + 1))
+pub fn polynomial(rng: &mut Rng, width: Width, t: usize) -> Vec<u32> {
+    coefficients(rng, width, (t + 1) * (t + 1))
 }
 
 /// At least one coefficient: mostly random, sometimes at the edges of the
 /// field.
-pub fn coefficients(rng: &mut Rng, length: usize) -> Vec<u16> {
+pub fn coefficients(rng: &mut Rng, width: Width, length: usize) -> Vec<u32> {
+    let last = width.prime() as u32 - 1;
+    let edges: &[u32] = match width {
+        Width::Narrow => &[0, 1, 65_520],
+        Width::Wide => &[0, 1, 65_520, 65_521, 65_535, 65_536, 2_147_483_646],
+    };
     let style = rng.below(10);
-    let mut coefs: Vec<u16> = (0..length)
+    let mut coefs: Vec<u32> = (0..length)
         .map(|_| match style {
             0 => 0,
-            1 => (P - 1) as u16,
-            2 => rng.pick(&[0, 1, (P - 1) as u16]),
-            3 => rng.below(10) as u16,
-            _ => rng.element(),
+            1 => last,
+            2 => rng.pick(edges),
+            3 => rng.below(10) as u32,
+            _ => rng.element(width),
         })
         .collect();
     if rng.chance(10) {
-        coefs[0] = rng.pick(&[0, 1, (P - 1) as u16]);
+        coefs[0] = rng.pick(edges);
     }
     coefs
 }
+
 // ---- the honest steps with the points 1 to n, which a record has ----
 
-pub fn honest_deals(n: usize, t: usize, coefs: &[u16]) -> Vec<u16> {
-    follow::deals(&one_to(n), t, coefs)
+pub fn honest_deals(width: Width, n: usize, t: usize, coefs: &[u32]) -> Vec<u32> {
+    follow::deals(width, &one_to(n), t, coefs)
 }
 
 pub fn follow_pairs(record: &mut Record) {
@@ -218,16 +225,17 @@ pub fn follow_shares(record: &mut Record) {
 }
 
 /// F(x, y) of a dealer's list, term by term; used to check results.
-pub fn value_of_f(coefs: &[u16], t: usize, x: u64, y: u64) -> u64 {
+pub fn value_of_f(width: Width, coefs: &[u32], t: usize, x: u64, y: u64) -> u64 {
     let mut sum = 0;
     let mut x_power = 1;
     for u in 0..=t {
         let mut power = x_power;
         for v in 0..=t {
-            sum = add(sum, mul(coefs[u * (t + 1) + v].into(), power));
-            power = mul(power, y);
+            let coef = u64::from(coefs[u * (t + 1) + v]);
+            sum = width.add(sum, width.mul(coef, power));
+            power = width.mul(power, y);
         }
-        x_power = mul(x_power, x);
+        x_power = width.mul(x_power, x);
     }
     sum
 }

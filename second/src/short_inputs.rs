@@ -2,8 +2,13 @@
 //! bytes do, and such as have no make. The random lists have neither.
 
 use crate::calls::{Call, Desk};
+use crate::field::Width::{self, Narrow, Wide};
+use crate::follow;
 use crate::rng::Rng;
-use crate::stations::STATIONS;
+use crate::stations::{one_to, STATIONS};
+use crate::story_runs::{deal_by_desk, party_calls, run_on};
+use crate::story_stations::with_table;
+use crate::story_wide::{WIDE_F, WIDE_STATIONS};
 use crate::wire::{raw, write};
 
 /// What an input shows, and its bytes.
@@ -18,6 +23,8 @@ pub fn short_inputs(seed: u64) -> Vec<Input> {
     inputs.extend(broken());
     inputs.extend(cuts("cut", &example_calls()));
     inputs.extend(cuts("stations cut", &station_calls()));
+    inputs.extend(cuts("wide cut", &wide_calls()));
+    inputs.extend(cuts("wide stations cut", &wide_station_calls()));
     // Other numbers than those of the lists, also for the same seed.
     let mut rng = Rng::new(!seed);
     inputs.extend((0..RANDOM).map(|k| (format!("random {k}"), random(&mut rng))));
@@ -27,13 +34,14 @@ pub fn short_inputs(seed: u64) -> Vec<Input> {
 /// A call of each kind without a table, all accepted in this order.
 pub fn example_calls() -> Vec<Call> {
     vec![
-        Call::Make(5, 1, 1),
-        Call::Deal(vec![9, 7, 10, 6]),
+        Call::Make(Narrow, 5, 1, 1),
+        Call::Deal(Narrow, vec![9, 7, 10, 6]),
         Call::Say(2),
-        Call::Hear(vec![0, 0, 22, 23, 28, 30, 34, 37, 40, 44]),
+        Call::Hear(Narrow, vec![0, 0, 22, 23, 28, 30, 34, 37, 40, 44]),
         Call::Settle(vec![30, 29, 27, 23, 15]),
-        Call::Open(vec![0, 13, 999, 19, 22]),
+        Call::Open(Narrow, vec![0, 13, 999, 19, 22]),
         Call::Desk(Desk {
+            width: Narrow,
             n: 5,
             t: 1,
             room: 20,
@@ -45,22 +53,52 @@ pub fn example_calls() -> Vec<Call> {
 /// The same polynomial with a table, for party 2.
 pub fn station_calls() -> Vec<Call> {
     let desk = Desk {
+        width: Narrow,
         n: 5,
         t: 1,
         room: 20,
         coefs: vec![7, 2, 3, 4],
     };
     vec![
-        Call::MakeWith(5, 1, 2, STATIONS.to_vec()),
-        Call::Deal(vec![21, 31, 28, 30]),
+        Call::MakeWith(Narrow, 5, 1, 2, STATIONS.to_vec()),
+        Call::Deal(Narrow, vec![21, 31, 28, 30]),
         Call::Say(4),
-        Call::Hear(vec![
-            49_480, 24_913, 0, 0, 65_519, 65_511, 118, 114, 40_339, 61_332,
-        ]),
+        Call::Hear(
+            Narrow,
+            vec![
+                49_480, 24_913, 0, 0, 65_519, 65_511, 118, 114, 40_339, 61_332,
+            ],
+        ),
         Call::Settle(vec![30, 29, 27, 23, 15]),
-        Call::Open(vec![57_369, 0, 4, 999, 63_007]),
+        Call::Open(Narrow, vec![57_369, 0, 4, 999, 63_007]),
         Call::DeskWith(desk, STATIONS.to_vec()),
     ]
+}
+
+/// A wide call of each kind without a table, all accepted in this order. The
+/// dealer's list is -1, 65521, 65536, 1000000007.
+pub fn wide_calls() -> Vec<Call> {
+    calls_of_party_1(&WIDE_F, None)
+}
+
+/// The same polynomial with a table.
+pub fn wide_station_calls() -> Vec<Call> {
+    calls_of_party_1(&WIDE_F, Some(&WIDE_STATIONS))
+}
+
+/// Party 1 of an honest wide run, from its making to an opening, and the desk.
+fn calls_of_party_1(coefs: &[u32], table: Option<&[u32]>) -> Vec<Call> {
+    let points = table.map_or(one_to(5), <[u32]>::to_vec);
+    let deals = follow::deals(Wide, &points, 1, coefs);
+    let record = run_on(Wide, &points, 1, deals, &[]);
+    let mut calls = party_calls(&record, 1);
+    // One saying is enough.
+    calls.drain(3..7);
+    calls.push(deal_by_desk(Wide, 5, 1, coefs));
+    match table {
+        Some(table) => with_table(calls, table),
+        None => calls,
+    }
 }
 
 fn bytes_of(calls: &[Call]) -> Vec<u8> {
@@ -72,8 +110,10 @@ fn bytes_of(calls: &[Call]) -> Vec<u8> {
 fn without_make() -> Vec<Input> {
     let calls = example_calls();
     let mut inputs = vec![("nothing".to_string(), Vec::new())];
-    let with_table = station_calls().pop();
-    for call in calls[1..].iter().chain(&with_table) {
+    let with_table = [station_calls().pop(), wide_station_calls().pop()];
+    let wide = wide_calls();
+    let all = calls[1..].iter().chain(&wide[1..]);
+    for call in all.chain(with_table.iter().flatten()) {
         let list = [call.clone(), calls[6].clone(), calls[2].clone()];
         let kind = write(call)[0];
         inputs.push((format!("kind {kind} without a make"), bytes_of(&list)));
@@ -82,11 +122,12 @@ fn without_make() -> Vec<Input> {
 }
 
 /// Kinds and numbers that are no call. 259 is three, 257 one and 260 the
-/// length of the example's deal to a reader of the low byte alone.
-pub fn no_calls() -> Vec<(u8, Vec<u16>)> {
+/// length of the example's deal to a reader of the low byte alone. Saying and
+/// settling have no wide kind.
+pub fn no_calls() -> Vec<(u8, Vec<u32>)> {
     let mut list = Vec::new();
-    for kind in [9, 10, 128, 255] {
-        list.extend([0, 1, 3].map(|count| (kind, vec![5; count])));
+    for kind in [9, 10, 127, 130, 132, 137, 255] {
+        list.extend([0, 1, 3, 5].map(|count| (kind, vec![5; count])));
     }
     let counts: [(u8, &[usize]); 9] = [
         (0, &[0, 1, 2, 4, 200, 201, 259]),
@@ -101,21 +142,31 @@ pub fn no_calls() -> Vec<(u8, Vec<u16>)> {
     ];
     for (kind, counts) in counts {
         list.extend(counts.iter().map(|&count| (kind, vec![1; count])));
+        let wide = kind + Wide.mark();
+        list.extend(counts.iter().map(|&count| (wide, vec![1; count])));
     }
-    // The desk with more room than there may be, and else in order.
-    for room in [201, 256, 276, 65_535] {
-        list.push((6, vec![5, 1, room, 7, 2, 3, 4]));
-        list.push((8, desk_numbers(room, 5)));
+    list.extend(no_desks(Narrow, &[201, 256, 276, 65_535]));
+    let large = [201, 256, 65_556, 1 << 31, 4_294_967_295];
+    list.extend(no_desks(Wide, &large));
+    list
+}
+
+/// The desk with more room than there may be, and else in order; and with a
+/// table that is longer than what is left of the call.
+fn no_desks(width: Width, large: &[u32]) -> Vec<(u8, Vec<u32>)> {
+    let mut list = Vec::new();
+    for &room in large {
+        list.push((6 + width.mark(), vec![5, 1, room, 7, 2, 3, 4]));
+        list.push((8 + width.mark(), desk_numbers(room, 5)));
     }
-    // A table that is longer than what is left of the call.
-    for length in [10, 196, 255, 256, 261, 65_535] {
-        list.push((8, desk_numbers(20, length)));
+    for &length in [10, 196, 255, 261].iter().chain(large) {
+        list.push((8 + width.mark(), desk_numbers(20, length)));
     }
     list
 }
 
 /// The numbers of a desk's call with a table that is said to have this length.
-fn desk_numbers(room: u16, length: u16) -> Vec<u16> {
+fn desk_numbers(room: u32, length: u32) -> Vec<u32> {
     let mut numbers = vec![5, 1, room, length];
     numbers.extend(STATIONS);
     numbers.extend([7, 2, 3, 4]);
@@ -135,8 +186,10 @@ fn broken() -> Vec<Input> {
         inputs.push((format!("{name} after calls"), between));
     }
     // The largest count, with less behind it than it says.
-    let endless = [&[1, 255, 255], &bytes_of(&calls)[..]].concat();
-    inputs.push(("a list of 65535 numbers".to_string(), endless));
+    for kind in [1, 129] {
+        let endless = [&[kind, 255, 255], &bytes_of(&calls)[..]].concat();
+        inputs.push((format!("kind {kind} of 65535 numbers, cut"), endless));
+    }
     inputs
 }
 
@@ -151,8 +204,9 @@ fn cuts(name: &str, calls: &[Call]) -> Vec<Input> {
 /// Some kinds with some numbers, often right and often not, perhaps cut.
 fn random(rng: &mut Rng) -> Vec<u8> {
     let mut bytes = Vec::new();
-    for _ in 0..rng.between(1, 12) {
-        let kind = rng.below(10) as u8;
+    for _ in 0..rng.between(2, 16) {
+        let width = rng.width();
+        let kind = if rng.chance(5) { 9 } else { rng.below(9) as u8 };
         let count = match (rng.below(8), kind) {
             (0, _) => rng.pick(&[0, 1, 2, 3, 4, 199, 200, 201, 257, 259]),
             (_, 0) => 3,
@@ -162,8 +216,13 @@ fn random(rng: &mut Rng) -> Vec<u8> {
             (_, 8) => rng.between(8, 22),
             _ => rng.below(12),
         };
-        let numbers: Vec<u16> = (0..count).map(|_| random_number(rng)).collect();
-        bytes.extend(raw(kind, &numbers));
+        let numbers: Vec<u32> = (0..count).map(|_| random_number(rng, width)).collect();
+        // A wide saying or settling would end nearly every input.
+        let both = [2, 4].contains(&kind) && rng.chance(95);
+        let mark = if both { 0 } else { width.mark() };
+        let cut = |number: u32| Width::of_byte(mark).cut(number);
+        let numbers: Vec<u32> = numbers.into_iter().map(cut).collect();
+        bytes.extend(raw(kind + mark, &numbers));
     }
     if rng.chance(50) {
         let kept = rng.below(bytes.len() + 1);
@@ -173,10 +232,11 @@ fn random(rng: &mut Rng) -> Vec<u8> {
 }
 
 /// Mostly small, so that sizes, parties and rooms come out right at times.
-fn random_number(rng: &mut Rng) -> u16 {
+fn random_number(rng: &mut Rng, width: Width) -> u32 {
     match rng.below(6) {
-        0 => rng.word(),
+        0 => rng.number(width),
+        1 if width == Wide => rng.pick(&[5, 200, 201, 65_536, 65_541]),
         1 => rng.pick(&[5, 200, 201, 256, 261]),
-        _ => rng.below(18) as u16,
+        _ => rng.below(18) as u32,
     }
 }

@@ -1,26 +1,26 @@
 //! Tables of station numbers: the parties' points (docs/PROTOCOL.md, "Station
 //! numbers"). Party i's point is entry i of the table, the first being entry 1.
 
-use crate::field::is_sent;
+use crate::field::Width;
 
 /// The table of the examples, for five parties.
-pub const STATIONS: [u16; 5] = [40_961, 7, 65_520, 3, 21_000];
+pub const STATIONS: [u32; 5] = [40_961, 7, 65_520, 3, 21_000];
 
 /// The table of one who loads none: 1 to n.
-pub fn one_to(n: usize) -> Vec<u16> {
-    (1..=n).map(|i| i as u16).collect()
+pub fn one_to(n: usize) -> Vec<u32> {
+    (1..=n).map(|i| i as u32).collect()
 }
 
 /// Party i's point.
-pub fn point(table: &[u16], i: usize) -> u64 {
+pub fn point(table: &[u32], i: usize) -> u64 {
     table[i - 1].into()
 }
 
-/// Refusal 14: an entry is 0, above 65,520, or stands there twice.
-pub fn check_table(table: &[u16]) -> Result<(), u8> {
+/// Refusal 14: an entry is 0, from the prime up, or stands there twice.
+pub fn check_table(width: Width, table: &[u32]) -> Result<(), u8> {
     for (k, &entry) in table.iter().enumerate() {
         let earlier = &table[..k];
-        if entry == 0 || !is_sent(entry) || earlier.contains(&entry) {
+        if entry == 0 || !width.is_sent(entry) || earlier.contains(&entry) {
             return Err(14);
         }
     }

@@ -5,6 +5,7 @@
 
 use crate::calls::{line, step, Call, Desk};
 use crate::dealer::{deal, deal_with};
+use crate::field::Width::Narrow;
 use crate::field::NOT_SENT;
 use crate::fit::{open_all, open_with};
 use crate::follow;
@@ -18,15 +19,15 @@ use crate::stations::{check_table, one_to, STATIONS};
 use crate::tables::good_table;
 
 /// 65520 is -1, and 40961 and 21000 are reduced once or twice.
-const DEALS: [u16; 20] = [
+const DEALS: [u32; 20] = [
     16_408, 32_805, 57_369, 32_804, 21, 31, 28, 30, 5, 65_520, 4, 65_519, 13, 15, 16, 14, 42_007,
     18_482, 63_007, 18_481,
 ];
 
-const SHARES: [u16; 5] = [57_369, 28, 4, 16, 63_007];
+const SHARES: [u32; 5] = [57_369, 28, 4, 16, 63_007];
 
 /// Tables of five numbers that are refused.
-const BAD: [[u16; 5]; 8] = [
+const BAD: [[u32; 5]; 8] = [
     [0, 7, 65_520, 3, 21_000],
     [40_961, 7, 65_520, 3, 0],
     [65_521, 7, 65_520, 3, 21_000],
@@ -42,10 +43,10 @@ const BAD: [[u16; 5]; 8] = [
 #[test]
 fn tables_that_are_taken() {
     for table in [&STATIONS[..], &[1], &[65_520, 1], &one_to(16), &[2, 1, 3]] {
-        assert_eq!(check_table(table), Ok(()), "{table:?}");
+        assert_eq!(check_table(Narrow, table), Ok(()), "{table:?}");
     }
     for table in BAD {
-        assert_eq!(check_table(&table), Err(14), "{table:?}");
+        assert_eq!(check_table(Narrow, &table), Err(14), "{table:?}");
     }
     assert_eq!(one_to(5), [1, 2, 3, 4, 5]);
 }
@@ -58,12 +59,12 @@ fn every_place_is_looked_at() {
             for bad in [0, 65_521, 65_522, 65_535] {
                 let mut table = one_to(n);
                 table[a] = bad;
-                assert_eq!(check_table(&table), Err(14));
+                assert_eq!(check_table(Narrow, &table), Err(14));
             }
             for b in (0..n).filter(|&b| b != a) {
                 let mut table = one_to(n);
                 table[a] = table[b];
-                assert_eq!(check_table(&table), Err(14));
+                assert_eq!(check_table(Narrow, &table), Err(14));
             }
         }
     }
@@ -76,13 +77,13 @@ fn random_good_tables() {
     let mut rng = Rng::new(6);
     for n in 0..=60 {
         for _ in 0..20 {
-            let table = good_table(&mut rng, n);
+            let table = good_table(&mut rng, Narrow, n);
             let mut sorted = table.clone();
             sorted.sort_unstable();
             sorted.dedup();
             assert_eq!((table.len(), sorted.len()), (n, n));
             assert!(table.iter().all(|&x| (1..=65_520).contains(&x)));
-            assert_eq!(check_table(&table), Ok(()));
+            assert_eq!(check_table(Narrow, &table), Ok(()));
         }
     }
 }
@@ -91,7 +92,7 @@ fn random_good_tables() {
 
 #[test]
 fn refusals_of_a_making() {
-    let made = |n, t, i, table: &[u16]| Party::make_with(n, t, i, table).1;
+    let made = |n, t, i, table: &[u32]| Party::make_with(Narrow, n, t, i, table).1;
     assert_eq!(made(5, 1, 2, &STATIONS), Ok(()));
     assert_eq!(made(4, 1, 9, &[0]), Err(1));
     assert_eq!(made(5, 2, 2, &STATIONS), Err(1));
@@ -109,15 +110,15 @@ fn refusals_of_a_making() {
 /// leaves zeros.
 #[test]
 fn what_a_refused_making_holds() {
-    assert_eq!(Party::make_with(5, 1, 2, &BAD[1]).0.table, BAD[1]);
+    assert_eq!(Party::make_with(Narrow, 5, 1, 2, &BAD[1]).0.table, BAD[1]);
     for table in [&STATIONS[..4], &one_to(6), &[]] {
-        let party = Party::make_with(5, 1, 2, table).0;
+        let party = Party::make_with(Narrow, 5, 1, 2, table).0;
         assert_eq!(party.table, [0; 5]);
         assert_eq!(party.stage, Stage::Waiting);
     }
     assert_eq!(
-        Party::make_with(5, 1, 2, &one_to(5)),
-        Party::make(5, 1, 2),
+        Party::make_with(Narrow, 5, 1, 2, &one_to(5)),
+        Party::make(Narrow, 5, 1, 2),
         "1 to n is the same as none"
     );
 }
@@ -140,7 +141,10 @@ fn refusals_of_the_desk() {
     ] {
         let mut room = vec![9; room];
         let kept = room.clone();
-        assert_eq!(deal_with(n, 1, table, coefs, &mut room), Err(refusal));
+        assert_eq!(
+            deal_with(Narrow, n, 1, table, coefs, &mut room),
+            Err(refusal)
+        );
         assert_eq!(room, kept);
     }
 }
@@ -148,11 +152,11 @@ fn refusals_of_the_desk() {
 #[test]
 fn deals_of_a_table() {
     let mut room = [0; 20];
-    assert_eq!(deal_with(5, 1, &STATIONS, &F, &mut room), Ok(()));
+    assert_eq!(deal_with(Narrow, 5, 1, &STATIONS, &F, &mut room), Ok(()));
     assert_eq!(room, DEALS);
     let mut without = [0; 20];
-    assert_eq!(deal(5, 1, &F, &mut without), Ok(()));
-    assert_eq!(deal_with(5, 1, &one_to(5), &F, &mut room), Ok(()));
+    assert_eq!(deal(Narrow, 5, 1, &F, &mut without), Ok(()));
+    assert_eq!(deal_with(Narrow, 5, 1, &one_to(5), &F, &mut room), Ok(()));
     assert_eq!(room, without);
 }
 
@@ -161,7 +165,7 @@ fn deals_of_a_table() {
 /// Party 2 at each stage, made with a good table.
 fn at_each_stage() -> Vec<Party> {
     let calls = station_calls();
-    let mut party = Party::make(0, 0, 0).0;
+    let mut party = Party::make(Narrow, 0, 0, 0).0;
     let mut parties = Vec::new();
     for call in [0, 1, 3, 4] {
         step(&mut party, calls[call].clone());
@@ -192,7 +196,7 @@ fn a_bad_table_at_each_stage() {
             let list = vec![0; wrong];
             assert_eq!(party.take_deal(&list), Err(3));
             assert_eq!(party.hear(&list), Err(3));
-            assert_eq!(party.settle(&list), Err(3));
+            assert_eq!(party.settle(&vec![0; wrong]), Err(3));
             assert_eq!(party.open(&list), Err(3));
         }
         assert_eq!(party.take_deal(&[0; 4]), Err(14));
@@ -218,7 +222,7 @@ fn soundness_by_the_table() {
         (&STATIONS, [11, 11, 13, 10], false),
         (&one_to(5), [11, 11, 13, 10], true),
     ] {
-        let mut party = Party::make_with(5, 1, 2, table).0;
+        let mut party = Party::make_with(Narrow, 5, 1, 2, table).0;
         party.take_deal(&deal).unwrap();
         assert_eq!(party.sound(), sound, "{table:?}");
     }
@@ -234,7 +238,7 @@ fn repair_by_the_table() {
         ([NOT_SENT, 61_332, 44_526, 52_929], Ok(()), 63_007),
         ([33_614, 1, 0, 52_929], Err(9), 0),
     ] {
-        let mut party = Party::make_with(5, 1, 5, &STATIONS).0;
+        let mut party = Party::make_with(Narrow, 5, 1, 5, &STATIONS).0;
         party.take_deal(&[0, 0, 1, 0]).unwrap();
         let mut pairs = vec![NOT_SENT; 10];
         for (j, first) in firsts.into_iter().enumerate() {
@@ -249,19 +253,19 @@ fn repair_by_the_table() {
 /// Shares on 7 + 3x; the same numbers in another order are on no line.
 #[test]
 fn opening_by_the_table() {
-    assert_eq!(open_with(&STATIONS, &SHARES, 1), Ok(7));
-    assert_eq!(open_all(&SHARES, 1), Err(10));
+    assert_eq!(open_with(Narrow, &STATIONS, &SHARES, 1), Ok(7));
+    assert_eq!(open_all(Narrow, &SHARES, 1), Err(10));
     for j in 0..5 {
         let mut one_wrong = SHARES;
         one_wrong[j] = 999;
-        assert_eq!(open_with(&STATIONS, &one_wrong, 1), Ok(7));
+        assert_eq!(open_with(Narrow, &STATIONS, &one_wrong, 1), Ok(7));
         one_wrong[(j + 1) % 5] = NOT_SENT;
-        assert_eq!(open_with(&STATIONS, &one_wrong, 1), Err(10));
+        assert_eq!(open_with(Narrow, &STATIONS, &one_wrong, 1), Err(10));
     }
-    let reversed: Vec<u16> = SHARES.iter().rev().copied().collect();
-    assert_eq!(open_with(&STATIONS, &reversed, 1), Err(10));
-    let table: Vec<u16> = STATIONS.iter().rev().copied().collect();
-    assert_eq!(open_with(&table, &reversed, 1), Ok(7));
+    let reversed: Vec<u32> = SHARES.iter().rev().copied().collect();
+    assert_eq!(open_with(Narrow, &STATIONS, &reversed, 1), Err(10));
+    let table: Vec<u32> = STATIONS.iter().rev().copied().collect();
+    assert_eq!(open_with(Narrow, &table, &reversed, 1), Ok(7));
 }
 
 // ---- every size ----
@@ -272,10 +276,16 @@ fn opening_by_the_table() {
 fn honest_runs_of_every_size() {
     let mut rng = Rng::new(14);
     for (n, t) in (1..=3).flat_map(|t| (4 * t + 1..=16).map(move |n| (n, t))) {
-        let table = good_table(&mut rng, n);
-        let world = build_on(&mut rng, &table, t, HONEST);
+        let table = good_table(&mut rng, Narrow, n);
+        let world = build_on(&mut rng, Narrow, &table, t, HONEST);
         let f = |i: usize, j: usize| {
-            value_of_f(&world.coefs, t, table[i - 1].into(), table[j - 1].into()) as u16
+            value_of_f(
+                Narrow,
+                &world.coefs,
+                t,
+                table[i - 1].into(),
+                table[j - 1].into(),
+            ) as u32
         };
         let Record {
             pairs,
@@ -289,7 +299,7 @@ fn honest_runs_of_every_size() {
                 assert_eq!(pairs[place..place + 2], [f(i, j), f(j, i)]);
             }
             assert_eq!(u32::from(reports[i - 1]), (1 << n) - 1 - (1 << (i - 1)));
-            let share = value_of_f(&world.coefs, t, table[i - 1].into(), 0);
+            let share = value_of_f(Narrow, &world.coefs, t, table[i - 1].into(), 0);
             assert_eq!(u64::from(shares[i - 1]), share);
             let party = follow::settled_party(&world.record, &table, i).0;
             assert_eq!(party.open(shares), Ok(world.coefs[0]));
@@ -301,12 +311,12 @@ fn honest_runs_of_every_size() {
 #[test]
 fn another_order_is_another_deal() {
     let mut rng = Rng::new(15);
-    let coefs = polynomial(&mut rng, 2);
-    let table = good_table(&mut rng, 9);
+    let coefs = polynomial(&mut rng, Narrow, 2);
+    let table = good_table(&mut rng, Narrow, 9);
     let mut turned = table.clone();
     turned.rotate_left(1);
-    let deals = follow::deals(&table, 2, &coefs);
-    let mut other = follow::deals(&turned, 2, &coefs);
+    let deals = follow::deals(Narrow, &table, 2, &coefs);
+    let mut other = follow::deals(Narrow, &turned, 2, &coefs);
     assert_ne!(deals, other);
     other.rotate_right(6);
     assert_eq!(deals, other, "each point keeps its deal");
@@ -318,17 +328,18 @@ fn another_order_is_another_deal() {
 #[test]
 fn the_lines_of_the_readme_with_a_table() {
     let mut calls = station_calls();
-    let desk = |coefs: &[u16]| Desk {
+    let desk = |coefs: &[u32]| Desk {
+        width: Narrow,
         n: 5,
         t: 1,
         room: 2,
         coefs: coefs.to_vec(),
     };
     calls.push(Call::DeskWith(desk(&[65_521]), vec![0, 7]));
-    calls.push(Call::MakeWith(5, 1, 2, BAD[1].to_vec()));
-    calls.push(Call::Deal(vec![21, 31, 28]));
-    calls.push(Call::Open(vec![0; 5]));
-    let mut party = Party::make(0, 0, 0).0;
+    calls.push(Call::MakeWith(Narrow, 5, 1, 2, BAD[1].to_vec()));
+    calls.push(Call::Deal(Narrow, vec![21, 31, 28]));
+    calls.push(Call::Open(Narrow, vec![0; 5]));
+    let mut party = Party::make(Narrow, 0, 0, 0).0;
     let mut text = String::new();
     for call in calls {
         text += &format!("    {}", line(&step(&mut party, call)));

@@ -1,18 +1,23 @@
 //! A fixed collection of records with names, to be kept and run again.
 
-use crate::make::{get, insert_gap, put, random_record, reordered, shift_border, swap_entries};
+use crate::field::Width::{self, Narrow, Wide};
+use crate::make::{get, insert_gap, put, random_record_of, reordered, shift_border, swap_entries};
 use crate::named;
+use crate::named_wide;
 use crate::record::{head, lengths, write};
 use crate::rng::Rng;
 use std::fs;
 use std::io;
 use std::path::Path;
 
-/// `make` with this seed writes the random ones.
+/// The random ones are drawn with this seed, the narrow and the wide ones each.
 pub const SEED: u64 = 12;
 
-/// How many random ones there are.
+/// How many random narrow ones there are.
 pub const RANDOM: usize = 240;
+
+/// How many random wide ones.
+pub const RANDOM_WIDE: usize = 80;
 
 /// The sizes of M11 that pass.
 pub const LEGAL: [(usize, usize); 4] = [(5, 1), (9, 2), (13, 3), (16, 3)];
@@ -49,7 +54,8 @@ pub fn collection() -> Vec<Entry> {
     entries.extend(sizes());
     let records = named::all().into_iter();
     entries.extend(records.map(|(name, record)| (name, write(&record))));
-    entries.extend(random());
+    entries.extend(random("random", Narrow, RANDOM));
+    entries.extend(wide());
     entries.sort();
     entries
 }
@@ -128,10 +134,10 @@ fn wrong_orders(example: &[u8]) -> Vec<Entry> {
         // Legal, for both have the same length: shares read as reports.
         ("1243", [1, 2, 4, 3]),
     ] {
-        let sections = reordered(example, 5, 1, order);
+        let sections = reordered(example, &named::example(), order);
         entries.push((format!("order-sections-{name}"), sections));
     }
-    let mut unsorted = reordered(example, 5, 1, [2, 1, 3, 4]);
+    let mut unsorted = reordered(example, &named::example(), [2, 1, 3, 4]);
     swap_entries(&mut unsorted, 1, 2);
     entries.push(("order-unsorted".to_string(), unsorted));
     entries
@@ -146,8 +152,8 @@ fn sizes() -> Vec<Entry> {
         entries.push((name, vec![n as u8, t as u8]));
     }
     for (n, t) in REFUSED {
-        let sections = lengths(n, t);
-        let mut bytes = head(n, t, sections);
+        let sections = lengths(Narrow, n, t);
+        let mut bytes = head(Narrow, n, t, sections);
         // The largest sizes have sections beyond what 16 bits can name.
         let total = sections.iter().sum::<usize>().min(4000);
         bytes.resize(bytes.len() + total, 0);
@@ -160,12 +166,92 @@ fn sizes() -> Vec<Entry> {
     entries
 }
 
-/// The random ones.
-fn random() -> Vec<Entry> {
+/// The random ones of a width.
+fn random(name: &str, width: Width, count: usize) -> Vec<Entry> {
     let mut rng = Rng::new(SEED);
-    (0..RANDOM)
-        .map(|k| (format!("random-{k:03}"), random_record(&mut rng).1))
+    (0..count)
+        .map(|k| {
+            let (_, bytes) = random_record_of(&mut rng, width);
+            (format!("{name}-{k:03}"), bytes)
+        })
         .collect()
+}
+
+// ---- wide ones ----
+
+/// The wide ones, and those in which narrow and wide meet. Their names come
+/// after all others.
+fn wide() -> Vec<Entry> {
+    let example = write(&named_wide::example());
+    let records = named_wide::all().into_iter();
+    let mut entries: Vec<Entry> = records
+        .map(|(name, record)| (name, write(&record)))
+        .collect();
+    entries.extend(wide_heads(&example));
+    entries.extend(wide_sizes());
+    entries.extend(random("wide-random", Wide, RANDOM_WIDE));
+    entries
+}
+
+/// Cuts, among them to the length of a narrow record; each number of the
+/// directory off by one; and head, directory and sections of two widths.
+fn wide_heads(example: &[u8]) -> Vec<Entry> {
+    let narrow = write(&named::example());
+    let mut entries: Vec<Entry> = [1, 2, 17, 18, narrow.len(), example.len() - 1]
+        .into_iter()
+        .map(|kept| (format!("wide-cut-{kept:03}"), example[..kept].to_vec()))
+        .collect();
+    for k in 0..8 {
+        let part = ["offset", "length"][k % 2];
+        let name = format!("wide-dir-{}-{part}-up", k / 2 + 1);
+        let number = get(example, k) + 1;
+        entries.push((name, changed(example, |b| put(b, k, number))));
+    }
+    let narrow_directory = head(Wide, 5, 1, lengths(Narrow, 5, 1));
+    let wide_directory = head(Narrow, 5, 1, lengths(Wide, 5, 1));
+    let two = |head: &[u8], body: &[u8]| [head, &body[18..]].concat();
+    entries.extend(
+        [
+            ("wide-byte-too-many", changed(example, |b| b.push(0))),
+            // Legal but for the first byte, which has 128 too much or too little.
+            ("wide-mark-on-narrow", changed(&narrow, |b| b[0] += 128)),
+            ("wide-mark-missing", changed(example, |b| b[0] -= 128)),
+            ("wide-narrow-lengths", two(&narrow_directory, example)),
+            ("wide-lengths-on-narrow", two(&wide_directory, &narrow)),
+        ]
+        .map(|(name, bytes)| (name.to_string(), bytes)),
+    );
+    entries
+}
+
+/// First bytes from 128 up: those of a legal size are wide, the others none.
+fn wide_sizes() -> Vec<Entry> {
+    let sizes = [
+        (0, 0),
+        (0, 1),
+        (4, 1),
+        (5, 0),
+        (5, 1),
+        (8, 2),
+        (9, 2),
+        (12, 3),
+        (13, 3),
+        (16, 3),
+        (16, 4),
+        (17, 3),
+        (127, 3),
+    ];
+    let mut entries = Vec::new();
+    for (n, t) in sizes {
+        let name = format!("wide-size-{n:02}-{t}");
+        entries.push((format!("{name}-two-bytes"), vec![n + 128, t]));
+        let sections = lengths(Wide, n.into(), t.into());
+        let mut bytes = head(Wide, n.into(), t.into(), sections);
+        let total = sections.iter().sum::<usize>().min(4000);
+        bytes.resize(bytes.len() + total, 0);
+        entries.push((format!("{name}-body"), bytes));
+    }
+    entries
 }
 
 /// Writes the collection into the folder, which is made if it is not there,

@@ -2,10 +2,11 @@
 //! hand for the records made by hand.
 
 use crate::bench::run;
-use crate::make::{random_record, Kind};
+use crate::field::Width::{Narrow, Wide};
+use crate::make::{random_record, random_record_of, Kind};
 use crate::outcome::{self, Counts, OUTCOMES};
 use crate::rng::Rng;
-use crate::store::{collection, Entry, LEGAL, RANDOM, REFUSED, SEED};
+use crate::store::{collection, Entry, LEGAL, RANDOM, RANDOM_WIDE, REFUSED, SEED};
 use std::collections::BTreeMap;
 use std::sync::OnceLock;
 
@@ -40,7 +41,11 @@ fn short(name: &str) -> String {
 #[test]
 fn names_are_plain_and_sorted() {
     let names: Vec<&str> = entries().iter().map(|entry| entry.0.as_str()).collect();
-    assert_eq!(names.len(), 391 + RANDOM);
+    let narrow = 391 + RANDOM;
+    assert_eq!(names.len(), narrow + 124 + RANDOM_WIDE);
+    let is_wide = |name: &str| name.starts_with("wide-");
+    assert!(names[narrow..].iter().all(|name| is_wide(name)));
+    assert!(!names[..narrow].iter().any(|name| is_wide(name)));
     assert!(names.windows(2).all(|pair| pair[0] < pair[1]));
     // The files' names sort the same way.
     let files: Vec<String> = names.iter().map(|name| format!("{name}.rec")).collect();
@@ -52,23 +57,29 @@ fn names_are_plain_and_sorted() {
     }
 }
 
-/// FNV-1a over names and bytes. Who changes the collection sees it here.
-#[test]
-fn the_collection_is_fixed() {
+/// FNV-1a over names and bytes.
+fn hash(entries: &[Entry]) -> String {
     let mut hash = 0xcbf2_9ce4_8422_2325_u64;
-    for (name, bytes) in entries() {
+    for (name, bytes) in entries {
         for &byte in name.as_bytes().iter().chain(bytes) {
             hash = (hash ^ u64::from(byte)).wrapping_mul(0x0100_0000_01b3);
         }
     }
-    assert_eq!(format!("{hash:016x}"), "22f92cfec9f4e190");
+    format!("{hash:016x}")
+}
+
+/// Who changes the collection sees it here. The narrow ones come first.
+#[test]
+fn the_collection_is_fixed() {
+    assert_eq!(hash(&entries()[..391 + RANDOM]), "22f92cfec9f4e190");
+    assert_eq!(hash(entries()), "45d9b625d8c229a6");
 }
 
 #[test]
 fn every_outcome_is_there() {
     let mut counts = Counts::default();
     for (_, bytes) in entries() {
-        outcome::count(&mut counts, &run(bytes));
+        outcome::count(&mut counts, bytes, &run(bytes));
     }
     for (name, times) in OUTCOMES.iter().zip(counts) {
         assert!(times >= 5, "{name}: {times}");
@@ -76,16 +87,69 @@ fn every_outcome_is_there() {
 }
 
 #[test]
-fn the_random_ones_are_those_of_make() {
-    let mut rng = Rng::new(SEED);
-    let mut kinds: BTreeMap<Kind, usize> = BTreeMap::new();
-    for k in 0..RANDOM {
-        let (kind, bytes) = random_record(&mut rng);
-        assert_eq!(bytes_of(&format!("random-{k:03}")), bytes);
-        *kinds.entry(kind).or_default() += 1;
+fn the_random_ones_are_of_every_kind() {
+    for (width, name, count, least) in [
+        (Narrow, "random", RANDOM, 5),
+        (Wide, "wide-random", RANDOM_WIDE, 1),
+    ] {
+        let mut rng = Rng::new(SEED);
+        let mut kinds: BTreeMap<Kind, usize> = BTreeMap::new();
+        for k in 0..count {
+            let (kind, bytes) = random_record_of(&mut rng, width);
+            assert_eq!(bytes_of(&format!("{name}-{k:03}")), bytes);
+            *kinds.entry(kind).or_default() += 1;
+        }
+        assert_eq!(kinds.len(), 12, "{kinds:?}");
+        assert!(kinds.values().all(|&times| times >= least), "{kinds:?}");
     }
-    assert_eq!(kinds.len(), 12, "{kinds:?}");
-    assert!(kinds.values().all(|&times| times >= 5), "{kinds:?}");
+}
+
+/// Of what `make` writes a third is wide, and in some two widths meet.
+#[test]
+fn make_writes_both_widths() {
+    let mut rng = Rng::new(3);
+    let made: Vec<(Kind, Vec<u8>)> = (0..600).map(|_| random_record(&mut rng)).collect();
+    let count = |holds: &dyn Fn(Kind, &[u8]) -> bool| {
+        let of = made.iter();
+        of.filter(|(kind, bytes)| holds(*kind, bytes)).count()
+    };
+    let wide = count(&|_, bytes| bytes.first().is_some_and(|&byte| byte >= 128));
+    assert!((170..230).contains(&wide), "{wide}");
+    assert!(count(&|kind, _| kind == Kind::TwoWidths) >= 10);
+    let read = |bytes: &[u8]| crate::record::read(bytes).is_ok();
+    let both = |kind: Kind, bytes: &[u8]| kind == Kind::TwoWidths && read(bytes);
+    assert_eq!(count(&both), 0);
+    assert!(count(&|_, bytes| bytes.len() > 1362 && read(bytes)) >= 20);
+}
+
+/// Heads of wide records: 6 wherever the size is one, else 1.
+#[test]
+fn wide_heads_are_refused() {
+    let six = "record refused 6\n";
+    for start in [
+        "wide-cut-",
+        "wide-dir-",
+        "wide-mark-",
+        "wide-narrow-lengths",
+        "wide-lengths-",
+        "wide-byte-",
+    ] {
+        let texts = texts_from(start);
+        assert!(!texts.is_empty() && texts.iter().all(|text| text == six));
+    }
+    for (n, t, refusal) in [
+        (0, 0, 1),
+        (4, 1, 1),
+        (5, 0, 1),
+        (5, 1, 6),
+        (12, 3, 1),
+        (16, 3, 6),
+        (17, 3, 1),
+        (127, 3, 1),
+    ] {
+        let name = format!("wide-size-{n:02}-{t}-two-bytes");
+        assert_eq!(text_of(&name), format!("record refused {refusal}\n"));
+    }
 }
 
 #[test]
@@ -168,7 +232,7 @@ fn the_marked_cases() {
 #[test]
 fn m7_hears_what_it_must() {
     let record = crate::record::read(bytes_of("m07-repair")).unwrap();
-    let firsts: Vec<u16> = (0..4).map(|j| record.pairs[40 + 2 * j]).collect();
+    let firsts: Vec<u32> = (0..4).map(|j| record.pairs[40 + 2 * j]).collect();
     assert_eq!(firsts, [44, 66, 88, 110]);
     assert_eq!(record.reports, [30, 29, 27, 0b00111, 0b00111]);
     let record = crate::record::read(bytes_of("m08-lie-and-its-report")).unwrap();
@@ -177,7 +241,7 @@ fn m7_hears_what_it_must() {
 }
 
 /// A record and a piece that its text must have.
-const PIECES: [(&str, &str); 43] = [
+const PIECES: [(&str, &str); 64] = [
     ("m12-secret-65520", "lamp 5 share 14|opened 65520"),
     ("open-one-not-sent", "opened 7"),
     ("open-two-not-sent", "opened refused 10"),
@@ -244,6 +308,48 @@ const PIECES: [(&str, &str); 43] = [
     ("repair-foreign-deal", "lamp 5 share 22"),
     ("edge-everywhere-65520", "lamp 5 share 65520|opened 65520"),
     ("edge-two-shares-65521", "opened refused 10"),
+    (
+        "wide-example",
+        "dealer accepted|happy 1 2 3 4 5|lamp 1 share 10|",
+    ),
+    ("wide-example", "lamp 5 share 22|opened 7"),
+    (
+        "wide-secret-2147483646",
+        "lamp 1 share 2|lamp 2 share 5|lamp 3 share 8",
+    ),
+    ("wide-secret-2147483646", "|opened 2147483646"),
+    (
+        "wide-repair-of-5",
+        "happy 1 2 3 4|lamp 1 share 65535|lamp 2 share 131071",
+    ),
+    ("wide-repair-of-5", "lamp 5 share 327679|opened 2147483646"),
+    ("wide-repair-prime-added", "lamp 5 share 327679|"),
+    ("wide-lamp-9-two-lies", "lamp 5 refused 9"),
+    ("wide-lamp-9-prime-added-twice", "lamp 5 refused 9"),
+    (
+        "wide-rejected",
+        "dealer rejected|lamp 1 refused 8|lamp 2 refused 8",
+    ),
+    ("wide-trap", "dealer rejected|lamp 1 refused 8"),
+    ("wide-open-one-not-sent", "|opened 7"),
+    ("wide-open-two-not-sent", "|opened refused 10"),
+    ("wide-open-none-sent", "|opened refused 10"),
+    ("wide-open-all-65535", "|opened 65535"),
+    ("wide-open-prime-added-twice", "|opened refused 10"),
+    (
+        "wide-open-one-wrong-of-a-line",
+        "lamp 5 share 22|opened 1000000000",
+    ),
+    (
+        "wide-open-one-wrong-of-a-wrapped-line",
+        "lamp 5 share 22|opened 2147483646",
+    ),
+    ("wide-edge-row-2147483647", "happy 1 3 4 5|lamp 1 share 0"),
+    ("wide-edge-two-shares-65535", "|opened refused 10"),
+    (
+        "wide-liars-16-3-four-silent",
+        "dealer rejected|lamp 1 refused 7|lamp 2 refused 8",
+    ),
     (
         "liars-16-3-four-silent",
         "dealer rejected|lamp 1 refused 7|lamp 2 refused 8",

@@ -3,11 +3,14 @@
 //! desk is called where a dealing is asked for.
 
 use crate::calls::{line, step, Call, Step};
+use crate::field::Width::Narrow;
 use crate::party::Party;
 use crate::story_refusals as refusals;
 use crate::story_runs as runs;
 use crate::story_stations as stations;
 use crate::story_tables as tables;
+use crate::story_wide as wide;
+use crate::story_widths as widths;
 use crate::wire;
 
 /// A story's name and its calls.
@@ -23,9 +26,9 @@ pub fn all() -> Vec<Story> {
         ("sixteen", runs::sixteen()),
         ("rejected", runs::rejected()),
         ("refused-desk", refusals::desk()),
-        ("refused-made", refusals::badly_made()),
-        ("refused-stages", refusals::stages()),
-        ("refused-closed", refusals::closed()),
+        ("refused-made", refusals::badly_made(Narrow)),
+        ("refused-stages", refusals::stages(Narrow)),
+        ("refused-closed", refusals::closed(Narrow)),
         ("trap", runs::trap()),
         ("trap-liar", runs::trap_liar()),
         ("stations-liar", stations::liar()),
@@ -41,13 +44,33 @@ pub fn all() -> Vec<Story> {
         ("refused-tables-calls", tables::calls()),
         ("one-to-n-unsound", tables::one_to_n_unsound()),
         ("one-to-n-stages", tables::one_to_n_stages()),
+        ("wide-honest", wide::honest()),
+        ("wide-liar", wide::liar()),
+        ("wide-repair", wide::repair()),
+        ("wide-two-liars", wide::two_liars()),
+        ("wide-rejected", wide::rejected()),
+        ("wide-sixteen", wide::sixteen()),
+        ("wide-trap", wide::trap()),
+        ("wide-edges", wide::edges()),
+        ("wide-stations", wide::stations()),
+        ("wide-stations-sixteen", wide::stations_sixteen()),
+        ("wide-refused-desk", widths::desk()),
+        ("wide-refused-made", widths::made()),
+        ("wide-refused-stages", widths::at_stages()),
+        ("wide-refused-closed", widths::when_closed()),
+        ("wide-refused-tables", widths::tables()),
+        ("wide-refused-tables-calls", widths::tables_calls()),
+        ("widths-wide-party", widths::wide_party()),
+        ("widths-narrow-party", widths::narrow_party()),
+        ("widths-order", widths::order()),
+        ("widths-desks", widths::desks()),
     ]
 }
 
 /// What comes of each story. The first starts without a make, and each other
 /// one with the party that the story before left.
 pub fn told() -> Vec<(&'static str, Vec<Step>)> {
-    let mut party = Party::make(0, 0, 0).0;
+    let mut party = Party::make(Narrow, 0, 0, 0).0;
     let mut tell = |call| step(&mut party, call);
     all()
         .into_iter()

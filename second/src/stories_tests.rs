@@ -22,7 +22,7 @@ pub fn story(name: &str) -> &'static [Step] {
 /// The number of the party that is made, with a table or without.
 fn made(step: &Step) -> Option<usize> {
     match step.call {
-        Call::Make(_, _, i) | Call::MakeWith(_, _, i, _) => Some(i),
+        Call::Make(_, _, _, i) | Call::MakeWith(_, _, _, i, _) => Some(i),
         _ => None,
     }
 }
@@ -46,11 +46,17 @@ pub fn party(name: &str, i: usize) -> &'static [Step] {
     &steps[start..start + 1 + length]
 }
 
+/// The sort of a call, whatever its width.
+fn sort_of(step: &Step) -> &'static str {
+    let name = call_name(&step.call);
+    name.strip_prefix("wide-").unwrap_or(name)
+}
+
 /// What was answered and left by one sort of call to party i.
 pub fn answers(name: &str, i: usize, sort: &str) -> Vec<String> {
     party(name, i)
         .iter()
-        .filter(|step| call_name(&step.call) == sort)
+        .filter(|step| sort_of(step) == sort)
         .map(|step| answer_text(&step.answer, &step.after))
         .collect()
 }
@@ -65,7 +71,7 @@ pub fn only_answer(name: &str, i: usize, sort: &str) -> String {
 pub fn asked(name: &str, i: usize, sort: &str) -> Vec<String> {
     party(name, i)
         .iter()
-        .filter(|step| call_name(&step.call) == sort)
+        .filter(|step| sort_of(step) == sort)
         .map(|step| call_text(&step.call))
         .collect()
 }
@@ -91,7 +97,7 @@ fn all_calls() -> Vec<Call> {
 fn names_are_those_of_the_readme() {
     let readme = include_str!("../README.md");
     let names: BTreeSet<&str> = stories().iter().map(|story| story.0).collect();
-    assert_eq!((names.len(), stories().len()), (25, 25));
+    assert_eq!((names.len(), stories().len()), (45, 45));
     for name in names {
         assert!(
             [": ", ", "]
@@ -118,7 +124,7 @@ fn stories_as_bytes_and_text() {
     let calls = all_calls();
     assert_eq!(wire::read(&stream()), calls);
     for call in &calls {
-        assert!(wire::write(call).len() <= 3 + 2 * LENT_LIMIT);
+        assert!(wire::write(call).len() <= 3 + 4 * LENT_LIMIT);
     }
     let steps = stories().iter().flat_map(|story| &story.1);
     let lines: String = steps
@@ -138,7 +144,8 @@ fn hash(bytes: &[u8]) -> String {
     format!("{hash:016x}")
 }
 
-/// Who changes a story sees it here. The twelve without tables come first.
+/// Who changes a story sees it here. The twelve without tables come first, and
+/// the narrow ones before the wide ones.
 #[test]
 fn the_stories_are_fixed() {
     let (calls, stream) = (all_calls(), stream());
@@ -147,8 +154,13 @@ fn the_stories_are_fixed() {
     assert_eq!(all()[12].0, "stations-liar");
     let without: usize = all()[..12].iter().map(|story| story.1.len()).sum();
     assert_eq!(without, 753);
-    assert_eq!((calls.len(), stream.len()), (1617, 18_139));
-    assert_eq!(hash(&stream), "e77ca66658ebe409");
+    assert_eq!(hash(&stream[..18_139]), "e77ca66658ebe409");
+    assert_eq!(wire::read(&stream[..18_139]), calls[..1617]);
+    assert_eq!(all()[25].0, "wide-honest");
+    let narrow: usize = all()[..25].iter().map(|story| story.1.len()).sum();
+    assert_eq!(narrow, 1617);
+    assert_eq!((calls.len(), stream.len()), (3278, 44_186));
+    assert_eq!(hash(&stream), "6475298371287dc7");
 }
 
 /// The stories first. The lists behind them begin with a make, so they are

@@ -2,15 +2,15 @@
 //! a party that is asked at each stage for what it may not do.
 
 use crate::calls::{Call, Desk};
-use crate::field::NOT_SENT;
-use crate::named::{honest, F};
+use crate::field::Width::{self, Narrow};
+use crate::named::{honest_of, F};
 use crate::party::Stage;
 use crate::story_runs::{deal_by_desk, deal_of, heard_by, OTHER};
 
 /// The lowest refusal comes, whatever else is wrong too.
 pub fn desk() -> Vec<Call> {
     let large = [65_521, 2, 3, 4];
-    let refused: [(usize, usize, &[u16]); 13] = [
+    let refused: [(usize, usize, &[u32]); 13] = [
         // 1: the size.
         (4, 16, &F),
         (4, 16, &large),
@@ -33,6 +33,7 @@ pub fn desk() -> Vec<Call> {
         .into_iter()
         .map(|(n, room, coefs)| {
             Call::Desk(Desk {
+                width: Narrow,
                 n,
                 t: 1,
                 room,
@@ -40,31 +41,31 @@ pub fn desk() -> Vec<Call> {
             })
         })
         .collect();
-    calls.push(deal_by_desk(5, 1, &[65_520, 2, 3, 4]));
+    calls.push(deal_by_desk(Narrow, 5, 1, &[65_520, 2, 3, 4]));
     calls
 }
 
 /// One for a wrong size, and its number is wrong as well; one for a wrong
 /// number. Each is asked for every call.
-pub fn badly_made() -> Vec<Call> {
+pub fn badly_made(width: Width) -> Vec<Call> {
     [(4, 1, 0), (5, 1, 6)]
         .into_iter()
-        .flat_map(|(n, t, i)| [vec![Call::Make(n, t, i)], every_call(n)].concat())
+        .flat_map(|(n, t, i)| [vec![Call::Make(width, n, t, i)], every_call(width, n)].concat())
         .collect()
 }
 
 /// Every call, with lists of the right length, then with none.
-fn every_call(n: usize) -> Vec<Call> {
-    let mut calls = vec![Call::Deal(vec![9, 7, 10, 6])];
+pub fn every_call(width: Width, n: usize) -> Vec<Call> {
+    let mut calls = vec![Call::Deal(width, vec![9, 7, 10, 6])];
     calls.extend((0..=6).map(Call::Say));
     calls.extend([
-        Call::Hear(vec![NOT_SENT; 2 * n]),
+        Call::Hear(width, vec![width.not_sent(); 2 * n]),
         Call::Settle(vec![0; n]),
-        Call::Open(vec![0; n]),
-        Call::Deal(vec![]),
-        Call::Hear(vec![]),
+        Call::Open(width, vec![0; n]),
+        Call::Deal(width, vec![]),
+        Call::Hear(width, vec![]),
         Call::Settle(vec![]),
-        Call::Open(vec![]),
+        Call::Open(width, vec![]),
     ]);
     calls
 }
@@ -73,33 +74,37 @@ fn every_call(n: usize) -> Vec<Call> {
 
 /// Party 2's lists of an honest run, in the order in which it takes them. The
 /// next stage is that of the next list.
-fn lists(coefs: &[u16]) -> [Call; 4] {
-    let record = honest(5, 1, coefs);
+pub fn lists(width: Width, coefs: &[u32]) -> [Call; 4] {
+    let record = honest_of(width, 5, 1, coefs);
     [
-        Call::Deal(deal_of(&record, 2)),
-        Call::Hear(heard_by(&record, 2)),
+        Call::Deal(width, deal_of(&record, 2)),
+        Call::Hear(width, heard_by(&record, 2)),
         Call::Settle(record.reports),
-        Call::Open(record.shares),
+        Call::Open(width, record.shares),
     ]
 }
 
 /// The same call with the list's last number missing.
-fn too_short(mut call: Call) -> Call {
-    let (Call::Deal(list) | Call::Hear(list) | Call::Settle(list) | Call::Open(list)) = &mut call
-    else {
-        unreachable!("a call without a list");
-    };
-    list.pop();
+pub fn too_short(mut call: Call) -> Call {
+    match &mut call {
+        Call::Deal(_, list) | Call::Hear(_, list) | Call::Open(_, list) => {
+            list.pop();
+        }
+        Call::Settle(list) => {
+            list.pop();
+        }
+        _ => unreachable!("a call without a list"),
+    }
     call
 }
 
 /// Pairs for all, for itself, and for 0 and 6, who are no parties; then all
 /// lists too short, which are refused with 3 at any stage; then the lists of
 /// other stages. These are of another run, so that whoever took one shows it.
-fn asked_at(stage: Stage) -> Vec<Call> {
+fn asked_at(width: Width, stage: Stage) -> Vec<Call> {
     let mut calls: Vec<Call> = (0..=6).map(Call::Say).collect();
-    calls.extend(lists(&F).map(too_short));
-    let others = lists(&OTHER).into_iter().enumerate();
+    calls.extend(lists(width, &F).map(too_short));
+    let others = lists(width, &OTHER).into_iter().enumerate();
     let wrong = others.filter(|&(k, _)| k != stage as usize);
     calls.extend(wrong.map(|(_, call)| call));
     calls
@@ -108,29 +113,29 @@ fn asked_at(stage: Stage) -> Vec<Call> {
 /// Party 2 from waiting to holding. Its own report, 29, is first altered; its
 /// opening is first tried with nothing sent, and last with its own place wrong,
 /// which does not count.
-pub fn stages() -> Vec<Call> {
-    let [deal, hear, settle, open] = lists(&F);
-    let mut calls = vec![Call::Make(5, 1, 2)];
-    calls.extend(asked_at(Stage::Waiting));
+pub fn stages(width: Width) -> Vec<Call> {
+    let [deal, hear, settle, open] = lists(width, &F);
+    let mut calls = vec![Call::Make(width, 5, 1, 2)];
+    calls.extend(asked_at(width, Stage::Waiting));
     calls.push(deal);
-    calls.extend(asked_at(Stage::Dealt));
+    calls.extend(asked_at(width, Stage::Dealt));
     calls.push(hear);
-    calls.extend(asked_at(Stage::Reported));
+    calls.extend(asked_at(width, Stage::Reported));
     calls.push(Call::Settle(vec![30, 28, 27, 23, 15]));
     calls.push(settle);
-    calls.extend(asked_at(Stage::Holding));
-    calls.push(Call::Open(vec![NOT_SENT; 5]));
+    calls.extend(asked_at(width, Stage::Holding));
+    calls.push(Call::Open(width, vec![width.not_sent(); 5]));
     calls.push(open);
-    calls.push(Call::Open(vec![10, 999, 998, 19, 22]));
+    calls.push(Call::Open(width, vec![10, 999, 998, 19, 22]));
     calls
 }
 
 /// Party 2 closed: nobody else reports anything. 7 comes before 8.
-pub fn closed() -> Vec<Call> {
-    let [deal, hear, ..] = lists(&F);
-    let mut calls = vec![Call::Make(5, 1, 2), deal, hear];
+pub fn closed(width: Width) -> Vec<Call> {
+    let [deal, hear, ..] = lists(width, &F);
+    let mut calls = vec![Call::Make(width, 5, 1, 2), deal, hear];
     calls.push(Call::Settle(vec![0, 31, 0, 0, 0]));
     calls.push(Call::Settle(vec![0, 29, 0, 0, 0]));
-    calls.extend(asked_at(Stage::Closed));
+    calls.extend(asked_at(width, Stage::Closed));
     calls
 }

@@ -90,13 +90,13 @@ open 10 999 998 19 22 = ok 7 ; 3 13 31
 }
 
 /// The values that were answered, none refused.
-fn values(steps: &[Step]) -> Vec<Vec<u16>> {
+fn values(steps: &[Step]) -> Vec<Vec<u32>> {
     let results = steps.iter().map(|step| step.answer.result.clone());
     results.map(Result::unwrap).collect()
 }
 
 /// F(j,2) and F(2,j), but for itself.
-const SAID_BY_2: [[u16; 2]; 5] = [[22, 23], [NOT_SENT; 2], [44, 43], [55, 53], [66, 63]];
+const SAID_BY_2: [[u32; 2]; 5] = [[22, 23], [NOT_SENT; 2], [44, 43], [55, 53], [66, 63]];
 
 #[test]
 fn refused_when_closed() {

@@ -2,6 +2,7 @@
 //! liar is not called at all, and what it sends stands in the others' lists.
 
 use crate::calls::{Call, Desk};
+use crate::field::Width::{self, Narrow};
 use crate::field::NOT_SENT;
 use crate::follow;
 use crate::named::F;
@@ -11,10 +12,10 @@ use crate::scenario::honest_deals;
 use crate::stations::one_to;
 
 /// Another dealer's list: 1000 + 300X + 20Y - XY.
-pub const OTHER: [u16; 4] = [1000, 20, 300, 65_520];
+pub const OTHER: [u32; 4] = [1000, 20, 300, 65_520];
 
 /// A list for sixteen parties and t = 3.
-pub const SIXTEEN: [u16; 16] = [
+pub const SIXTEEN: [u32; 16] = [
     31_337, 65_520, 2, 40_000, 65_519, 1, 0, 12_345, 777, 65_432, 54_321, 3, 9, 60_001, 32_768,
     65_520,
 ];
@@ -27,23 +28,24 @@ pub struct Liar {
     pub number: usize,
     /// A listener and the two numbers it is told. The others are told what
     /// an honest party would say.
-    pub pairs: Vec<(usize, u16, u16)>,
+    pub pairs: Vec<(usize, u32, u32)>,
     pub report: u16,
-    pub share: u16,
+    pub share: u32,
 }
 
 // ---- pieces ----
 
-/// The run of these deals with the points 1 to n.
-fn run(n: usize, t: usize, deals: Vec<u16>, liars: &[Liar]) -> Record {
-    run_on(&one_to(n), t, deals, liars)
+/// The narrow run of these deals with the points 1 to n.
+fn run(n: usize, t: usize, deals: Vec<u32>, liars: &[Liar]) -> Record {
+    run_on(Narrow, &one_to(n), t, deals, liars)
 }
 
 /// The run of these deals with the points of a table: all follow the protocol,
 /// except the liars.
-pub fn run_on(table: &[u16], t: usize, deals: Vec<u16>, liars: &[Liar]) -> Record {
+pub fn run_on(width: Width, table: &[u32], t: usize, deals: Vec<u32>, liars: &[Liar]) -> Record {
     let n = table.len();
     let mut record = Record {
+        width,
         n,
         t,
         deals,
@@ -71,8 +73,9 @@ pub fn run_on(table: &[u16], t: usize, deals: Vec<u16>, liars: &[Liar]) -> Recor
 }
 
 /// The desk, asked to deal this list with room of the right length.
-pub fn deal_by_desk(n: usize, t: usize, coefs: &[u16]) -> Call {
+pub fn deal_by_desk(width: Width, n: usize, t: usize, coefs: &[u32]) -> Call {
     Call::Desk(Desk {
+        width,
         n,
         t,
         room: 2 * n * (t + 1),
@@ -81,13 +84,13 @@ pub fn deal_by_desk(n: usize, t: usize, coefs: &[u16]) -> Call {
 }
 
 /// Party i's stretch of the deals.
-pub fn deal_of(record: &Record, i: usize) -> Vec<u16> {
-    let width = 2 * (record.t + 1);
-    record.deals[(i - 1) * width..i * width].to_vec()
+pub fn deal_of(record: &Record, i: usize) -> Vec<u32> {
+    let length = 2 * (record.t + 1);
+    record.deals[(i - 1) * length..i * length].to_vec()
 }
 
 /// The pairs that party i hears.
-pub fn heard_by(record: &Record, i: usize) -> Vec<u16> {
+pub fn heard_by(record: &Record, i: usize) -> Vec<u32> {
     let start = pair_place(record.n, i, 1);
     record.pairs[start..start + 2 * record.n].to_vec()
 }
@@ -98,37 +101,39 @@ pub fn says(n: usize) -> Vec<Call> {
 }
 
 /// An opening with some of the published shares replaced.
-pub fn open_with(record: &Record, replaced: &[(usize, u16)]) -> Call {
+pub fn open_with(record: &Record, replaced: &[(usize, u32)]) -> Call {
     let mut shares = record.shares.clone();
     for &(j, share) in replaced {
         shares[j - 1] = share;
     }
-    Call::Open(shares)
+    Call::Open(record.width, shares)
 }
 
 /// Party i from its making to an opening.
 pub fn party_calls(record: &Record, i: usize) -> Vec<Call> {
     let mut calls = vec![
-        Call::Make(record.n, record.t, i),
-        Call::Deal(deal_of(record, i)),
+        Call::Make(record.width, record.n, record.t, i),
+        Call::Deal(record.width, deal_of(record, i)),
     ];
     calls.extend(says(record.n));
-    calls.push(Call::Hear(heard_by(record, i)));
+    calls.push(Call::Hear(record.width, heard_by(record, i)));
     calls.push(Call::Settle(record.reports.clone()));
-    calls.push(Call::Open(record.shares.clone()));
+    calls.push(Call::Open(record.width, record.shares.clone()));
     calls
 }
 
 /// A story: the desk deals the lists; then come the calls to all who are no
 /// liars, and behind those of each party some more.
 pub fn tell(
-    lists: &[&[u16]],
+    lists: &[&[u32]],
     record: &Record,
     liars: &[Liar],
     more: impl Fn(usize) -> Vec<Call>,
 ) -> Vec<Call> {
     let (n, t) = (record.n, record.t);
-    let desk = lists.iter().map(|list| deal_by_desk(n, t, list));
+    let desk = lists
+        .iter()
+        .map(|list| deal_by_desk(record.width, n, t, list));
     let parties = (1..=n)
         .filter(|&i| liars.iter().all(|liar| liar.number != i))
         .flat_map(|i| [party_calls(record, i), more(i)].concat());
@@ -143,7 +148,7 @@ pub fn nothing(_: usize) -> Vec<Call> {
 
 /// All honest; party 1 then opens through one wrong share, not through two.
 pub fn honest() -> Vec<Call> {
-    let record = run(5, 1, honest_deals(5, 1, &F), &[]);
+    let record = run(5, 1, honest_deals(Narrow, 5, 1, &F), &[]);
     tell(&[&F], &record, &[], |i| match i {
         1 => vec![
             open_with(&record, &[(3, 999)]),
@@ -167,30 +172,35 @@ pub fn liar() -> Vec<Call> {
         report: 54_321,
         share: 999,
     }];
-    let record = run(5, 1, honest_deals(5, 1, &F), &liars);
+    let record = run(5, 1, honest_deals(Narrow, 5, 1, &F), &liars);
     tell(&[&F], &record, &liars, nothing)
 }
 
-/// n = 16, t = 3: as many liars as may be, who draw what they send.
-pub fn sixteen() -> Vec<Call> {
-    let mut rng = Rng::new(SEED);
-    let liars = [4, 9, 16].map(|number| Liar {
+/// As many liars of sixteen parties as may be, who draw what they send.
+pub fn drawing_liars(width: Width, seed: u64) -> [Liar; 3] {
+    let mut rng = Rng::new(seed);
+    [4, 9, 16].map(|number| Liar {
         number,
         pairs: (1..=16)
-            .map(|listener| (listener, rng.word(), rng.word()))
+            .map(|listener| (listener, rng.number(width), rng.number(width)))
             .collect(),
         report: 65_535,
-        share: rng.word(),
-    });
-    let record = run(16, 3, honest_deals(16, 3, &SIXTEEN), &liars);
+        share: rng.number(width),
+    })
+}
+
+/// n = 16, t = 3, with three liars.
+pub fn sixteen() -> Vec<Call> {
+    let liars = drawing_liars(Narrow, SEED);
+    let record = run(16, 3, honest_deals(Narrow, 16, 3, &SIXTEEN), &liars);
     tell(&[&SIXTEEN], &record, &liars, nothing)
 }
 
 // ---- a faulty dealer ----
 
 /// Party 5's row is 17, 24 instead of 17, 23: it misses the column.
-fn unsound_deals() -> Vec<u16> {
-    let mut deals = honest_deals(5, 1, &F);
+fn unsound_deals() -> Vec<u32> {
+    let mut deals = honest_deals(Narrow, 5, 1, &F);
     deals[17] = 24;
     deals
 }
@@ -234,8 +244,8 @@ pub fn unsound_two_liars() -> Vec<Call> {
 /// Parties 1 and 2 are dealt F, the others another list: too few agree. The
 /// closed parties are shown shares that would open, and say their pairs again.
 pub fn rejected() -> Vec<Call> {
-    let mut deals = honest_deals(5, 1, &OTHER);
-    deals[..8].copy_from_slice(&honest_deals(5, 1, &F)[..8]);
+    let mut deals = honest_deals(Narrow, 5, 1, &OTHER);
+    deals[..8].copy_from_slice(&honest_deals(Narrow, 5, 1, &F)[..8]);
     let mut record = run(5, 1, deals, &[]);
     record.shares = vec![10, 13, 16, 19, 22];
     tell(&[&F, &OTHER], &record, &[], |_| says(5))
@@ -244,7 +254,7 @@ pub fn rejected() -> Vec<Call> {
 // ---- the own-crossing trap ----
 
 /// Rows 0, 0, 65519+2X and columns 0, 65520+Y, 0; parties 4 and 5 hold zeros.
-fn trap_deals() -> Vec<u16> {
+fn trap_deals() -> Vec<u32> {
     let mut deals = vec![0; 20];
     deals[4..8].copy_from_slice(&[0, 0, 65_520, 1]);
     deals[8..12].copy_from_slice(&[65_519, 2, 0, 0]);

@@ -2,7 +2,7 @@
 //! by hand.
 
 use crate::calls::{line, Call};
-use crate::field::NOT_SENT;
+use crate::field::Width::Narrow;
 use crate::scenario::value_of_f;
 use crate::stories_tests::{answers, asked, desk_lines, only_answer, parties, party, F_DEALT};
 use crate::story_runs::SIXTEEN;
@@ -21,11 +21,11 @@ const RUNS: [&str; 8] = [
 ];
 
 /// F(i,0) = 7 + 3i.
-const SHARES: [u16; 5] = [10, 13, 16, 19, 22];
+const SHARES: [u32; 5] = [10, 13, 16, 19, 22];
 
-pub fn pairs_heard(name: &str, i: usize) -> Vec<u16> {
+pub fn pairs_heard(name: &str, i: usize) -> Vec<u32> {
     let heard = party(name, i).iter().find_map(|step| match &step.call {
-        Call::Hear(list) => Some(list.clone()),
+        Call::Hear(_, list) => Some(list.clone()),
         _ => None,
     });
     heard.expect("a hearing")
@@ -144,7 +144,7 @@ fn sixteen_with_three_liars() {
         let report = 32_503 & !(1u16 << (i - 1));
         let hear = format!("ok {report} ; 2 0 0");
         assert_eq!(only_answer("sixteen", i, "hear"), hear);
-        let share = value_of_f(&SIXTEEN, 3, i as u64, 0);
+        let share = value_of_f(Narrow, &SIXTEEN, 3, i as u64, 0);
         let state = format!("3 {share} 32503");
         assert_eq!(only_answer("sixteen", i, "settle"), format!("ok ; {state}"));
         let opened = format!("ok 31337 ; {state}");
@@ -164,14 +164,20 @@ fn sixteen_with_three_liars() {
 /// The liars' numbers are many and not those of F, published ones included.
 #[test]
 fn sixteen_numbers_are_drawn() {
-    let mut drawn: BTreeSet<u16> = BTreeSet::new();
+    let mut drawn: BTreeSet<u32> = BTreeSet::new();
     let mut published = BTreeSet::new();
     for i in parties("sixteen") {
         let pairs = pairs_heard("sixteen", i);
         for j in [4, 9, 16] {
             let (x, y) = (i as u64, j as u64);
-            assert_ne!(u64::from(pairs[2 * j - 2]), value_of_f(&SIXTEEN, 3, x, y));
-            assert_ne!(u64::from(pairs[2 * j - 1]), value_of_f(&SIXTEEN, 3, y, x));
+            assert_ne!(
+                u64::from(pairs[2 * j - 2]),
+                value_of_f(Narrow, &SIXTEEN, 3, x, y)
+            );
+            assert_ne!(
+                u64::from(pairs[2 * j - 1]),
+                value_of_f(Narrow, &SIXTEEN, 3, y, x)
+            );
             drawn.extend(&pairs[2 * j - 2..2 * j]);
         }
         published.extend(asked("sixteen", i, "open"));
@@ -181,7 +187,7 @@ fn sixteen_numbers_are_drawn() {
     let list = published.into_iter().next().unwrap();
     let words: Vec<&str> = list.split(' ').collect();
     for j in [4, 9, 16] {
-        let share = value_of_f(&SIXTEEN, 3, j as u64, 0);
+        let share = value_of_f(Narrow, &SIXTEEN, 3, j as u64, 0);
         assert_ne!(words[j], share.to_string());
     }
 }
@@ -267,7 +273,7 @@ pub fn hear_each_other(name: &str) {
                 assert_eq!(heard[2 * j - 2..2 * j], pair, "{name} {j} {i}");
             }
             if i == j {
-                assert_eq!(pair, [NOT_SENT; 2]);
+                assert_eq!(pair, [step.before.width.not_sent(); 2]);
             }
         }
         let n = pairs_heard(name, j).len() / 2;

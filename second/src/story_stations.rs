@@ -2,22 +2,24 @@
 //! it is that of the examples, n = 5, t = 1, and the dealer's list is F.
 
 use crate::calls::Call;
-use crate::field::{mul, sub, NOT_SENT};
+use crate::field::Width::Narrow;
+use crate::field::NOT_SENT;
 use crate::follow;
 use crate::named::F;
 use crate::record::Record;
-use crate::rng::Rng;
 use crate::stations::{point, STATIONS};
-use crate::story_runs::{nothing, open_with, party_calls, run_on, says, tell, Liar, SIXTEEN};
+use crate::story_runs::{
+    drawing_liars, nothing, open_with, party_calls, run_on, says, tell, Liar, SIXTEEN,
+};
 
 /// The same station numbers in another order.
-pub const REORDERED: [u16; 5] = [3, 65_520, 40_961, 21_000, 7];
+pub const REORDERED: [u32; 5] = [3, 65_520, 40_961, 21_000, 7];
 
 /// The same but for the last.
-pub const LAST_ENTRY_OFF: [u16; 5] = [40_961, 7, 65_520, 3, 20_999];
+pub const LAST_ENTRY_OFF: [u32; 5] = [40_961, 7, 65_520, 3, 20_999];
 
 /// Sixteen station numbers, small and large ones among them.
-pub const SIXTEEN_STATIONS: [u16; 16] = [
+pub const SIXTEEN_STATIONS: [u32; 16] = [
     65_520, 2, 30_011, 16, 1, 65_519, 777, 40_000, 5, 12_345, 61_007, 9, 32_768, 255, 256, 54_321,
 ];
 
@@ -27,9 +29,9 @@ const SEED: u64 = 1606;
 // ---- pieces ----
 
 /// The same calls, each making and each desk with a table.
-pub fn with_table(calls: Vec<Call>, table: &[u16]) -> Vec<Call> {
+pub fn with_table(calls: Vec<Call>, table: &[u32]) -> Vec<Call> {
     let add_table = |call| match call {
-        Call::Make(n, t, i) => Call::MakeWith(n, t, i, table.to_vec()),
+        Call::Make(width, n, t, i) => Call::MakeWith(width, n, t, i, table.to_vec()),
         Call::Desk(desk) => Call::DeskWith(desk, table.to_vec()),
         other => other,
     };
@@ -37,14 +39,14 @@ pub fn with_table(calls: Vec<Call>, table: &[u16]) -> Vec<Call> {
 }
 
 /// A run of honest parties and liars on the examples' table, told.
-fn told(deals: Vec<u16>, liars: &[Liar], more: impl Fn(&Record, usize) -> Vec<Call>) -> Vec<Call> {
-    let record = run_on(&STATIONS, 1, deals, liars);
+fn told(deals: Vec<u32>, liars: &[Liar], more: impl Fn(&Record, usize) -> Vec<Call>) -> Vec<Call> {
+    let record = run_on(Narrow, &STATIONS, 1, deals, liars);
     let calls = tell(&[&F], &record, liars, |i| more(&record, i));
     with_table(calls, &STATIONS)
 }
 
-fn honest_deals() -> Vec<u16> {
-    follow::deals(&STATIONS, 1, &F)
+fn honest_deals() -> Vec<u32> {
+    follow::deals(Narrow, &STATIONS, 1, &F)
 }
 
 // ---- liars and repair ----
@@ -67,7 +69,7 @@ pub fn liar() -> Vec<Call> {
 }
 
 /// Party 5's row is one off in its second number: it misses the column.
-fn unsound_deals() -> Vec<u16> {
+fn unsound_deals() -> Vec<u32> {
     let mut deals = honest_deals();
     deals[17] += 1;
     deals
@@ -107,17 +109,9 @@ pub fn two_liars() -> Vec<Call> {
 
 /// n = 16, t = 3: as many liars as may be, who draw what they send.
 pub fn sixteen() -> Vec<Call> {
-    let mut rng = Rng::new(SEED);
-    let liars = [4, 9, 16].map(|number| Liar {
-        number,
-        pairs: (1..=16)
-            .map(|listener| (listener, rng.word(), rng.word()))
-            .collect(),
-        report: 65_535,
-        share: rng.word(),
-    });
-    let deals = follow::deals(&SIXTEEN_STATIONS, 3, &SIXTEEN);
-    let record = run_on(&SIXTEEN_STATIONS, 3, deals, &liars);
+    let liars = drawing_liars(Narrow, SEED);
+    let deals = follow::deals(Narrow, &SIXTEEN_STATIONS, 3, &SIXTEEN);
+    let record = run_on(Narrow, &SIXTEEN_STATIONS, 3, deals, &liars);
     let calls = tell(&[&SIXTEEN], &record, &liars, nothing);
     with_table(calls, &SIXTEEN_STATIONS)
 }
@@ -127,10 +121,16 @@ pub fn sixteen() -> Vec<Call> {
 /// All honest on the reordered table. The shares of the examples' table stand
 /// at the wrong points here: party 1 is shown them too.
 pub fn order() -> Vec<Call> {
-    let record = run_on(&REORDERED, 1, follow::deals(&REORDERED, 1, &F), &[]);
-    let first = run_on(&STATIONS, 1, honest_deals(), &[]);
+    let record = run_on(
+        Narrow,
+        &REORDERED,
+        1,
+        follow::deals(Narrow, &REORDERED, 1, &F),
+        &[],
+    );
+    let first = run_on(Narrow, &STATIONS, 1, honest_deals(), &[]);
     let calls = tell(&[&F], &record, &[], |i| match i {
-        1 => vec![Call::Open(first.shares.clone())],
+        1 => vec![Call::Open(Narrow, first.shares.clone())],
         _ => nothing(i),
     });
     with_table(calls, &REORDERED)
@@ -138,8 +138,8 @@ pub fn order() -> Vec<Call> {
 
 /// Party 2 has loaded another table than the dealer and all others. It follows
 /// the protocol by its own.
-fn party_2_with(table: &[u16]) -> Vec<Call> {
-    let others = run_on(&STATIONS, 1, honest_deals(), &[]);
+fn party_2_with(table: &[u32]) -> Vec<Call> {
+    let others = run_on(Narrow, &STATIONS, 1, honest_deals(), &[]);
     let dealt = follow::dealt_party(&others, table, 2);
     let said = |listener: usize| {
         let (first, second) = dealt.say(listener).expect("dealt");
@@ -151,11 +151,11 @@ fn party_2_with(table: &[u16]) -> Vec<Call> {
         report: follow::reported_party(&others, table, 2).report,
         share: NOT_SENT,
     }];
-    let record = run_on(&STATIONS, 1, honest_deals(), &odd);
+    let record = run_on(Narrow, &STATIONS, 1, honest_deals(), &odd);
     if let (party, Ok(())) = follow::settled_party(&record, table, 2) {
         odd[0].share = party.share;
     }
-    let record = run_on(&STATIONS, 1, honest_deals(), &odd);
+    let record = run_on(Narrow, &STATIONS, 1, honest_deals(), &odd);
     let mut calls = with_table(tell(&[&F], &record, &odd, nothing), &STATIONS);
     calls.extend(with_table(party_calls(&record, 2), table));
     calls
@@ -178,10 +178,10 @@ pub fn one_entry() -> Vec<Call> {
 pub fn trap() -> Vec<Call> {
     let [one, two, three] = [1, 2, 3].map(|i| point(&STATIONS, i));
     // c(X - one), as two numbers.
-    let line = |c: u64| [sub(0, mul(c, one)) as u16, c as u16];
+    let line = |c: u64| [Narrow.sub(0, Narrow.mul(c, one)) as u32, c as u32];
     let mut deals = vec![0; 20];
-    deals[6..8].copy_from_slice(&line(sub(two, one)));
-    deals[8..10].copy_from_slice(&line(sub(three, one)));
-    let record = run_on(&STATIONS, 1, deals, &[]);
+    deals[6..8].copy_from_slice(&line(Narrow.sub(two, one)));
+    deals[8..10].copy_from_slice(&line(Narrow.sub(three, one)));
+    let record = run_on(Narrow, &STATIONS, 1, deals, &[]);
     with_table(tell(&[], &record, &[], nothing), &STATIONS)
 }

@@ -3,6 +3,7 @@
 //! 40961, 7, 65520 (which is -1), 3 and 21000.
 
 use crate::calls::line;
+use crate::field::Width::Narrow;
 use crate::field::P;
 use crate::scenario::value_of_f;
 use crate::stations::STATIONS;
@@ -17,16 +18,16 @@ const DEALT: &str = "desk-table 5 1 20 5 40961 7 65520 3 21000 7 2 3 4 = ok \
                      42007 18482 63007 18481";
 
 /// F(x,0) = 7 + 3x.
-const SHARES: [u16; 5] = [57_369, 28, 4, 16, 63_007];
+const SHARES: [u32; 5] = [57_369, 28, 4, 16, 63_007];
 
 /// F, once more and by the formula.
-fn f(x: u16, y: u16) -> u16 {
+fn f(x: u32, y: u32) -> u32 {
     let (x, y) = (u64::from(x), u64::from(y));
-    ((7 + 3 * x + 2 * y + 4 * x * y) % P) as u16
+    ((7 + 3 * x + 2 * y + 4 * x * y) % P) as u32
 }
 
 /// Every pair that is heard from a party other than these is F at the stations.
-fn pairs_are_those_of_f(name: &str, table: &[u16], liars: &[usize]) {
+fn pairs_are_those_of_f(name: &str, table: &[u32], liars: &[usize]) {
     for i in parties(name) {
         let heard = pairs_heard(name, i);
         for j in (1..=5).filter(|j| *j != i && !liars.contains(j)) {
@@ -160,13 +161,13 @@ fn sixteen_stations_with_three_liars() {
     assert_eq!(parties(name), honest);
     for i in honest {
         let x = u64::from(SIXTEEN_STATIONS[i - 1]);
-        let state = format!("3 {} 32503", value_of_f(&SIXTEEN, 3, x, 0));
+        let state = format!("3 {} 32503", value_of_f(Narrow, &SIXTEEN, 3, x, 0));
         assert_eq!(only_answer(name, i, "settle"), format!("ok ; {state}"));
         assert_eq!(only_answer(name, i, "open"), format!("ok 31337 ; {state}"));
         let heard = pairs_heard(name, i);
         for j in honest.into_iter().filter(|&j| j != i) {
             let y = u64::from(SIXTEEN_STATIONS[j - 1]);
-            let pair = [(x, y), (y, x)].map(|(x, y)| value_of_f(&SIXTEEN, 3, x, y) as u16);
+            let pair = [(x, y), (y, x)].map(|(x, y)| value_of_f(Narrow, &SIXTEEN, 3, x, y) as u32);
             assert_eq!(heard[2 * j - 2..2 * j], pair);
         }
     }

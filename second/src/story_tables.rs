@@ -2,7 +2,7 @@
 //! later call; and of the table 1 to n, which is as good as none.
 
 use crate::calls::{Call, Desk};
-use crate::field::NOT_SENT;
+use crate::field::Width::{self, Narrow};
 use crate::named::F;
 use crate::stations::{one_to, STATIONS};
 use crate::story_refusals::stages;
@@ -10,7 +10,7 @@ use crate::story_runs::unsound;
 use crate::story_stations::with_table;
 
 /// Tables with a bad entry: 0, too large, or there twice, at both ends.
-const BAD_ENTRIES: [[u16; 5]; 11] = [
+const BAD_ENTRIES: [[u32; 5]; 11] = [
     [0, 7, 65_520, 3, 21_000],
     [40_961, 7, 0, 3, 21_000],
     [40_961, 7, 65_520, 3, 0],
@@ -25,7 +25,7 @@ const BAD_ENTRIES: [[u16; 5]; 11] = [
 ];
 
 /// Tables of another length, good ones and bad ones.
-const BAD_LENGTHS: [&[u16]; 6] = [
+const BAD_LENGTHS: [&[u32]; 6] = [
     &[],
     &[40_961, 7, 65_520, 3],
     &[40_961, 7, 65_520, 3, 21_000, 1],
@@ -35,7 +35,7 @@ const BAD_LENGTHS: [&[u16]; 6] = [
 ];
 
 /// Both sorts, one after the other.
-fn bad_tables() -> Vec<Vec<u16>> {
+fn bad_tables() -> Vec<Vec<u32>> {
     let entries = BAD_ENTRIES.iter().map(|table| table.to_vec());
     let lengths = BAD_LENGTHS.iter().map(|table| table.to_vec());
     entries.chain(lengths).collect()
@@ -46,7 +46,7 @@ fn bad_tables() -> Vec<Vec<u16>> {
 pub fn makings() -> Vec<Call> {
     let mut calls = Vec::new();
     for table in bad_tables() {
-        calls.push(Call::MakeWith(5, 1, 2, table));
+        calls.push(Call::MakeWith(Narrow, 5, 1, 2, table));
         calls.push(Call::Say(1));
     }
     let zero = BAD_ENTRIES[0].to_vec();
@@ -61,7 +61,7 @@ pub fn makings() -> Vec<Call> {
         (5, 1, 2, vec![65_520, 1, 65_519, 2, 65_518]),
         (5, 1, 2, STATIONS.to_vec()),
     ] {
-        calls.push(Call::MakeWith(n, t, i, table));
+        calls.push(Call::MakeWith(Narrow, n, t, i, table));
         calls.push(Call::Say(1));
     }
     calls
@@ -70,9 +70,10 @@ pub fn makings() -> Vec<Call> {
 /// Each bad table at the desk; then with other things wrong, of which the first
 /// is told; last a table that is taken.
 pub fn desks() -> Vec<Call> {
-    let desk = |n: usize, room: usize, coefs: &[u16], table: &[u16]| {
+    let desk = |n: usize, room: usize, coefs: &[u32], table: &[u32]| {
         let coefs = coefs.to_vec();
         let desk = Desk {
+            width: Narrow,
             n,
             t: 1,
             room,
@@ -100,29 +101,34 @@ pub fn desks() -> Vec<Call> {
     calls
 }
 
-/// A sort of call that lends a list, and the list's right length.
-type Lending = (fn(Vec<u16>) -> Call, usize);
-
 /// Every call: pairs for 0 to 6; lists of each sort that are too short, too
 /// long or empty; then lists of the right length, all but the last of which
 /// come at the wrong stage too.
-fn every_call() -> Vec<Call> {
-    let sorts: [Lending; 4] = [
-        (Call::Hear, 10),
-        (Call::Settle, 5),
-        (Call::Open, 5),
-        (Call::Deal, 4),
-    ];
+pub fn every_call(width: Width) -> Vec<Call> {
+    let not_sent = width.not_sent();
+    let lengths = [10, 5, 5, 4];
     let mut calls: Vec<Call> = (0..=6).map(Call::Say).collect();
-    for (call, length) in sorts {
+    for (sort, length) in lengths.into_iter().enumerate() {
         for wrong in [length - 1, length + 1, 0] {
-            calls.push(call(vec![NOT_SENT; wrong]));
+            calls.push(lending(width, sort, wrong, not_sent));
         }
     }
-    for (call, length) in sorts {
-        calls.push(call(vec![0; length]));
+    for (sort, length) in lengths.into_iter().enumerate() {
+        calls.push(lending(width, sort, length, 0));
     }
     calls
+}
+
+/// A call that lends a list of so many equal numbers: pairs, reports, shares or
+/// a deal.
+fn lending(width: Width, sort: usize, length: usize, number: u32) -> Call {
+    let list = vec![number; length];
+    match sort {
+        0 => Call::Hear(width, list),
+        1 => Call::Settle(vec![number as u16; length]),
+        2 => Call::Open(width, list),
+        _ => Call::Deal(width, list),
+    }
 }
 
 /// A party with a 0 in its table, one whose table was too short, and one with a
@@ -132,8 +138,8 @@ pub fn calls() -> Vec<Call> {
     tables
         .into_iter()
         .flat_map(|table| {
-            let make = Call::MakeWith(5, 1, 2, table.to_vec());
-            [vec![make], every_call()].concat()
+            let make = Call::MakeWith(Narrow, 5, 1, 2, table.to_vec());
+            [vec![make], every_call(Narrow)].concat()
         })
         .collect()
 }
@@ -145,5 +151,5 @@ pub fn one_to_n_unsound() -> Vec<Call> {
 
 /// The story of a party at each stage, with the table 1 to 5.
 pub fn one_to_n_stages() -> Vec<Call> {
-    with_table(stages(), &one_to(5))
+    with_table(stages(Narrow), &one_to(5))
 }

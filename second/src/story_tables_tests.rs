@@ -76,8 +76,8 @@ fn same_as(name: &str, without: &str) {
             assert_eq!(with.after, plain.after);
         }
         match (&with.call, &plain.call) {
-            (Call::MakeWith(n, t, i, table), Call::Make(..)) => {
-                assert_eq!(plain.call, Call::Make(*n, *t, *i));
+            (Call::MakeWith(width, n, t, i, table), Call::Make(..)) => {
+                assert_eq!(plain.call, Call::Make(*width, *n, *t, *i));
                 assert_eq!(table, &[1, 2, 3, 4, 5]);
             }
             (Call::DeskWith(desk, table), Call::Desk(_)) => {

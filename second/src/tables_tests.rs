@@ -1,18 +1,20 @@
 //! The tables that come in the random lists, and what comes of them.
 
-use crate::calls::{Call, Step};
+use crate::calls::{call_width, Call, Step};
 use crate::dealer::legal_size;
-use crate::field::NOT_SENT;
+use crate::field::Width::{self, Narrow, Wide};
 use crate::lists_tests::steps;
 use crate::party::Party;
 use std::collections::BTreeSet;
 
-/// A table and the n it is for. Only legal sizes.
-type Loaded = (usize, &'static [u16]);
+/// A table, its width and the n it is for. Only legal sizes.
+type Loaded = (Width, usize, &'static [u32]);
 
 fn of_makings() -> Vec<Loaded> {
     let table = |step: &'static Step| match &step.call {
-        Call::MakeWith(n, t, _, table) if legal_size(*n, *t) => Some((*n, &table[..])),
+        Call::MakeWith(width, n, t, _, table) if legal_size(*n, *t) => {
+            Some((*width, *n, &table[..]))
+        }
         _ => None,
     };
     steps().iter().filter_map(table).collect()
@@ -20,7 +22,9 @@ fn of_makings() -> Vec<Loaded> {
 
 fn of_desks() -> Vec<Loaded> {
     let table = |step: &'static Step| match &step.call {
-        Call::DeskWith(desk, table) if legal_size(desk.n, desk.t) => Some((desk.n, &table[..])),
+        Call::DeskWith(desk, table) if legal_size(desk.n, desk.t) => {
+            Some((desk.width, desk.n, &table[..]))
+        }
         _ => None,
     };
     steps().iter().filter_map(table).collect()
@@ -28,15 +32,15 @@ fn of_desks() -> Vec<Loaded> {
 
 /// Bad by the first rule that a reader thinks of: sorted, it has no equal
 /// neighbours, no 0 and nothing too large.
-fn bad_entry(table: &[u16]) -> bool {
+fn bad_entry(width: Width, table: &[u32]) -> bool {
     let mut sorted = table.to_vec();
     sorted.sort_unstable();
     let twice = sorted.windows(2).any(|pair| pair[0] == pair[1]);
-    twice || table.contains(&0) || table.iter().any(|&x| x > 65_520)
+    twice || table.contains(&0) || table.iter().any(|&x| u64::from(x) >= width.prime())
 }
 
-fn is_one_to_n(n: usize, table: &[u16]) -> bool {
-    table.len() == n && (1..=n).all(|i| usize::from(table[i - 1]) == i)
+fn is_one_to_n(n: usize, table: &[u32]) -> bool {
+    table.len() == n && (1..=n).all(|i| table[i - 1] as usize == i)
 }
 
 // ---- which tables come ----
@@ -55,63 +59,103 @@ fn half_have_tables() {
     }
 }
 
-type Sort = (&'static str, fn(usize, &[u16]) -> bool);
+type Sort = (&'static str, fn(Width, usize, &[u32]) -> bool);
 
 /// Sorts of tables of the right length that are taken.
 const GOOD: [Sort; 6] = [
-    ("1 to n", is_one_to_n),
-    ("1 to n in another order", |n, table| {
-        !is_one_to_n(n, table) && table.iter().all(|&x| usize::from(x) <= n)
+    ("1 to n", |_, n, table| is_one_to_n(n, table)),
+    ("1 to n in another order", |_, n, table| {
+        !is_one_to_n(n, table) && table.iter().all(|&x| x as usize <= n)
     }),
-    ("small", |n, table| {
-        table.iter().all(|&x| x < 20) && table.iter().any(|&x| usize::from(x) > n)
+    ("small", |_, n, table| {
+        table.iter().all(|&x| x < 20) && table.iter().any(|&x| x as usize > n)
     }),
-    ("large", |_, table| table.iter().all(|&x| x > 65_500)),
-    ("with 65520", |_, table| table.contains(&65_520)),
-    ("any", |_, table| {
-        table.iter().any(|x| (100..65_400).contains(x))
+    ("large", |width, _, table| {
+        let large = width.prime() as u32 - 21;
+        table.iter().all(|&x| x > large)
+    }),
+    ("with the largest", |width, _, table| {
+        table.contains(&(width.prime() as u32 - 1))
+    }),
+    ("any", |width, _, table| {
+        let any = 100..width.prime() as u32 - 100;
+        table.iter().any(|x| any.contains(x))
     }),
 ];
 
 /// Sorts that are refused.
 const BAD: [Sort; 11] = [
-    ("empty", |_, table| table.is_empty()),
-    ("one short", |n, table| table.len() + 1 == n),
-    ("one long", |n, table| table.len() == n + 1),
-    ("long and else good", |n, table| {
-        table.len() > n && !bad_entry(table)
+    ("empty", |_, _, table| table.is_empty()),
+    ("one short", |_, n, table| table.len() + 1 == n),
+    ("one long", |_, n, table| table.len() == n + 1),
+    ("long and else good", |width, n, table| {
+        table.len() > n && !bad_entry(width, table)
     }),
-    ("0 first", |n, table| table.len() == n && table[0] == 0),
-    ("0 last", |n, table| table.len() == n && table[n - 1] == 0),
-    ("65521", |_, table| table.contains(&65_521)),
-    ("65535", |_, table| table.contains(&NOT_SENT)),
-    ("first is last", |n, table| only_twice(n, table, 0, n - 1)),
-    ("last two", |n, table| only_twice(n, table, n - 2, n - 1)),
-    ("first two", |n, table| only_twice(n, table, 0, 1)),
+    ("0 first", |_, n, table| table.len() == n && table[0] == 0),
+    ("0 last", |_, n, table| {
+        table.len() == n && table[n - 1] == 0
+    }),
+    ("the prime", |width, _, table| {
+        table.contains(&(width.prime() as u32))
+    }),
+    ("not sent", |width, _, table| {
+        table.contains(&width.not_sent())
+    }),
+    ("first is last", |width, n, table| {
+        only_twice(width, n, table, [0, n - 1])
+    }),
+    ("last two", |width, n, table| {
+        only_twice(width, n, table, [n - 2, n - 1])
+    }),
+    ("first two", |width, n, table| {
+        only_twice(width, n, table, [0, 1])
+    }),
 ];
 
 /// These two places are the same, and it is the only fault.
-fn only_twice(n: usize, table: &[u16], a: usize, b: usize) -> bool {
+fn only_twice(width: Width, n: usize, table: &[u32], [a, b]: [usize; 2]) -> bool {
     let mut without = table.to_vec();
     if table.len() == n {
         without.remove(b);
     }
-    table.len() == n && table[a] == table[b] && !bad_entry(&without)
+    table.len() == n && table[a] == table[b] && !bad_entry(width, &without)
 }
 
 #[test]
 fn tables_of_every_sort() {
-    for (of, tables) in [("make", of_makings()), ("desk", of_desks())] {
-        for (name, is_so) in GOOD {
-            let good = |n: usize, table: &[u16]| table.len() == n && !bad_entry(table);
-            let times = tables.iter().filter(|(n, t)| good(*n, t) && is_so(*n, t));
-            assert!(times.count() >= 10, "{of} {name}");
-        }
-        for (name, is_so) in BAD {
-            let times = tables.iter().filter(|(n, table)| is_so(*n, table));
-            assert!(times.count() >= 2, "{of} {name}");
+    for width in [Narrow, Wide] {
+        for (of, mut tables) in [("make", of_makings()), ("desk", of_desks())] {
+            tables.retain(|table| table.0 == width);
+            for (name, is_so) in GOOD {
+                let good = |n: usize, table: &[u32]| table.len() == n && !bad_entry(width, table);
+                let so = |(w, n, t): &&Loaded| good(*n, t) && is_so(*w, *n, t);
+                let times = tables.iter().filter(so).count();
+                assert!(times >= 10, "{width:?} {of} {name} {times}");
+            }
+            for (name, is_so) in BAD {
+                let so = |(w, n, table): &&Loaded| is_so(*w, *n, table);
+                let times = tables.iter().filter(so).count();
+                assert!(times >= 2, "{width:?} {of} {name} {times}");
+            }
         }
     }
+}
+
+/// Good wide tables that a narrow party would refuse, and such as a reader of 16
+/// bits would take for others.
+#[test]
+fn wide_tables_come() {
+    let times = |holds: fn(&[u32]) -> bool| {
+        let tables = of_makings().into_iter().chain(of_desks());
+        let wide = tables.filter(|(width, n, table)| {
+            *width == Wide && table.len() == *n && !bad_entry(Wide, table)
+        });
+        wide.filter(|(_, _, table)| holds(table)).count()
+    };
+    assert!(times(|table| table.contains(&65_521)) >= 5);
+    assert!(times(|table| table.contains(&65_536)) >= 5);
+    assert!(times(|table| table.iter().all(|&x| x > 65_520)) >= 50);
+    assert!(times(|table| table.iter().all(|x| (65_500..65_600).contains(x))) >= 10);
 }
 
 // ---- what comes of them ----
@@ -138,7 +182,7 @@ fn runs_with_tables_succeed() {
         let unhappy = *happy != 0 && happy >> (number - 1) & 1 == 0;
         match step.call {
             Call::Settle(_) if unhappy => repaired[*t] += 1,
-            Call::Open(_) => {
+            Call::Open(..) => {
                 opened.insert((*n, *t));
                 opened_after[*t] += usize::from(unhappy);
             }
@@ -163,24 +207,29 @@ fn answered(holds: impl Fn(&Step) -> bool) -> (BTreeSet<u8>, usize) {
 
 /// Parties whose table is refused, and nothing else of them.
 fn only_table_is_bad(party: &Party) -> bool {
-    party.check_made().is_ok() && bad_entry(&party.table)
+    party.check_made().is_ok() && bad_entry(party.width, &party.table)
 }
 
 /// A list of the right length for the party.
 fn right_length(step: &Step) -> bool {
     let (n, t) = (step.before.n, step.before.t);
     match &step.call {
-        Call::Deal(list) => list.len() == 2 * (t + 1),
-        Call::Hear(list) => list.len() == 2 * n,
-        Call::Settle(list) | Call::Open(list) => list.len() == n,
+        Call::Deal(_, list) => list.len() == 2 * (t + 1),
+        Call::Hear(_, list) => list.len() == 2 * n,
+        Call::Settle(list) => list.len() == n,
+        Call::Open(_, list) => list.len() == n,
         _ => panic!("no list"),
     }
 }
 
+/// A call that lends a list, of the party's own prime.
 fn has_list(step: &Step, waiting: bool) -> bool {
+    if call_width(&step.call).is_some_and(|width| width != step.before.width) {
+        return false;
+    }
     match step.call {
-        Call::Deal(_) => waiting,
-        Call::Hear(_) | Call::Settle(_) | Call::Open(_) => true,
+        Call::Deal(..) => waiting,
+        Call::Hear(..) | Call::Settle(_) | Call::Open(..) => true,
         _ => false,
     }
 }
@@ -208,7 +257,9 @@ fn order_at_a_party() {
         met == BTreeSet::from([14]) && times >= 50,
         "{met:?} {times}"
     );
-    let takes = |step: &Step| matches!(step.call, Call::Deal(_)) && right_length(step);
+    let takes = |step: &Step| {
+        matches!(step.call, Call::Deal(..)) && has_list(step, true) && right_length(step)
+    };
     let (met, times) = answered(|step| bad(step) && takes(step));
     assert!(
         met == BTreeSet::from([14]) && times >= 50,
@@ -221,11 +272,11 @@ fn order_at_a_party() {
 fn order_at_a_making() {
     let made = |holds: fn(bool, bool, bool, bool) -> bool| {
         answered(|step| match &step.call {
-            Call::MakeWith(n, t, i, table) => holds(
+            Call::MakeWith(width, n, t, i, table) => holds(
                 !legal_size(*n, *t),
                 !(1..=*n).contains(i),
                 table.len() != *n,
-                bad_entry(table),
+                bad_entry(*width, table),
             ),
             _ => false,
         })
@@ -253,12 +304,13 @@ fn desk_faults(step: &Step) -> Option<Faults> {
     };
     let (n, t) = (desk.n, desk.t);
     let lengths = [
-        desk.coefs.len() != (t + 1) * (t + 1),
-        desk.room != 2 * n * (t + 1),
+        desk.coefs.len() != (t + 1).saturating_mul(t + 1),
+        desk.room != (2 * n).saturating_mul(t + 1),
         table.len() != n,
     ];
-    let large = desk.coefs.iter().any(|&c| c > 65_520);
-    Some((!legal_size(n, t), lengths, bad_entry(table), large))
+    let large = desk.coefs.iter().any(|&c| !desk.width.is_sent(c));
+    let bad = bad_entry(desk.width, table);
+    Some((!legal_size(n, t), lengths, bad, large))
 }
 
 /// 1, 3, 14, 5 at the desk.

@@ -1,8 +1,7 @@
 //! Pairs, reports and published shares tampered with, for parties whose points
 //! are those of a table.
 
-use crate::field::{NOT_SENT, P};
-use crate::lies::{about_t, enlarge, garble, victims, wrong};
+use crate::lies::{about_t, enlarge, garble, garble_reports, victims, wrong};
 use crate::poly::value;
 use crate::record::{pair_place, Record};
 use crate::rng::Rng;
@@ -11,14 +10,14 @@ use crate::stations::point;
 
 // ---- tampering with the pairs ----
 
-pub fn tamper_pairs(rng: &mut Rng, record: &mut Record, table: &[u16], fault: PairFault) {
+pub fn tamper_pairs(rng: &mut Rng, record: &mut Record, table: &[u32], fault: PairFault) {
     match fault {
         PairFault::None => {}
         PairFault::Graph => pairs_for_graph(rng, record),
         PairFault::Repair => pairs_for_repair(rng, record),
         PairFault::OtherColumn => pairs_of_other_column(rng, record, table),
-        PairFault::Large => enlarge(rng, &mut record.pairs),
-        PairFault::Garbage => garble(rng, &mut record.pairs),
+        PairFault::Large => enlarge(rng, record.width, &mut record.pairs),
+        PairFault::Garbage => garble(rng, record.width, &mut record.pairs),
     }
 }
 
@@ -72,10 +71,10 @@ fn spoil_pair(rng: &mut Rng, record: &mut Record, receiver: usize, sender: usize
     let place = pair_place(record.n, receiver, sender);
     let which = rng.below(3);
     if which != 1 {
-        record.pairs[place] = wrong(rng, record.pairs[place]);
+        record.pairs[place] = wrong(rng, record.width, record.pairs[place]);
     }
     if which != 0 {
-        record.pairs[place + 1] = wrong(rng, record.pairs[place + 1]);
+        record.pairs[place + 1] = wrong(rng, record.width, record.pairs[place + 1]);
     }
 }
 
@@ -100,28 +99,30 @@ fn pairs_for_repair(rng: &mut Rng, record: &mut Record) {
         let doubted = rng.between(record.t, record.n);
         for sender in rng.some_of(record.n, doubted) {
             let place = pair_place(record.n, receiver, sender) + 1;
-            record.pairs[place] = wrong(rng, record.pairs[place]);
+            record.pairs[place] = wrong(rng, record.width, record.pairs[place]);
         }
         let lies = rng.between(0, 2 * record.t + 1);
         for sender in rng.some_of(record.n, lies) {
             let place = pair_place(record.n, receiver, sender);
-            record.pairs[place] = wrong(rng, record.pairs[place]);
+            record.pairs[place] = wrong(rng, record.width, record.pairs[place]);
         }
     }
 }
 
 /// Some receivers hear first numbers of a column that is not theirs, except
 /// from a few senders; a repair then finds that column.
-fn pairs_of_other_column(rng: &mut Rng, record: &mut Record, table: &[u16]) {
+fn pairs_of_other_column(rng: &mut Rng, record: &mut Record, table: &[u32]) {
     let count = rng.between(1, record.t);
     for receiver in rng.some_of(record.n, count) {
-        let column: Vec<u64> = (0..=record.t).map(|_| rng.element().into()).collect();
+        let column: Vec<u64> = (0..=record.t)
+            .map(|_| rng.element(record.width).into())
+            .collect();
         let spared = rng.between(0, 2 * record.t + 1);
         let spared = rng.some_of(record.n, spared);
         for sender in 1..=record.n {
             if !spared.contains(&sender) {
                 let place = pair_place(record.n, receiver, sender);
-                record.pairs[place] = value(&column, point(table, sender)) as u16;
+                record.pairs[place] = value(record.width, &column, point(table, sender)) as u32;
             }
         }
     }
@@ -140,7 +141,7 @@ pub fn tamper_reports(rng: &mut Rng, record: &mut Record, fault: ReportFault) {
             }
         }
         ReportFault::Graph => reports_of_graph(rng, record),
-        ReportFault::Garbage => garble(rng, &mut record.reports),
+        ReportFault::Garbage => garble_reports(rng, &mut record.reports),
     }
 }
 
@@ -183,30 +184,33 @@ fn reports_of_graph(rng: &mut Rng, record: &mut Record) {
 
 // ---- tampering with the published shares ----
 
-pub fn tamper_shares(rng: &mut Rng, record: &mut Record, table: &[u16], fault: ShareFault) {
+pub fn tamper_shares(rng: &mut Rng, record: &mut Record, table: &[u32], fault: ShareFault) {
     match fault {
         ShareFault::None => {}
         ShareFault::Wrong => {
             for i in victims(rng, record) {
-                record.shares[i - 1] = wrong(rng, record.shares[i - 1]);
+                record.shares[i - 1] = wrong(rng, record.width, record.shares[i - 1]);
             }
         }
         ShareFault::Other => shares_of_other(rng, record, table),
-        ShareFault::Large => enlarge(rng, &mut record.shares),
+        ShareFault::Large => enlarge(rng, record.width, &mut record.shares),
         ShareFault::Flat => {
-            let number = rng.pick(&[NOT_SENT, 0, P as u16, (P - 1) as u16, 7]);
+            let p = record.width.prime() as u32;
+            let number = rng.pick(&[record.width.not_sent(), 0, p, p - 1, 7]);
             record.shares.fill(number);
         }
-        ShareFault::Garbage => garble(rng, &mut record.shares),
+        ShareFault::Garbage => garble(rng, record.width, &mut record.shares),
     }
 }
 
-fn shares_of_other(rng: &mut Rng, record: &mut Record, table: &[u16]) {
-    let poly: Vec<u64> = (0..=record.t).map(|_| rng.element().into()).collect();
+fn shares_of_other(rng: &mut Rng, record: &mut Record, table: &[u32]) {
+    let poly: Vec<u64> = (0..=record.t)
+        .map(|_| rng.element(record.width).into())
+        .collect();
     let spared = victims(rng, record);
     for i in 1..=record.n {
         if !spared.contains(&i) {
-            record.shares[i - 1] = value(&poly, point(table, i)) as u16;
+            record.shares[i - 1] = value(record.width, &poly, point(table, i)) as u32;
         }
     }
 }

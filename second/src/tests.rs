@@ -4,7 +4,8 @@ use crate::bench::run;
 use crate::calls::{apply, line, step, Call, Desk};
 use crate::clique::{agreements, happy_set, members, verdict};
 use crate::dealer::{deal, legal_size};
-use crate::field::{inverse, mul, NOT_SENT, P};
+use crate::field::Width::{Narrow, Wide};
+use crate::field::{NOT_SENT, P};
 use crate::fit::open_all;
 use crate::named::{example, honest, F};
 use crate::party::{Party, Stage};
@@ -41,19 +42,19 @@ fn reports_without(edges: &[(usize, usize)]) -> Vec<u16> {
     reports
 }
 
-fn stretch(i: usize) -> Vec<u16> {
-    honest_deals(5, 1, &F)[(i - 1) * 4..i * 4].to_vec()
+fn stretch(i: usize) -> Vec<u32> {
+    honest_deals(Narrow, 5, 1, &F)[(i - 1) * 4..i * 4].to_vec()
 }
 
 /// Party 5, dealt by F, hearing the given first numbers from parties 1 to 4
 /// and right second ones except a wrong one from party 4.
-fn party_5_hearing(firsts: [u16; 4]) -> Party {
-    let (mut party, _) = Party::make(5, 1, 5);
+fn party_5_hearing(firsts: [u32; 4]) -> Party {
+    let (mut party, _) = Party::make(Narrow, 5, 1, 5);
     party.take_deal(&stretch(5)).unwrap();
     let mut pairs = vec![NOT_SENT; 10];
     for (k, first) in firsts.into_iter().enumerate() {
         pairs[2 * k] = first;
-        pairs[2 * k + 1] = 17 + 23 * (k as u16 + 1);
+        pairs[2 * k + 1] = 17 + 23 * (k as u32 + 1);
     }
     pairs[7] += 1;
     party.hear(&pairs).unwrap();
@@ -87,10 +88,10 @@ fn m1_and_m2_deals() {
 
 #[test]
 fn m3_to_m6_openings() {
-    assert_eq!(open_all(&[10, 13, 999, 19, 22], 1), Ok(7));
-    assert_eq!(open_all(&[10, 13, 999, 998, 22], 1), Err(10));
-    assert_eq!(open_all(&[NOT_SENT; 5], 1), Err(10));
-    assert_eq!(open_all(&[0; 5], 1), Ok(0));
+    assert_eq!(open_all(Narrow, &[10, 13, 999, 19, 22], 1), Ok(7));
+    assert_eq!(open_all(Narrow, &[10, 13, 999, 998, 22], 1), Err(10));
+    assert_eq!(open_all(Narrow, &[NOT_SENT; 5], 1), Err(10));
+    assert_eq!(open_all(Narrow, &[0; 5], 1), Ok(0));
 }
 
 #[test]
@@ -142,7 +143,7 @@ fn m11_sizes() {
     }
     for (n, t) in [(4, 1), (8, 2), (12, 3), (17, 3), (17, 4), (5, 0)] {
         assert!(!legal_size(n, t));
-        assert_eq!(Party::make(n, t, 1).1, Err(1));
+        assert_eq!(Party::make(Narrow, n, t, 1).1, Err(1));
         assert_eq!(run(&[n as u8, t as u8]), "record refused 1\n");
     }
 }
@@ -150,12 +151,12 @@ fn m11_sizes() {
 #[test]
 fn m12_the_desk_and_large_numbers() {
     let mut deals = vec![1; 20];
-    assert_eq!(deal(5, 1, &[65_520, 0, 0, 0], &mut deals), Ok(()));
+    assert_eq!(deal(Narrow, 5, 1, &[65_520, 0, 0, 0], &mut deals), Ok(()));
     let kept = deals.clone();
-    assert_eq!(deal(5, 1, &[65_521, 0, 0, 0], &mut deals), Err(5));
-    assert_eq!(deal(5, 1, &[65_521, 0, 0], &mut deals), Err(3));
-    assert_eq!(deal(5, 1, &[0; 4], &mut deals[1..]), Err(3));
-    assert_eq!(deal(4, 1, &[0; 4], &mut deals), Err(1));
+    assert_eq!(deal(Narrow, 5, 1, &[65_521, 0, 0, 0], &mut deals), Err(5));
+    assert_eq!(deal(Narrow, 5, 1, &[65_521, 0, 0], &mut deals), Err(3));
+    assert_eq!(deal(Narrow, 5, 1, &[0; 4], &mut deals[1..]), Err(3));
+    assert_eq!(deal(Narrow, 4, 1, &[0; 4], &mut deals), Err(1));
     assert_eq!(deals, kept);
 }
 
@@ -164,7 +165,7 @@ fn own_crossing_trap() {
     let deals = [[0, 0, 0, 0], [0, 0, 65_520, 1], [65_519, 2, 0, 0]];
     let parties: Vec<Party> = (1..=3)
         .map(|i| {
-            let mut party = Party::make(5, 1, i).0;
+            let mut party = Party::make(Narrow, 5, 1, i).0;
             party.take_deal(&deals[i - 1]).unwrap();
             party
         })
@@ -195,11 +196,11 @@ fn own_crossing_trap() {
 
 #[test]
 fn nine_parties_two_wrong_is_10() {
-    let mut shares: Vec<u16> = (1..=9).map(|i| 7 + 3 * i).collect();
+    let mut shares: Vec<u32> = (1..=9).map(|i| 7 + 3 * i).collect();
     shares[8] = 1;
-    assert_eq!(open_all(&shares, 1), Ok(7));
+    assert_eq!(open_all(Narrow, &shares, 1), Ok(7));
     shares[1] = 1;
-    assert_eq!(open_all(&shares, 1), Err(10));
+    assert_eq!(open_all(Narrow, &shares, 1), Err(10));
 }
 
 #[test]
@@ -232,7 +233,7 @@ fn largest_is_not_greedy() {
 
 #[test]
 fn refusals_take_the_lowest_number() {
-    let (mut party, made) = Party::make(5, 1, 3);
+    let (mut party, made) = Party::make(Narrow, 5, 1, 3);
     assert_eq!(made, Ok(()));
     assert_eq!(party.say(0), Err(2));
     assert_eq!(party.say(6), Err(2));
@@ -242,11 +243,11 @@ fn refusals_take_the_lowest_number() {
     assert_eq!(party.settle(&[0; 4]), Err(3));
     assert_eq!(party.open(&[0; 6]), Err(3));
     assert_eq!(party.open(&[0; 5]), Err(4));
-    let (mut bad, made) = Party::make(5, 1, 6);
+    let (mut bad, made) = Party::make(Narrow, 5, 1, 6);
     assert_eq!(made, Err(2));
     assert_eq!(bad.take_deal(&[]), Err(2));
     assert_eq!(bad.say(0), Err(2));
-    let (bad, made) = Party::make(4, 1, 9);
+    let (bad, made) = Party::make(Narrow, 4, 1, 9);
     assert_eq!(made, Err(1));
     assert_eq!(bad.say(0), Err(1));
     assert_eq!(bad.open(&[]), Err(1));
@@ -254,7 +255,7 @@ fn refusals_take_the_lowest_number() {
 
 #[test]
 fn seven_before_eight_leaves_the_party() {
-    let (mut party, _) = Party::make(5, 1, 1);
+    let (mut party, _) = Party::make(Narrow, 5, 1, 1);
     party.take_deal(&stretch(1)).unwrap();
     party.hear(&honest_record().pairs[..10]).unwrap();
     let before = party.clone();
@@ -269,29 +270,33 @@ fn seven_before_eight_leaves_the_party() {
 #[test]
 fn opening_uses_the_own_share() {
     let record = honest_record();
-    let mut party = Party::make(5, 1, 3).0;
+    let mut party = Party::make(Narrow, 5, 1, 3).0;
     party.take_deal(&stretch(3)).unwrap();
     party.hear(&record.pairs[20..30]).unwrap();
     party.settle(&record.reports).unwrap();
     assert_eq!(party.open(&[10, 13, 999, 998, 22]), Ok(7));
-    assert_eq!(open_all(&[10, 13, 999, 998, 22], 1), Err(10));
+    assert_eq!(open_all(Narrow, &[10, 13, 999, 998, 22], 1), Err(10));
     assert_eq!(party.open(&[10, 999, 16, 998, 22]), Err(10));
     assert_eq!(party.stage, Stage::Holding);
 }
 
 #[test]
 fn the_calls_of_the_readme() {
-    let mut party = Party::make(5, 1, 1).0;
+    let mut party = Party::make(Narrow, 5, 1, 1).0;
     let calls = [
-        (Call::Deal(vec![9, 7, 10, 6]), vec![], (1, 0, 0)),
+        (Call::Deal(Narrow, vec![9, 7, 10, 6]), vec![], (1, 0, 0)),
         (Call::Say(2), vec![23, 22], (1, 0, 0)),
         (
-            Call::Hear(vec![0, 0, 22, 23, 28, 30, 34, 37, 40, 44]),
+            Call::Hear(Narrow, vec![0, 0, 22, 23, 28, 30, 34, 37, 40, 44]),
             vec![30],
             (2, 0, 0),
         ),
         (Call::Settle(vec![30, 29, 27, 23, 15]), vec![], (3, 10, 31)),
-        (Call::Open(vec![0, 13, 999, 19, 22]), vec![7], (3, 10, 31)),
+        (
+            Call::Open(Narrow, vec![0, 13, 999, 19, 22]),
+            vec![7],
+            (3, 10, 31),
+        ),
     ];
     for (call, values, state) in calls {
         assert_eq!(apply(&mut party, &call).result, Ok(values));
@@ -304,12 +309,13 @@ fn the_calls_of_the_readme() {
 fn the_lines_of_the_readme() {
     let mut calls = example_calls();
     calls.push(Call::Desk(Desk {
+        width: Narrow,
         n: 5,
         t: 1,
         room: 2,
         coefs: vec![65_521],
     }));
-    let mut party = Party::make(0, 0, 0).0;
+    let mut party = Party::make(Narrow, 0, 0, 0).0;
     let mut text = String::new();
     for call in calls {
         text += &format!("    {}", line(&step(&mut party, call)));
@@ -367,8 +373,10 @@ fn damaged_records_are_refused() {
 
 #[test]
 fn inverses() {
-    for a in [1, 2, 3, 1000, P - 1] {
-        assert_eq!(mul(a, inverse(a)), 1);
+    for width in [Narrow, Wide] {
+        for a in [1, 2, 3, 1000, 65_520, width.prime() - 1] {
+            assert_eq!(width.mul(a, width.inverse(a)), 1);
+        }
     }
 }
 

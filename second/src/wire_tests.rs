@@ -1,8 +1,11 @@
 //! Calls as bytes, and the rules that end an input.
 
 use crate::calls::{Call, Desk, Step, LENT_LIMIT};
+use crate::field::Width::{Narrow, Wide};
 use crate::lists::random_lists;
-use crate::short_inputs::{example_calls, no_calls, short_inputs, station_calls, RANDOM};
+use crate::short_inputs::{
+    example_calls, no_calls, short_inputs, station_calls, wide_calls, wide_station_calls, RANDOM,
+};
 use crate::wire;
 use std::collections::BTreeSet;
 
@@ -10,8 +13,9 @@ fn stream(calls: &[Call]) -> Vec<u8> {
     calls.iter().flat_map(wire::write).collect()
 }
 
-fn desk(n: usize, t: usize, room: usize, coefs: &[u16]) -> Call {
+fn desk(n: usize, t: usize, room: usize, coefs: &[u32]) -> Call {
     Call::Desk(Desk {
+        width: Narrow,
         n,
         t,
         room,
@@ -31,9 +35,12 @@ fn calls_as_bytes() {
     assert_eq!(bytes[68..70], [3, 231]);
     assert_eq!(bytes[74..83], [6, 0, 7, 0, 5, 0, 1, 0, 20]);
     assert_eq!(bytes[83..], [0, 7, 0, 2, 0, 3, 0, 4]);
-    assert_eq!(wire::write(&Call::Deal(vec![])), [1, 0, 0]);
-    assert_eq!(wire::write(&Call::Open(vec![0; 200]))[..3], [5, 0, 200]);
-    let wide = Call::Make(261, 65_535, 257);
+    assert_eq!(wire::write(&Call::Deal(Narrow, vec![])), [1, 0, 0]);
+    assert_eq!(
+        wire::write(&Call::Open(Narrow, vec![0; 200]))[..3],
+        [5, 0, 200]
+    );
+    let wide = Call::Make(Narrow, 261, 65_535, 257);
     assert_eq!(wire::write(&wide), [0, 0, 3, 1, 5, 255, 255, 1, 1]);
 }
 
@@ -47,10 +54,67 @@ fn calls_with_tables_as_bytes() {
     assert_eq!(desk[..11], [8, 0, 13, 0, 5, 0, 1, 0, 20, 0, 5]);
     assert_eq!(desk[11..21], table);
     assert_eq!(desk[21..], [0, 7, 0, 2, 0, 3, 0, 4]);
-    let empty = Call::MakeWith(5, 1, 2, vec![]);
+    let empty = Call::MakeWith(Narrow, 5, 1, 2, vec![]);
     assert_eq!(wire::write(&empty), [7, 0, 3, 0, 5, 0, 1, 0, 2]);
     assert_eq!(wire::read(&bytes), station_calls());
     assert_eq!(wire::read(&wire::write(&empty)), [empty]);
+}
+
+/// Kind and numbers of a wide call; saying and settling are as ever.
+#[test]
+fn wide_calls_as_bytes() {
+    let calls = wide_calls();
+    let bytes = stream(&calls);
+    assert_eq!(wire::read(&bytes), calls);
+    let make = [128, 0, 3, 0, 0, 0, 5, 0, 0, 0, 1, 0, 0, 0, 1];
+    assert_eq!(bytes[..15], make);
+    assert_eq!(bytes[15..18], [129, 0, 4]);
+    // The row of party 1 is -1 + 65521 and 65536 + 1000000007.
+    assert_eq!(bytes[18..26], [0, 0, 255, 240, 0x3b, 0x9b, 0xca, 0x07]);
+    assert_eq!(bytes[34..39], [2, 0, 1, 0, 1]);
+    let kinds: Vec<u8> = calls.iter().map(|call| wire::write(call)[0]).collect();
+    assert_eq!(kinds, [128, 129, 2, 131, 4, 133, 134]);
+    let calls = wide_station_calls();
+    assert_eq!(wire::read(&stream(&calls)), calls);
+    let kinds: Vec<u8> = calls.iter().map(|call| wire::write(call)[0]).collect();
+    assert_eq!(kinds, [135, 129, 2, 131, 4, 133, 136]);
+}
+
+#[test]
+fn wide_calls_are_answered() {
+    let wanted = "ok ; 0 0 0 0
+ok ; 1 0 0 0
+ok 4294967295 4294967295 ; 1 0 0 0
+ok 30 ; 2 0 0 30
+ok ; 3 65535 31 30
+ok 2147483646 ; 3 65535 31 30
+";
+    let text = wire::answers(&stream(&wide_calls()));
+    assert!(text.starts_with(wanted), "{text}");
+    assert_eq!(text.lines().count(), 7);
+    let last = text.lines().last().unwrap();
+    assert!(last.starts_with("ok 65520 1000065543 65535 1000065528 "));
+}
+
+/// Numbers of 32 bits, whatever their low 16 bits are.
+#[test]
+fn numbers_above_16_bits() {
+    let calls = [
+        Call::Make(Wide, 65_541, 1, 1),
+        Call::Make(Wide, 5, 65_537, 1),
+        Call::Make(Wide, 4_294_967_295, 4_294_967_295, 1),
+        Call::Make(Wide, 5, 1, 65_537),
+        Call::Make(Wide, 5, 1, 4_294_967_295),
+        Call::MakeWith(Wide, 5, 1, 1, vec![65_537, 1, 131_073, 2, 65_538]),
+        Call::MakeWith(Wide, 5, 1, 1, vec![1, 2, 3, 4, 2_147_483_647]),
+    ];
+    let text = wire::answers(&stream(&calls));
+    let answers: Vec<&str> = text
+        .lines()
+        .map(|line| line.split_once(" ; ").unwrap().0)
+        .collect();
+    let [one, two] = ["refused 1", "refused 2"];
+    assert_eq!(answers, [one, one, one, two, two, "ok", "refused 14"]);
 }
 
 const EXAMPLE_LINES: &str = "ok ; 0 0 0 0
@@ -73,7 +137,7 @@ fn the_report_stays_and_a_make_begins_anew() {
     let mut calls = example_calls();
     calls.truncate(4);
     calls.push(Call::Settle(vec![30, 0, 0, 0, 0]));
-    calls.push(Call::Make(4, 1, 1));
+    calls.push(Call::Make(Narrow, 4, 1, 1));
     calls.push(Call::Say(2));
     let text = wire::answers(&stream(&calls));
     let lines: Vec<&str> = text.lines().skip(4).collect();
@@ -180,12 +244,12 @@ fn calls_without_a_make() {
 #[test]
 fn wide_numbers() {
     let calls = [
-        Call::Make(261, 1, 1),
-        Call::Make(5, 257, 1),
-        Call::Make(5, 1, 257),
+        Call::Make(Narrow, 261, 1, 1),
+        Call::Make(Narrow, 5, 257, 1),
+        Call::Make(Narrow, 5, 1, 257),
         Call::Say(1),
-        Call::Make(5, 1, 1),
-        Call::Deal(vec![9, 7, 10, 6]),
+        Call::Make(Narrow, 5, 1, 1),
+        Call::Deal(Narrow, vec![9, 7, 10, 6]),
         Call::Say(258),
         Call::Say(65_535),
         Call::Say(2),
@@ -214,7 +278,13 @@ fn wide_numbers() {
 fn which_counts_are_calls() {
     for kind in 0..=255 {
         for count in 0..=270 {
-            let is_call = match kind {
+            let narrow = match kind {
+                // Saying and settling have no wide kind.
+                130 | 132 => 255,
+                128.. => kind - 128,
+                _ => kind,
+            };
+            let is_call = match narrow {
                 0 => count == 3,
                 2 => count == 1,
                 1 | 3 | 4 | 5 => count <= 200,
@@ -235,6 +305,13 @@ fn which_counts_are_calls() {
         let calls = wire::read(&wire::raw(8, &[5, 1, room, 1, 7, 2, 3, 4]));
         assert_eq!(calls.len(), usize::from(room <= 200), "{room}");
     }
+    for room in [0, 200, 201, 256, 65_536, 65_556, 1 << 31, 4_294_967_295] {
+        for numbers in [&[5, 1, room, 7, 2][..], &[5, 1, room, 1, 7, 2, 3, 4]] {
+            let kind = if numbers.len() == 5 { 134 } else { 136 };
+            let calls = wire::read(&wire::raw(kind, numbers));
+            assert_eq!(calls.len(), usize::from(room <= 200), "{room}");
+        }
+    }
 }
 
 /// The table's numbers must all be there; all that is behind them, perhaps
@@ -242,13 +319,13 @@ fn which_counts_are_calls() {
 #[test]
 fn which_tables_are_calls() {
     for count in [0, 1, 9, 196] {
-        let list: Vec<u16> = (1..=count).collect();
+        let list: Vec<u32> = (1..=count).collect();
         for length in 0..=65_535 {
             let numbers = [&[5, 1, 20, length], &list[..]].concat();
             let calls = wire::read(&wire::raw(8, &numbers));
             assert_eq!(calls.len(), usize::from(length <= count), "{length}");
             let Some(call) = calls.first() else { continue };
-            let (table, coefs) = list.split_at(length.into());
+            let (table, coefs) = list.split_at(length as usize);
             let Call::Desk(desk) = desk(5, 1, 20, coefs) else {
                 unreachable!();
             };
@@ -306,8 +383,9 @@ fn short_inputs_of_every_sort() {
     let early = random.iter().filter(|input| ends_early(&input.1)).count();
     let lines = random.iter().map(|input| wire::read(&input.1).len());
     assert!((RANDOM / 2..RANDOM).contains(&early), "{early}");
-    assert!(lines.sum::<usize>() > 2 * RANDOM);
-    assert!(inputs.iter().all(|input| input.1.len() < 6000));
+    let lines: usize = lines.sum();
+    assert!(lines > 2 * RANDOM, "{lines}");
+    assert!(inputs.iter().all(|input| input.1.len() < 8000));
     assert_ne!(short_inputs(4), inputs);
 }
 
@@ -326,7 +404,7 @@ fn random_lists_as_bytes() {
             .map(|step| wire::line(&step.answer, &step.after));
         assert_eq!(wire::answers(&bytes), lines.collect::<String>());
         for call in calls {
-            assert!(wire::write(&call).len() <= 3 + 2 * LENT_LIMIT);
+            assert!(wire::write(&call).len() <= 3 + 4 * LENT_LIMIT);
         }
     }
     let calls: Vec<Call> = lists.into_iter().flatten().map(|step| step.call).collect();

@@ -107,12 +107,13 @@ fn stored_stream_has_the_stories_first() {
     let text = String::from_utf8(second(&["stories"])).unwrap();
     let (names, lines): (Vec<&str>, Vec<&str>) =
         text.lines().partition(|line| line.starts_with("# "));
-    assert_eq!((names.len(), lines.len()), (25, 1617));
+    assert_eq!((names.len(), lines.len()), (45, 3278));
     assert_eq!((names[0], names[11]), ("# honest", "# trap-liar"));
     assert_eq!(
         (names[12], names[24]),
         ("# stations-liar", "# one-to-n-stages")
     );
+    assert_eq!((names[25], names[44]), ("# wide-honest", "# widths-desks"));
     let bytes = second(&["story-stream"]);
     assert_eq!(words_of(&bytes), calls_words(&(lines.join("\n") + "\n")));
     let answered = out(&answer(&bytes));
@@ -139,14 +140,16 @@ fn words_of(mut bytes: &[u8]) -> Vec<String> {
         "make-table",
         "desk-table",
     ];
-    let number = |pair: &[u8]| 256 * usize::from(pair[0]) + usize::from(pair[1]);
+    let number = |part: &[u8]| part.iter().fold(0, |sum, &b| 256 * sum + usize::from(b));
     let mut calls = Vec::new();
     while !bytes.is_empty() {
-        let end = 3 + 2 * number(&bytes[1..3]);
+        let (wide, kind) = (bytes[0] / 128, usize::from(bytes[0] % 128));
+        let size = if wide == 1 { 4 } else { 2 };
+        let end = 3 + size * number(&bytes[1..3]);
         let numbers = bytes[3..end]
-            .chunks(2)
-            .map(|pair| format!(" {}", number(pair)));
-        let name = names[usize::from(bytes[0])];
+            .chunks(size)
+            .map(|part| format!(" {}", number(part)));
+        let name = ["", "wide-"][usize::from(wide)].to_string() + names[kind];
         calls.push(format!("{name}{}", numbers.collect::<String>()));
         bytes = &bytes[end..];
     }
@@ -165,10 +168,23 @@ fn calls_words(calls: &str) -> Vec<String> {
 fn answer_ends_where_a_call_is_none() {
     let _folder = Folder::new("answer-ends");
     let make = [0, 0, 3, 0, 5, 0, 1, 0, 1];
+    let wide = [128, 0, 3, 0, 0, 0, 5, 0, 0, 0, 1, 0, 0, 0, 1];
     for (bytes, wanted) in [
         (vec![], ""),
         (vec![0], ""),
         (vec![9, 0, 0], ""),
+        (vec![130, 0, 1, 0, 0, 0, 1], ""),
+        (vec![132, 0, 0], ""),
+        (vec![128, 0, 3, 0, 5, 0, 1, 0, 1], ""),
+        (wide.to_vec(), "ok ; 0 0 0 0\n"),
+        (
+            [&wide[..], &[1, 0, 0]].concat(),
+            "ok ; 0 0 0 0\nrefused 18 ; 0 0 0 0\n",
+        ),
+        (
+            [&make[..], &[129, 0, 0]].concat(),
+            "ok ; 0 0 0 0\nrefused 18 ; 0 0 0 0\n",
+        ),
         (vec![7, 0, 2, 0, 5, 0, 1], ""),
         (vec![7, 0, 3, 0, 5, 0, 1, 0, 1], "refused 3 ; 0 0 0 0\n"),
         (vec![8, 0, 4, 0, 5, 0, 1, 0, 0, 0, 1], ""),

@@ -31,16 +31,14 @@ fn cross_passes_with_the_same_program() {
     assert!(output.status.success(), "{output:?}");
     let text = out(&output);
     let mut lines = text.lines();
-    let first = "bench: 60 records and 8 long inputs of seed 3, all alike";
+    let first = "bench: 60 records and 12 long inputs of seed 3, all alike";
     assert_eq!(lines.next(), Some(first));
     let counts: Vec<&str> = lines.collect();
-    assert_eq!(counts.len(), 12);
+    assert_eq!(counts.len(), 24);
     let number = |line: &str| -> usize { line[..8].trim().parse().unwrap() };
-    // Every record is refused, accepted or rejected.
-    assert_eq!(
-        counts[..4].iter().map(|line| number(line)).sum::<usize>(),
-        60
-    );
+    // Every record is refused, accepted or rejected, narrow or wide.
+    let ends = counts[..4].iter().chain(&counts[12..16]);
+    assert_eq!(ends.map(|line| number(line)).sum::<usize>(), 60);
 }
 
 #[test]
@@ -180,7 +178,7 @@ fn cross_calls_shows_the_list() {
         .position(|line| line.contains(" = refused 9 ;"))
         .unwrap();
     assert_eq!(of_all[at + 1 - calls.len()..=at], *calls);
-    assert!(calls[0].starts_with("make "));
+    assert!(calls[0].starts_with("make") || calls[0].starts_with("wide-make"));
 }
 
 #[test]
@@ -212,6 +210,7 @@ fn cross_calls_finds_small_faults() {
 fn cross_calls_finds_faults_of_the_desk() {
     for (name, lines) in [
         ("desk-room", "s/^refused 3 65535/refused 3 0/"),
+        ("desk-wide", "s/^refused 3 4294967295/refused 3 65535/"),
         ("desk-less", "s/^\\(refused [135]\\) 65535.* ;/\\1 ;/"),
         ("desk-five", "s/^refused 5/refused 3/"),
         ("desk-one", "s/^refused 1 65535/refused 3 65535/"),
@@ -224,7 +223,9 @@ fn cross_calls_finds_faults_of_the_desk() {
         let text = complaint(&cross_calls(name, &lines, "400"));
         let shown: Vec<&str> = text.lines().collect();
         assert!(text.starts_with("seed 3, list "), "{name}: {text}");
-        assert!(shown[shown.len() - 3].starts_with("desk"), "{name}: {text}");
+        let call = shown[shown.len() - 3];
+        let desk = call.starts_with("desk") || call.starts_with("wide-desk");
+        assert!(desk, "{name}: {text}");
     }
 }
 
@@ -254,6 +255,41 @@ fn cross_calls_finds_faults_of_tables() {
         let ours = shown[shown.len() - 2];
         assert!(ours.starts_with("second: \"refused 14 "), "{name}: {text}");
     }
+}
+
+/// Faults in what is said of widths: another refusal than 18, numbers cut, and
+/// what a sender writes.
+#[test]
+fn cross_calls_finds_faults_of_widths() {
+    for (name, fault) in [
+        ("width-three", "s/^refused 18/refused 3/"),
+        ("width-none", "s/^refused 18/ok/"),
+        (
+            "width-not-sent",
+            "s/^ok 4294967295 4294967295 ;/ok 65535 65535 ;/",
+        ),
+        ("width-share", "s/ ; 3 [0-9]\\{6,\\} / ; 3 7 /"),
+        ("width-opened", "s/^ok [0-9]\\{6,\\} ;/ok 7 ;/"),
+    ] {
+        let lines = format!("SECOND answer | sed '{fault}'");
+        let text = complaint(&cross_calls(name, &lines, "100"));
+        assert!(text.starts_with("seed 3, list "), "{name}: {text}");
+    }
+}
+
+/// A program that reads narrow records alone, as before: wide ones are refused
+/// with 1.
+#[test]
+fn cross_finds_a_narrow_reader() {
+    let lines = "cat > \"$0.$$\"
+case \"$(head -c 1 \"$0.$$\" | od -An -v -tu1 | tr -d ' ')\" in
+12[89]|1[3-9]?|2??) if [ $(wc -c < \"$0.$$\") = 1 ]; then echo record refused 6; else echo record refused 1; fi;;
+*) SECOND run < \"$0.$$\";;
+esac
+rm \"$0.$$\"";
+    let text = complaint(&cross("narrow-reader", lines, "3", "40"));
+    assert!(text.ends_with("--- the program prints\nrecord refused 1\n---\n"));
+    assert!(!text.contains("--- second prints\nrecord refused 1\n"));
 }
 
 /// Programs that are right on every list, and wrong only where an input ends

@@ -1,19 +1,19 @@
 //! Dealing, and what a deal is checked for.
 
-use super::field::{mul_add, value, P};
+use super::field::{value, Number};
 use super::tables;
 
 pub fn sizes(n: u8, t: u8) -> bool {
     (1..=3).contains(&t) && 4 * t < n && n <= 16
 }
 
-pub fn residues(list: &[u16]) -> bool {
-    list.iter().all(|&x| u32::from(x) < P)
+pub fn residues<N: Number>(list: &[N]) -> bool {
+    list.iter().all(|&x| x.is_sent())
 }
 
 /// The refusal that applies, or 0; the table, if there is one, is looked at behind the lengths.
 #[inline(always)]
-fn verdict(n: u8, t: u8, table: Option<&[u16]>, f: &[u16], room: usize) -> u8 {
+fn verdict<N: Number>(n: u8, t: u8, table: Option<&[N]>, f: &[N], room: usize) -> u8 {
     if !sizes(n, t) {
         return 1;
     }
@@ -33,11 +33,11 @@ fn verdict(n: u8, t: u8, table: Option<&[u16]>, f: &[u16], room: usize) -> u8 {
 
 /// How deals are written, each at its lamp's point.
 trait Desk {
-    fn write(t: u8, points: impl Iterator<Item = u32>, f: &[u16], out: &mut [u16]);
+    fn write<N: Number>(t: u8, points: impl Iterator<Item = u32>, f: &[N], out: &mut [N]);
 }
 
 #[inline(always)]
-fn dealt<D: Desk>(n: u8, t: u8, f: &[u16], out: &mut [u16]) -> u8 {
+fn dealt<D: Desk, N: Number>(n: u8, t: u8, f: &[N], out: &mut [N]) -> u8 {
     let answer = verdict(n, t, None, f, out.len());
     if answer == 0 {
         D::write(t, 1u32.., f, out);
@@ -46,28 +46,28 @@ fn dealt<D: Desk>(n: u8, t: u8, f: &[u16], out: &mut [u16]) -> u8 {
 }
 
 #[inline(always)]
-fn dealt_with<D: Desk>(n: u8, t: u8, table: &[u16], f: &[u16], out: &mut [u16]) -> u8 {
+fn dealt_with<D: Desk, N: Number>(n: u8, t: u8, table: &[N], f: &[N], out: &mut [N]) -> u8 {
     let answer = verdict(n, t, Some(table), f, out.len());
     if answer == 0 {
-        D::write(t, table.iter().map(|&x| u32::from(x)), f, out);
+        D::write(t, table.iter().map(|&x| x.into()), f, out);
     }
     answer
 }
 
-pub fn deal(n: u8, t: u8, f: &[u16], out: &mut [u16]) -> u8 {
-    dealt::<Proved>(n, t, f, out)
+pub fn deal<N: Number>(n: u8, t: u8, f: &[N], out: &mut [N]) -> u8 {
+    dealt::<Proved, N>(n, t, f, out)
 }
 
-pub fn deal_with(n: u8, t: u8, table: &[u16], f: &[u16], out: &mut [u16]) -> u8 {
-    dealt_with::<Proved>(n, t, table, f, out)
+pub fn deal_with<N: Number>(n: u8, t: u8, table: &[N], f: &[N], out: &mut [N]) -> u8 {
+    dealt_with::<Proved, N>(n, t, table, f, out)
 }
 
-pub fn deal_by_width(n: u8, t: u8, f: &[u16], out: &mut [u16]) -> u8 {
-    dealt::<ByWidth>(n, t, f, out)
+pub fn deal_by_width<N: Number>(n: u8, t: u8, f: &[N], out: &mut [N]) -> u8 {
+    dealt::<ByWidth, N>(n, t, f, out)
 }
 
-pub fn deal_by_width_with(n: u8, t: u8, table: &[u16], f: &[u16], out: &mut [u16]) -> u8 {
-    dealt_with::<ByWidth>(n, t, table, f, out)
+pub fn deal_by_width_with<N: Number>(n: u8, t: u8, table: &[N], f: &[N], out: &mut [N]) -> u8 {
+    dealt_with::<ByWidth, N>(n, t, table, f, out)
 }
 
 /// The algorithm of the proved desk: each row by Horner's rule on its coefficients, each column by Horner's rule on
@@ -76,18 +76,18 @@ struct Proved;
 
 impl Desk for Proved {
     #[inline(always)]
-    fn write(t: u8, points: impl Iterator<Item = u32>, f: &[u16], out: &mut [u16]) {
+    fn write<N: Number>(t: u8, points: impl Iterator<Item = u32>, f: &[N], out: &mut [N]) {
         let width = usize::from(t) + 1;
         for (stretch, x) in out.chunks_exact_mut(2 * width).zip(points) {
             let (row, column) = stretch.split_at_mut(width);
             for (place, part) in row.iter_mut().zip(f.chunks_exact(width)) {
-                *place = value(part, x) as u16;
+                *place = N::lent(value(part, x));
             }
             let (rest, top) = f.split_at(f.len() - width);
             column.copy_from_slice(top);
             for part in rest.chunks_exact(width).rev() {
                 for (place, &c) in column.iter_mut().zip(part) {
-                    *place = mul_add(x, u32::from(*place), u32::from(c)) as u16;
+                    *place = N::lent(N::mul_add(x, (*place).into(), c.into()));
                 }
             }
         }
@@ -99,31 +99,31 @@ struct ByWidth;
 
 impl Desk for ByWidth {
     #[inline(always)]
-    fn write(t: u8, points: impl Iterator<Item = u32>, f: &[u16], out: &mut [u16]) {
+    fn write<N: Number>(t: u8, points: impl Iterator<Item = u32>, f: &[N], out: &mut [N]) {
         match t {
-            1 => of_width::<2>(points, f, out),
-            2 => of_width::<3>(points, f, out),
-            _ => of_width::<4>(points, f, out),
+            1 => of_width::<2, N>(points, f, out),
+            2 => of_width::<3, N>(points, f, out),
+            _ => of_width::<4, N>(points, f, out),
         }
     }
 }
 
 #[inline(always)]
-fn of_width<const W: usize>(points: impl Iterator<Item = u32>, f: &[u16], out: &mut [u16]) {
+fn of_width<const W: usize, N: Number>(points: impl Iterator<Item = u32>, f: &[N], out: &mut [N]) {
     let mut square = [[0u64; W]; W];
     for (row, part) in square.iter_mut().zip(f.chunks_exact(W)) {
         for (place, &c) in row.iter_mut().zip(part) {
-            *place = u64::from(c);
+            *place = u64::from(c.into());
         }
     }
-    let reduced = |sum: u64| (sum % u64::from(P)) as u16;
+    let reduced = |sum: u64| N::lent(N::reduced(sum));
     for (stretch, x) in out.chunks_exact_mut(2 * W).zip(points) {
         let x = u64::from(x);
         for u in 0..W {
-            stretch[u] = reduced(square[u].iter().rev().fold(0, |sum, &c| sum * x + c));
+            stretch[u] = reduced(square[u].iter().rev().fold(0, |sum, &c| N::folded(sum) * x + c));
         }
         for v in 0..W {
-            stretch[W + v] = reduced(square.iter().rev().fold(0, |sum, row| sum * x + row[v]));
+            stretch[W + v] = reduced(square.iter().rev().fold(0, |sum, row| N::folded(sum) * x + row[v]));
         }
     }
 }

@@ -3,37 +3,34 @@
 //! algorithm. A cubic with three wrong points among fewer than 16 is looked for by pairs of points.
 
 use super::differences_now;
-use super::fit::{cubic, enough, interpolate, is_sent, search, surplus, Taken};
+use super::field::Number;
+use super::fit::{cubic, enough, interpolate, search, surplus, Taken};
 
 pub const NAME: &str = "groups of t + 1, or pairs";
 
 /// Two of five pairs of points, each by the place of its first point: every choice but that of the first two.
 const CHOICES: [(usize, usize); 9] = [(4, 6), (0, 4), (0, 6), (2, 4), (2, 6), (0, 8), (2, 8), (4, 8), (6, 8)];
 
-pub fn fit(t: usize, need: usize, xs: &[u16], ys: &[u16]) -> Option<[u16; 4]> {
-    fit_by(differences_now::differences, t, need, xs, ys)
+pub fn fit<N: Number>(t: usize, need: usize, xs: &[N], ys: &[N]) -> Option<[N; 4]> {
+    fit_by(differences_now::differences::<N>, t, need, xs, ys)
 }
 
 /// With Newton's coefficients of four points taken so.
 #[inline(always)]
-pub fn fit_by(
+pub fn fit_by<N: Number>(
     differences: impl Fn([u32; 4], [u32; 4]) -> [u32; 4],
     t: usize,
     need: usize,
-    xs: &[u16],
-    ys: &[u16],
-) -> Option<[u16; 4]> {
+    xs: &[N],
+    ys: &[N],
+) -> Option<[N; 4]> {
     if 3 < t || xs.len() != ys.len() {
         return None;
     }
     // Four points have their own way, as in the library.
     let differences = &differences;
     let test = |taken: &Taken| {
-        let f = if taken.count == 4 {
-            cubic(taken.xs, differences(taken.xs, taken.ys))
-        } else {
-            interpolate(taken)
-        };
+        let f = if taken.count == 4 { cubic(taken.xs, differences(taken.xs, taken.ys)) } else { interpolate(taken) };
         enough(&f, need, xs, ys).then_some(f)
     };
     let next = |i| test(&taken_from(i, t + 1, xs, ys)?);
@@ -65,20 +62,20 @@ pub fn fit_by(
 }
 
 /// Of five pairs of points two have no wrong one, where three of the ten are wrong.
-fn pairs(
+fn pairs<N: Number>(
     differences: impl Fn([u32; 4], [u32; 4]) -> [u32; 4],
     need: usize,
-    xs: &[u16],
-    ys: &[u16],
-) -> Option<[u16; 4]> {
-    let mut ten = [(0, 0); 10];
-    let sent = xs.iter().zip(ys).filter(|&(_, &y)| is_sent(y));
+    xs: &[N],
+    ys: &[N],
+) -> Option<[N; 4]> {
+    let mut ten = [(N::from(0), N::from(0)); 10];
+    let sent = xs.iter().zip(ys).filter(|(_, y)| y.is_sent());
     for (place, (&x, &y)) in ten.iter_mut().zip(sent) {
         *place = (x, y);
     }
     CHOICES.iter().find_map(|&(a, b)| {
         let four = [ten[a], ten[a + 1], ten[b], ten[b + 1]];
-        let (xs4, ys4) = (four.map(|(x, _)| u32::from(x)), four.map(|(_, y)| u32::from(y)));
+        let (xs4, ys4) = (four.map(|(x, _)| x.into()), four.map(|(_, y)| y.into()));
         let f = cubic(xs4, differences(xs4, ys4));
         enough(&f, need, xs, ys).then_some(f)
     })
@@ -86,10 +83,10 @@ fn pairs(
 
 /// The next `count` points sent, if there are as many.
 #[inline(always)]
-fn taken_from(i: usize, count: usize, xs: &[u16], ys: &[u16]) -> Option<Taken> {
+fn taken_from<N: Number>(i: usize, count: usize, xs: &[N], ys: &[N]) -> Option<Taken> {
     let mut taken = Taken::default();
     for (&x, &y) in xs.iter().zip(ys).skip(i) {
-        if is_sent(y) {
+        if y.is_sent() {
             taken = taken.with(x, y);
             if taken.count == count {
                 return Some(taken);
@@ -100,9 +97,9 @@ fn taken_from(i: usize, count: usize, xs: &[u16], ys: &[u16]) -> Option<Taken> {
 }
 
 /// The place behind the next `count` values sent.
-fn behind(ys: &[u16], mut i: usize, mut count: usize) -> usize {
+fn behind<N: Number>(ys: &[N], mut i: usize, mut count: usize) -> usize {
     while 0 < count && i < ys.len() {
-        count -= usize::from(is_sent(ys[i]));
+        count -= usize::from(ys[i].is_sent());
         i += 1;
     }
     i

@@ -1,8 +1,8 @@
 //! Decoding by the second algorithm: the same choices in the same order, but the search carries Newton's form of the
 //! points taken so far, and the count stops where too many have differed.
 
-use super::field::{inverse, mul, mul_add, residue, sub};
-use super::fit::{is_sent, multiplied_out, surplus};
+use super::field::Number;
+use super::fit::{multiplied_out, surplus};
 
 pub const NAME: &str = "every choice in order, with Newton's form carried along";
 
@@ -14,13 +14,13 @@ struct Form {
     coefficients: [u32; 4],
 }
 
-struct Search<'a> {
+struct Search<'a, N> {
     need: usize,
-    xs: &'a [u16],
-    ys: &'a [u16],
+    xs: &'a [N],
+    ys: &'a [N],
 }
 
-pub fn fit(t: usize, need: usize, xs: &[u16], ys: &[u16]) -> Option<[u16; 4]> {
+pub fn fit<N: Number>(t: usize, need: usize, xs: &[N], ys: &[N]) -> Option<[N; 4]> {
     if 3 < t || xs.len() != ys.len() || xs.len() < need {
         return None;
     }
@@ -31,10 +31,10 @@ pub fn fit(t: usize, need: usize, xs: &[u16], ys: &[u16]) -> Option<[u16; 4]> {
 impl Form {
     /// With one point more: its coefficient is the divided difference over all points taken.
     #[inline(always)]
-    fn with(mut self, x: u16, y: u16) -> Form {
-        let (x, mut c) = (residue(x), u32::from(y));
+    fn with<N: Number>(mut self, x: N, y: N) -> Form {
+        let (x, mut c) = (x.residue(), y.into());
         for k in 0..self.count.min(4) {
-            c = mul(sub(c, self.coefficients[k]), inverse(sub(x, self.xs[k])));
+            c = N::mul(N::sub(c, self.coefficients[k]), N::inverse(N::sub(x, self.xs[k])));
         }
         self.xs[self.count & 3] = x;
         self.coefficients[self.count & 3] = c;
@@ -44,20 +44,20 @@ impl Form {
 
     /// The value at x, by Horner's rule on the differences.
     #[inline(always)]
-    fn value(&self, x: u16) -> u32 {
+    fn value<N: Number>(&self, x: N) -> u32 {
         let mut v = 0u32;
         for k in (0..self.count.min(4)).rev() {
-            v = mul_add(sub(residue(x), self.xs[k]), v, self.coefficients[k]);
+            v = N::mul_add(N::sub(x.residue(), self.xs[k]), v, self.coefficients[k]);
         }
         v
     }
 }
 
-impl Search<'_> {
+impl<N: Number> Search<'_, N> {
     fn enough(&self, form: &Form) -> bool {
         let mut spare = self.xs.len() - self.need;
         for (&x, &y) in self.xs.iter().zip(self.ys).rev() {
-            if form.value(x) != u32::from(y) {
+            if form.value(x) != y.into() {
                 if spare == 0 {
                     return false;
                 }
@@ -72,7 +72,7 @@ impl Search<'_> {
             return self.enough(&form).then_some(form);
         }
         let (&x, &y) = (self.xs.get(i)?, self.ys.get(i)?);
-        if !is_sent(y) {
+        if !y.is_sent() {
             return self.from(i + 1, more, spare, form);
         }
         let with_it = self.from(i + 1, more - 1, spare, form.with(x, y));

@@ -1,16 +1,17 @@
 //! Decoding by the first algorithm: every choice of t + 1 among the first t + 1 + spare points sent is interpolated,
 //! and all points are counted.
 
+use super::field::Number;
 use super::fit::{interpolate, search, surplus, value, Taken};
 
 pub const NAME: &str = "every choice in order";
 
-pub fn fit(t: usize, need: usize, xs: &[u16], ys: &[u16]) -> Option<[u16; 4]> {
+pub fn fit<N: Number>(t: usize, need: usize, xs: &[N], ys: &[N]) -> Option<[N; 4]> {
     choices(t, need, xs, ys, surplus(need, ys))
 }
 
 /// The choices of t + 1 among the first t + 1 + spare points sent, in order, until one fits.
-pub fn choices(t: usize, need: usize, xs: &[u16], ys: &[u16], spare: usize) -> Option<[u16; 4]> {
+pub fn choices<N: Number>(t: usize, need: usize, xs: &[N], ys: &[N], spare: usize) -> Option<[N; 4]> {
     if 3 < t || xs.len() != ys.len() {
         return None;
     }

@@ -1,30 +1,31 @@
 //! A lamp run on a record: its deal, its report on the pairs, and settling.
 
 use super::deal::residues;
-use super::field::value;
-use super::record::{number, numbers, Record};
+use super::field::{value, Number};
+use super::record::{numbers, Record};
 
 /// Row and column as dealt, with zeros behind them.
-struct Deal {
-    row: [u16; 4],
-    column: [u16; 4],
+struct Deal<N> {
+    row: [N; 4],
+    column: [N; 4],
     width: usize,
 }
 
-impl Deal {
-    fn of(record: &Record, i: u8) -> Deal {
+impl<N: Number> Deal<N> {
+    fn of(record: &Record<N>, i: u8) -> Deal<N> {
         let width = usize::from(record.t) + 1;
-        let from = 4 * width * (usize::from(i) - 1);
-        let (row, column) = record.deals[from..from + 4 * width].split_at(2 * width);
+        let half = N::BYTES * width;
+        let from = 2 * half * (usize::from(i) - 1);
+        let (row, column) = record.deals[from..from + 2 * half].split_at(half);
         Deal { row: numbers(row), column: numbers(column), width }
     }
 
-    fn row_at(&self, j: u8) -> u16 {
-        value(&self.row[..self.width], u32::from(j)) as u16
+    fn row_at(&self, j: u8) -> N {
+        N::lent(value(&self.row[..self.width], u32::from(j)))
     }
 
-    fn column_at(&self, j: u8) -> u16 {
-        value(&self.column[..self.width], u32::from(j)) as u16
+    fn column_at(&self, j: u8) -> N {
+        N::lent(value(&self.column[..self.width], u32::from(j)))
     }
 
     fn sound(&self, i: u8) -> bool {
@@ -33,21 +34,21 @@ impl Deal {
 }
 
 /// The pairs that lamp i heard, two numbers for each lamp.
-fn heard<'a>(record: &Record<'a>, i: u8) -> &'a [u8] {
-    let width = 4 * usize::from(record.n);
+fn heard<'a, N: Number>(record: &Record<'a, N>, i: u8) -> &'a [u8] {
+    let width = 2 * N::BYTES * usize::from(record.n);
     let from = width * (usize::from(i) - 1);
     &record.pairs[from..from + width]
 }
 
 /// Lamp i's report on the pairs it heard.
-pub fn report(record: &Record, i: u8) -> u16 {
+pub fn report<N: Number>(record: &Record<N>, i: u8) -> u16 {
     let deal = Deal::of(record, i);
     if !deal.sound(i) {
         return 0;
     }
     let mut bits = 0;
-    for (pair, j) in heard(record, i).chunks_exact(4).zip(1u8..) {
-        if j != i && number(pair) == deal.column_at(j) && number(&pair[2..]) == deal.row_at(j) {
+    for (pair, j) in heard(record, i).chunks_exact(2 * N::BYTES).zip(1u8..) {
+        if j != i && N::read(pair) == deal.column_at(j) && N::read(&pair[N::BYTES..]) == deal.row_at(j) {
             bits |= 1 << (j - 1);
         }
     }
@@ -58,16 +59,16 @@ pub fn report(record: &Record, i: u8) -> u16 {
 pub trait Ways {
     const ONCE: bool;
     fn happy_set(reports: &[u16]) -> u16;
-    fn fit(t: usize, need: usize, xs: &[u16], ys: &[u16]) -> Option<[u16; 4]>;
+    fn fit<N: Number>(t: usize, need: usize, xs: &[N], ys: &[N]) -> Option<[N; 4]>;
 }
 
 /// The constant of the column that fits what the happy lamps said first.
-fn repaired<W: Ways>(record: &Record, i: u8, set: u16) -> Option<u16> {
-    let (mut xs, mut ys, mut count) = ([0; 16], [0; 16], 0);
-    for (pair, j) in heard(record, i).chunks_exact(4).zip(1u16..) {
+fn repaired<W: Ways, N: Number>(record: &Record<N>, i: u8, set: u16) -> Option<N> {
+    let (mut xs, mut ys, mut count) = ([N::from(0); 16], [N::from(0); 16], 0);
+    for (pair, j) in heard(record, i).chunks_exact(2 * N::BYTES).zip(1u16..) {
         if set >> (j - 1) & 1 == 1 {
-            xs[count] = j;
-            ys[count] = number(pair);
+            xs[count] = N::from(j);
+            ys[count] = N::read(pair);
             count += 1;
         }
     }
@@ -76,7 +77,7 @@ fn repaired<W: Ways>(record: &Record, i: u8, set: u16) -> Option<u16> {
 }
 
 /// Lamp i's share, or the number of its refusal.
-pub fn settle<W: Ways>(record: &Record, i: u8, reports: &[u16], known: u16) -> Result<u16, u8> {
+pub fn settle<W: Ways, N: Number>(record: &Record<N>, i: u8, reports: &[u16], known: u16) -> Result<N, u8> {
     if report(record, i) != reports[usize::from(i) - 1] {
         return Err(7);
     }
@@ -87,5 +88,5 @@ pub fn settle<W: Ways>(record: &Record, i: u8, reports: &[u16], known: u16) -> R
     if set >> (i - 1) & 1 == 1 {
         return Ok(Deal::of(record, i).column[0]);
     }
-    repaired::<W>(record, i, set).ok_or(9)
+    repaired::<W, N>(record, i, set).ok_or(9)
 }

@@ -1,5 +1,7 @@
 //! Text put into a buffer of 512 bytes, more than any text has.
 
+use super::field::Number;
+
 pub struct Letters<'a> {
     pub out: &'a mut [u8; 512],
     pub at: usize,
@@ -12,14 +14,15 @@ impl Letters<'_> {
         self.at += word.len();
     }
 
-    pub fn put_number(&mut self, x: u16) {
-        let mut digits = [0u8; 5];
-        let (mut x, mut from) = (x, 5);
+    pub fn put_number<N: Number>(&mut self, x: N) {
+        let mut digits = [0u8; 10];
+        let (mut x, mut from) = (x, 10);
         loop {
             from -= 1;
-            digits[from] = b'0' + (x % 10) as u8;
-            x /= 10;
-            if x == 0 {
+            let (rest, digit) = x.tenth();
+            digits[from] = b'0' + digit;
+            x = rest;
+            if x == N::from(0) {
                 break;
             }
         }
@@ -28,7 +31,7 @@ impl Letters<'_> {
 
     /// A word, a number and a line end.
     #[inline(always)]
-    pub fn put_line(&mut self, word: &[u8], x: u16) {
+    pub fn put_line<N: Number>(&mut self, word: &[u8], x: N) {
         self.put(word);
         self.put_number(x);
         self.put(b"\n");

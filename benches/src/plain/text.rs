@@ -1,21 +1,29 @@
 //! The text of a record, in the proved library's way: every lamp is run on it, each with a search of its own.
 
+use super::field::Number;
 use super::lamp::{settle, Ways};
 use super::letters::Letters;
-use super::record::{numbers, read, Record};
-use super::tables::ONE_TO;
+use super::record::{is_wide, numbers, read, Record};
 
 /// Writes the text over the front of the buffer and answers its length.
 pub fn text<W: Ways>(bytes: &[u8], out: &mut [u8; 512]) -> usize {
     let mut letters = Letters { out, at: 0 };
-    match read(bytes) {
-        Err(refusal) => letters.put_line(b"record refused ", u16::from(refusal)),
-        Ok(record) => put_record::<W>(&record, &mut letters),
+    if is_wide(bytes) {
+        put_bytes::<W, u32>(bytes, &mut letters);
+    } else {
+        put_bytes::<W, u16>(bytes, &mut letters);
     }
     letters.at
 }
 
-fn put_record<W: Ways>(record: &Record, letters: &mut Letters) {
+fn put_bytes<W: Ways, N: Number>(bytes: &[u8], letters: &mut Letters) {
+    match read::<N>(bytes) {
+        Err(refusal) => letters.put_line(b"record refused ", u16::from(refusal)),
+        Ok(record) => put_record::<W, N>(&record, letters),
+    }
+}
+
+fn put_record<W: Ways, N: Number>(record: &Record<N>, letters: &mut Letters) {
     let n = usize::from(record.n);
     let list: [u16; 16] = numbers(record.reports);
     let reports = &list[..n];
@@ -28,12 +36,12 @@ fn put_record<W: Ways>(record: &Record, letters: &mut Letters) {
     for i in 1..=record.n {
         letters.put(b"lamp ");
         letters.put_number(u16::from(i));
-        match settle::<W>(record, i, reports, set) {
+        match settle::<W, N>(record, i, reports, set) {
             Ok(share) => letters.put_line(b" share ", share),
             Err(refusal) => letters.put_line(b" refused ", u16::from(refusal)),
         }
     }
-    put_last::<W>(record, accepted, letters);
+    put_last::<W, N>(record, accepted, letters);
 }
 
 fn put_verdict(accepted: bool, set: u16, n: usize, letters: &mut Letters) {
@@ -50,14 +58,14 @@ fn put_verdict(accepted: bool, set: u16, n: usize, letters: &mut Letters) {
     letters.put(b"\n");
 }
 
-fn put_last<W: Ways>(record: &Record, accepted: bool, letters: &mut Letters) {
+fn put_last<W: Ways, N: Number>(record: &Record<N>, accepted: bool, letters: &mut Letters) {
     if !accepted {
-        return letters.put_line(b"opened refused ", 8);
+        return letters.put_line(b"opened refused ", 8u16);
     }
     let (n, t) = (usize::from(record.n), usize::from(record.t));
-    let shares: [u16; 16] = numbers(record.shares);
-    match W::fit(t, n - t, &ONE_TO[..n], &shares[..n]) {
+    let shares: [N; 16] = numbers(record.shares);
+    match W::fit(t, n - t, &N::ONE_TO[..n], &shares[..n]) {
         Some(f) => letters.put_line(b"opened ", f[0]),
-        None => letters.put_line(b"opened refused ", 10),
+        None => letters.put_line(b"opened refused ", 10u16),
     }
 }

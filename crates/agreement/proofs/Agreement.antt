@@ -1,7 +1,6 @@
--- Demand 3 is met, for every prime: geometry, reports and run put together.
---   demand3-for   the demand for any prime
---   demand3       the demand for the modulus
-use mathlib.Core.Path.{_≡_, refl, sym, ap, subst, _∙_}
+-- Demand 3 is met, for either width: geometry, reports and run put together. Of the prime it is used only that it is one.
+--   demand3       the demand
+use mathlib.Core.Path.{_≡_, refl, sym, ap, ap₂, subst, _∙_}
 use mathlib.Core.Logic.{_≢_, _⊎_, inl, inr, ⊎-elim}
 use mathlib.Core.Bool.{true, false}
 use mathlib.Core.Option.{none, some}
@@ -14,9 +13,8 @@ use lib.ListN.{length, getD, set, take, drop, length-set}
 use lib.Seq.{getD-set-same, getD-set-other}
 use Rattle.lists.specs.Tabulate.{pad}
 use Rattle.lists.proofs.Cases.{true-or-false, not-both, le-or-lt}
-use Rattle.field.specs.Arithmetic.{Prime}
-use Rattle.field.specs.Modulus.{modulus}
-use Rattle.field.proofs.Primes.{prime}
+use Rattle.field.specs.declared.Width.{Width}
+use Rattle.field.proofs.Primes.{prime-of}
 use Rattle.polynomial.specs.Polynomial.{value}
 use Rattle.bivariate.proofs.Crossing.{row-poly, column-poly, crossing}
 use Rattle.bivariate.proofs.Terms.{row-at, at-secret}
@@ -33,10 +31,10 @@ use Rattle.answers.specs.Answers.{numberOf, valuesOf}
 use Rattle.recovery.specs.Recovery.{repair, openingWith}
 use Rattle.answers.specs.Fits.{constant}
 use Rattle.lamp.specs.Lamp.{tableOf, openShares, reply, firsts, withDeal, withPairs, atEnd, settled, opening, step}
-use Rattle.agreement.specs.Setting.{Setting, setting, withTable, Legal, width, point, valueOf, rowFor, columnFor, zeroRow}
+use Rattle.agreement.specs.Setting.{Setting, setting, withTable, Legal, prime, terms, point, valueOf, rowFor, columnFor, zeroRow}
 use Rattle.agreement.specs.Setting.{deskFor, dealtRow, dealtColumn, madeFor, lampAt}
-use Rattle.agreement.specs.Demand3.{Execution, Honest, Premises, OneTable, HonestDealer, own, shareOf, Speaks, Rejects, Accepts, OnF}
-use Rattle.agreement.specs.Demand3.{AllReject, AllAccept, Conclusions, Demand3}
+use Rattle.agreement.specs.Demand3.{Execution, Honest, Premises, OneTable, OneWidth, HonestDealer, own, shareOf, Speaks, Rejects}
+use Rattle.agreement.specs.Demand3.{Accepts, OnF, AllReject, AllAccept, Conclusions, Demand3}
 use Rattle.agreement.proofs.Counting.{passing, honest-parties}
 use Rattle.agreement.proofs.Geometry.{Inside, Lies, opens, repairs, lies, lies-once, column-constant, row-constant}
 use Rattle.agreement.proofs.Reports.{Heard, happy-right, happy-within, crossed, heard-first, honest-many}
@@ -54,7 +52,7 @@ module _ (s : Setting) (legal : Legal s) (e : Execution) (pr : Premises s e) whe
       let range = mem-parties (s .n) (w .0) .0 (w .1) in
       (w .0, record { party = party-true (s .n) (w .0) (range .0) (range .1); good = w .2 })
 
-module _ (s : Setting) (legal : Legal s) (e : Execution) (pr : Premises s e) (tables : OneTable s e) where
+module _ (s : Setting) (legal : Legal s) (e : Execution) (pr : Premises s e) (tables : OneTable s e) (widths : OneWidth s e) where
   abbrev S : ℕ
   S = happySet (e .seen)
 
@@ -69,7 +67,7 @@ module _ (s : Setting) (legal : Legal s) (e : Execution) (pr : Premises s e) (ta
 
   -- An honest lamp has the setting of all, so what is shown in that holds in its own.
   own-same : (i : ℕ) → Honest s e i → own s e i ≡ s
-  own-same i h = ap (withTable s) (tables .loaded i h)
+  own-same i h = ap₂ (λ w T. setting w (s .n) (s .t) T) (widths i h) (tables .loaded i h)
 
   in-own : (Q : Setting → Type 0) (i : ℕ) → Honest s e i → Q s → Q (own s e i)
   in-own Q i h q = subst Q (sym (own-same i h)) q
@@ -122,37 +120,37 @@ module _ (s : Setting) (legal : Legal s) (e : Execution) (pr : Premises s e) (ta
 
       -- What an honest party outside the happy set heard lies on F's column.
       repair-found : (i : ℕ) → Honest s e i → member S i ≡ false
-          → repair (s .p) (s .n) (s .t) (tableOf (madeFor s i .party)) S (pad 16 (firsts (s .n) (pairs i))) ≡ some (columnFor s F i)
+          → repair (prime s) (s .n) (s .t) (tableOf (madeFor s i .party)) S (pad 16 (firsts (s .n) (pairs i))) ≡ some (columnFor s F i)
       repair-found i h out =
           let few-parties = sizes-facts (s .n) (s .t) (legal .size) .3 in
-          ap (λ T. repair (s .p) (s .n) (s .t) T S (pad 16 (firsts (s .n) (pairs i)))) (its-table i h)
+          ap (λ T. repair (prime s) (s .n) (s .t) T S (pad 16 (firsts (s .n) (pairs i)))) (its-table i h)
           ∙ repairs s legal (e .honest) (pr .few) S within many (columnFor s F i) (pad 16 (firsts (s .n) (pairs i)))
-          (column-poly (s .p) (width s) (width s) F (point s i) (omega (arith, legal .prime .two)) (on .poly .size))
+          (column-poly (prime s) (terms s) (terms s) F (point s i) (omega (arith, legal .prime .two)) (on .poly .size))
           (omega (arith, heard-all (s .n) (pairs i) few-parties, few-parties))
           (λ j qj gj mj.
           let jn : In j = inside j (record { party = qj; good = gj }) mj in
           let apart : i ≢ j = λ q. not-both mj (ap (member S) (sym q) ∙ out) in
-          sym (crossing (s .p) (width s) (width s) F (point s i) (point s j) (on .poly .size))
-          ∙ ap (λ f. value (s .p) f (point s i)) (on .on-rows j jn)
+          sym (crossing (prime s) (terms s) (terms s) F (point s i) (point s j) (on .poly .size))
+          ∙ ap (λ f. value (prime s) f (point s i)) (on .on-rows j jn)
           ∙ sym (heard-first s legal (e .honest) rows columns pairs (e .seen) heard many i j (h .party) (h .good) jn apart)
           ∙ sym (heard-entry (s .n) (pairs i) j qj))
 
       -- The outcome of settling, happy or repaired.
       holds : (i : ℕ) (h : Honest s e i)
-          → settled (s .p) (reported i h) S ≡ reply (atEnd (reported i h) Holding S (share i)) Accepted-answer
+          → settled (reported i h) S ≡ reply (atEnd (reported i h) Holding S (share i)) Accepted-answer
       unfolding withPairs withDeal share
       holds i h =
           let held : ℕ → Reply = λ v. reply (atEnd (reported i h) Holding S v) Accepted-answer in
           let constants = column-constant s legal F (on .poly .size) i in
           ⊎-elim
           (λ (m : member S i ≡ true).
-          settled-happy (s .p) (reported i h) S many m
+          settled-happy (reported i h) S many m
           ∙ ap (λ f. held (constant f))
           (one.dealt-column s i (lamps.ready s legal e pr i h) (e .calls i) (e .run i) (pr .brings i h)
           ∙ sym (on .on-columns i (inside i h m)))
           ∙ ap held constants)
           (λ (m : member S i ≡ false).
-          settled-repaired (s .p) (reported i h) S many (columnFor s F i) m (repair-found i h m)
+          settled-repaired (reported i h) S many (columnFor s F i) m (repair-found i h m)
           ∙ ap held constants)
           (true-or-false (member S i))
 
@@ -166,13 +164,13 @@ module _ (s : Setting) (legal : Legal s) (e : Execution) (pr : Premises s e) (ta
       -- An opening with the other honest shares in place.
       opening-is : (i : ℕ) (h : Honest s e i) (ys : List ℕ) → length ys ≡ s .n
           → ((j : ℕ) → Honest s e j → (j ≡ i → ⊥) → entry ys j ≡ shareOf s e j)
-          → opening (s .p) (atEnd (reported i h) Holding S (share i)) ys ≡ some (zeroRow s F)
+          → opening (atEnd (reported i h) Holding S (share i)) ys ≡ some (zeroRow s F)
       unfolding opening atEnd withPairs withDeal share
       opening-is i h ys long places =
-          ap (λ T. openingWith (s .p) (s .n) (s .t) T i (share i) ys) (its-table i h)
+          ap (λ T. openingWith (prime s) (s .n) (s .t) T i (share i) ys) (its-table i h)
           ∙ opens s legal (e .honest) (pr .few) (zeroRow s F) (set ys (i - 1) (share i))
-          (row-poly (s .p) (width s) (width s) F 0 (omega (arith, legal .prime .two))) (length-set ys (i - 1) (share i) ∙ long)
-          (λ j qj gj. row-at (s .p) (width s) (width s) F (point s j) 0 ∙ sym (placed j (record { party = qj; good = gj })))
+          (row-poly (prime s) (terms s) (terms s) F 0 (omega (arith, legal .prime .two))) (length-set ys (i - 1) (share i) ∙ long)
+          (λ j qj gj. row-at (prime s) (terms s) (terms s) F (point s j) 0 ∙ sym (placed j (record { party = qj; good = gj })))
         where
           placed : (j : ℕ) → Honest s e j → entry (set ys (i - 1) (share i)) j ≡ share j
           placed j hj =
@@ -196,9 +194,10 @@ module _ (s : Setting) (legal : Legal s) (e : Execution) (pr : Premises s e) (ta
             stays = lamps.stays s legal e pr i h _ is;
             opens = λ xs ys at long places.
                 let answered =
-                ap (λ z. step (s .p) z (openShares ys)) (lamps.ended s legal e pr i h _ is xs)
-                ∙ shares-opened (s .p) l (one.made-valid s i (lamps.ready s legal e pr i h)) ys long refl
-                ∙ opened-some l (opening (s .p) l ys) (zeroRow s F) (opening-is i h ys long places)
+                ap (λ z. step z (openShares (e .run i .width) ys)) (lamps.ended s legal e pr i h _ is xs)
+                ∙ shares-opened l (one.made-valid s i (lamps.ready s legal e pr i h)) (e .run i .width) ys
+                (pr .brings i h .own-width) long refl
+                ∙ opened-some l (opening l ys) (zeroRow s F) (opening-is i h ys long places)
                 ∙ ap (λ v. reply l (Opened v)) (row-constant s legal F (on .poly .size)) in
                 (ap (λ (z : Reply). numberOf (z .answer)) answered, ap (λ (z : Reply). valuesOf (z .answer)) answered);
           }
@@ -234,17 +233,17 @@ module _ (s : Setting) (legal : Legal s) (e : Execution) (pr : Premises s e) (ta
   dealer F hd =
       let written : desks.dealingNumber (deskFor s F (hd .lent) .1) ≡ none =
       subst (λ T. desks.dealingNumber (deskFor (withTable s T) F (hd .lent) .1) ≡ none) (hd .loaded) (hd .written) in
-      let w = desk-written (s .p) (s .n) (s .t) (s .table) F (hd .lent) written in
-      let its : (i : ℕ) → Honest s e i → e .run i .itsDeal ≡ desks.deal (s .p) (width s) (s .table) F i =
+      let w = desk-written (prime s) (s .n) (s .t) (s .table) F (hd .lent) written in
+      let its : (i : ℕ) → Honest s e i → e .run i .itsDeal ≡ desks.deal (prime s) (terms s) (s .table) F i =
       λ i h.
       let range = party-facts (s .n) i (h .party) in
       hd .deals i h
-      ∙ ap (λ T. desks.stretch (width s) (deskFor (withTable s T) F (hd .lent) .0) i) (hd .loaded)
-      ∙ desk-stretch (s .p) (s .n) (s .t) (s .table) F (hd .lent) written i (range .0) (range .1) in
+      ∙ ap (λ T. desks.stretch (terms s) (deskFor (withTable s T) F (hd .lent) .0) i) (hd .loaded)
+      ∙ desk-stretch (prime s) (s .n) (s .t) (s .table) F (hd .lent) written i (range .0) (range .1) in
       let row-of : (i : ℕ) → Honest s e i → rowFor s F i ≡ rows i =
-      λ i h. sym (take-deal (s .p) (width s) (s .table) F i) ∙ ap (take (width s)) (sym (its i h)) in
+      λ i h. sym (take-deal (prime s) (terms s) (s .table) F i) ∙ ap (take (terms s)) (sym (its i h)) in
       let column-of : (i : ℕ) → Honest s e i → columnFor s F i ≡ columns i =
-      λ i h. sym (drop-deal (s .p) (width s) (s .table) F i) ∙ ap (drop (width s)) (sym (its i h)) in
+      λ i h. sym (drop-deal (prime s) (terms s) (s .table) F i) ∙ ap (drop (terms s)) (sym (its i h)) in
       let many = honest-many s legal (e .honest) rows columns pairs (e .seen) heard F (w .square)
       (λ i q g. row-of i (record { party = q; good = g })) (λ i q g. column-of i (record { party = q; good = g })) in (
         accepted many F (record {
@@ -252,7 +251,7 @@ module _ (s : Setting) (legal : Legal s) (e : Execution) (pr : Premises s e) (ta
           on-rows = λ i m. row-of i (record { party = m .party; good = m .good });
           on-columns = λ i m. column-of i (record { party = m .party; good = m .good });
         }),
-        at-secret (s .p) (s .t) (s .t) F (omega (arith, legal .prime .two)) (w .below),
+        at-secret (prime s) (s .t) (s .t) F (omega (arith, legal .prime .two)) (w .below),
       )
 
   conclusions : Conclusions s e
@@ -262,12 +261,8 @@ module _ (s : Setting) (legal : Legal s) (e : Execution) (pr : Premises s e) (ta
     dealer = dealer;
   }
 
--- Demand 3, for every prime.
-pub demand3-for : (p : ℕ) → Prime p → Demand3 p
-unfolding Demand3
-demand3-for p prime n t T e pr tables =
-    conclusions (setting p n t T) (record { prime = prime; size = pr .size; table = tables .table }) e pr tables
-
 -- DEMAND 3.
-pub demand3 : Demand3 modulus
-demand3 = demand3-for modulus prime
+pub demand3 : (w : Width) → Demand3 w
+unfolding Demand3
+demand3 w n t T e pr tables widths =
+    conclusions (setting w n t T) (record { size = pr .size; table = tables .table; prime = prime-of w }) e pr tables widths

@@ -39,7 +39,7 @@ use Rattle.tables.proofs.Tables.{table-points, points-of, point-at}
 use Rattle.recovery.specs.Recovery.{repair}
 use Rattle.recovery.proofs.Deciding.{marks-ones}
 use Rattle.answers.specs.Fits.{constant}
-use Rattle.agreement.specs.Setting.{Setting, Legal, width, point, valueOf, rowFor, columnFor, zeroRow}
+use Rattle.agreement.specs.Setting.{Setting, Legal, prime, terms, point, valueOf, rowFor, columnFor, zeroRow}
 use Rattle.agreement.proofs.Counting.{honest-members, honest-parties, mem-keep, keep-mem}
 
 -- Of two distinct points one is not a given party's.
@@ -69,19 +69,19 @@ module _ (p : ℕ) where
   constant-value k [] h = absurd (omega (arith, h .size))
   constant-value k (c ∷ f) h = sym (value-zero p c f ∙ mod-eq-of-lt (h .residues .0))
 
-module _ (s : Setting) (legal : Legal s) (F : List ℕ) (square : length F ≡ width s * width s) where
+module _ (s : Setting) (legal : Legal s) (F : List ℕ) (square : length F ≡ terms s * terms s) where
   -- The constant of a party's column is its share, that of the row at 0 the secret.
   pub column-constant : (i : ℕ) → constant (columnFor s F i) ≡ valueOf s F (point s i) 0
   column-constant i =
-      constant-value (s .p) (s .t) (columnFor s F i)
-      (column-poly (s .p) (width s) (width s) F (point s i) (omega (arith, legal .prime .two)) square)
-      ∙ column-at (s .p) (width s) (width s) F (point s i) 0 square
+      constant-value (prime s) (s .t) (columnFor s F i)
+      (column-poly (prime s) (terms s) (terms s) F (point s i) (omega (arith, legal .prime .two)) square)
+      ∙ column-at (prime s) (terms s) (terms s) F (point s i) 0 square
 
   pub row-constant : constant (zeroRow s F) ≡ valueOf s F 0 0
   row-constant =
-      constant-value (s .p) (s .t) (zeroRow s F)
-      (row-poly (s .p) (width s) (width s) F 0 (omega (arith, legal .prime .two)))
-      ∙ row-at (s .p) (width s) (width s) F 0 0
+      constant-value (prime s) (s .t) (zeroRow s F)
+      (row-poly (prime s) (terms s) (terms s) F 0 (omega (arith, legal .prime .two)))
+      ∙ row-at (prime s) (terms s) (terms s) F 0 0
 
 -- ---- what is supposed, and what follows
 module _ (s : Setting) (honest : ℕ → Bool) (S : ℕ) where
@@ -93,53 +93,53 @@ module _ (s : Setting) (honest : ℕ → Bool) (S : ℕ) where
   module _ (rows columns : ℕ → List ℕ) where
     -- The parties inside have rows and columns of t + 1 residues, which cross, each one's own included.
     pub record Crossed : Type 0 where
-      pub row-polys : (i : ℕ) → Inside i → Poly (s .p) (width s) (rows i)
-      pub column-polys : (i : ℕ) → Inside i → Poly (s .p) (width s) (columns i)
-      pub cross : (i j : ℕ) → Inside i → Inside j → value (s .p) (rows i) (point s j) ≡ value (s .p) (columns j) (point s i)
+      pub row-polys : (i : ℕ) → Inside i → Poly (prime s) (terms s) (rows i)
+      pub column-polys : (i : ℕ) → Inside i → Poly (prime s) (terms s) (columns i)
+      pub cross : (i j : ℕ) → Inside i → Inside j → value (prime s) (rows i) (point s j) ≡ value (prime s) (columns j) (point s i)
 
     -- F has (t + 1)² coefficients, residues, and every party inside has F's row and column.
     pub record Lies (F : List ℕ) : Type 0 where
-      pub poly : Poly (s .p) (width s * width s) F
+      pub poly : Poly (prime s) (terms s * terms s) F
       pub on-rows : (i : ℕ) → Inside i → rowFor s F i ≡ rows i
       pub on-columns : (i : ℕ) → Inside i → columnFor s F i ≡ columns i
 
 module _ (s : Setting) (legal : Legal s) where
-  pub points-fine : Points (s .p) (s .table)
-  points-fine = table-points (s .p) (s .n) (s .table) (legal .table)
+  pub points-fine : Points (prime s) (s .table)
+  points-fine = table-points (prime s) (s .n) (s .table) (legal .table)
 
   -- ---- decoding: whoever agrees with enough honest parties is found
-  decoded : (test : ℕ → Bool) (need : ℕ) (ys f : List ℕ) → Poly (s .p) (width s) f → length ys ≡ s .n → need ≤ count test (parties (s .n))
-      → sent (s .p) ys + s .t + 1 ≤ 2 * need
-      → ((i : ℕ) → isParty (s .n) i ≡ true → test i ≡ true → value (s .p) f (point s i) ≡ entry ys i)
-      → fit (s .p) (s .t) need (s .table) ys ≡ some f
+  decoded : (test : ℕ → Bool) (need : ℕ) (ys f : List ℕ) → Poly (prime s) (terms s) f → length ys ≡ s .n
+      → need ≤ count test (parties (s .n)) → sent (prime s) ys + s .t + 1 ≤ 2 * need
+      → ((i : ℕ) → isParty (s .n) i ≡ true → test i ≡ true → value (prime s) f (point s i) ≡ entry ys i)
+      → fit (prime s) (s .t) need (s .table) ys ≡ some f
   decoded test need ys f hf l enough once agrees =
-      fit-marked (s .p) (legal .prime) (s .t) need f (map test (parties (s .n))) (s .table) ys points-fine once
+      fit-marked (prime s) (legal .prime) (s .t) need f (map test (parties (s .n))) (s .table) ys points-fine once
       (length-map (parties (s .n)) test ∙ length-parties (s .n) ∙ sym (legal .table .size)) (legal .table .size ∙ sym l)
       (omega (arith, count-map (λ b. b) test (parties (s .n)))) hf
       (λ k e.
       let m = marks (s .n) test k e in
       at-place k (m .0) (agrees (suc k) (party-true (s .n) (suc k) (omega arith) (omega arith)) (m .1)))
     where
-      at-place : (k : ℕ) → k < s .n → value (s .p) f (point s (suc k)) ≡ entry ys (suc k)
-          → value (s .p) f (getD (s .table) k 0) ≡ getD ys k 0
+      at-place : (k : ℕ) → k < s .n → value (prime s) f (point s (suc k)) ≡ entry ys (suc k)
+          → value (prime s) f (getD (s .table) k 0) ≡ getD ys k 0
       at-place k h e =
           let place : suc k - 1 ≡ k = omega arith in
-          ap (value (s .p) f) (point-at (s .table) k) ∙ e ∙ ap (λ z. getD ys z 0) place
+          ap (value (prime s) f) (point-at (s .table) k) ∙ e ∙ ap (λ z. getD ys z 0) place
 
   module _ (honest : ℕ → Bool) (few : count (λ i. not (honest i)) (parties (s .n)) ≤ s .t) where
     -- ---- opening: n values, and those of the honest lie on f
-    pub opens : (f ys : List ℕ) → Poly (s .p) (width s) f → length ys ≡ s .n
-        → ((i : ℕ) → isParty (s .n) i ≡ true → honest i ≡ true → value (s .p) f (point s i) ≡ entry ys i)
-        → fit (s .p) (s .t) (s .n - s .t) (s .table) ys ≡ some f
+    pub opens : (f ys : List ℕ) → Poly (prime s) (terms s) f → length ys ≡ s .n
+        → ((i : ℕ) → isParty (s .n) i ≡ true → honest i ≡ true → value (prime s) f (point s i) ≡ entry ys i)
+        → fit (prime s) (s .t) (s .n - s .t) (s .table) ys ≡ some f
     opens f ys hf l agrees =
         let z = sizes-facts (s .n) (s .t) (legal .size) in
-        decoded honest (s .n - s .t) ys f hf l (honest-parties honest (s .n) (s .t) few) (omega (arith, sent-length (s .p) ys)) agrees
+        decoded honest (s .n - s .t) ys f hf l (honest-parties honest (s .n) (s .t) few) (omega (arith, sent-length (prime s) ys)) agrees
 
     module _ (S : ℕ) (within : S < 2 ^ s .n) (many : s .n - s .t ≤ ones S) where
       -- ---- repair: the values of S, and those of the honest lie on f
-      pub repairs : (f heard : List ℕ) → Poly (s .p) (width s) f → s .n ≤ length heard
-          → ((i : ℕ) → isParty (s .n) i ≡ true → honest i ≡ true → member S i ≡ true → value (s .p) f (point s i) ≡ entry heard i)
-          → repair (s .p) (s .n) (s .t) (s .table) S heard ≡ some f
+      pub repairs : (f heard : List ℕ) → Poly (prime s) (terms s) f → s .n ≤ length heard
+          → ((i : ℕ) → isParty (s .n) i ≡ true → honest i ≡ true → member S i ≡ true → value (prime s) f (point s i) ≡ entry heard i)
+          → repair (prime s) (s .n) (s .t) (s .table) S heard ≡ some f
       unfolding repair
       repairs f heard hf l agrees =
           let z = sizes-facts (s .n) (s .t) (legal .size) in
@@ -147,21 +147,21 @@ module _ (s : Setting) (legal : Legal s) where
           let ys : List ℕ = take (s .n) heard in
           let size-ys : length ys ≡ s .n = length-take-le (s .n) heard l in
           let size-ms : length ms ≡ length ys = length-tabulate (bit S) (s .n) ∙ sym size-ys in
-          let unsent = not-sent-above (s .p) in
-          let fewer : sent (s .p) (hide (notSent (s .p)) ms ys) ≤ ones S =
-          omega (arith, sent-marked (s .p) (notSent (s .p)) unsent ms ys size-ms, marks-ones S (s .n) within) in
-          sym (fit-hide (s .p) (notSent (s .p)) unsent (omega (arith, legal .prime .two)) ms (s .table) ys (s .t) (ones S - s .t))
-          ∙ decoded (λ i. honest i && member S i) (ones S - s .t) (hide (notSent (s .p)) ms ys) f hf
-          (length-hide (notSent (s .p)) ms ys size-ms ∙ size-ys)
+          let unsent = not-sent-above (prime s) in
+          let fewer : sent (prime s) (hide (notSent (prime s)) ms ys) ≤ ones S =
+          omega (arith, sent-marked (prime s) (notSent (prime s)) unsent ms ys size-ms, marks-ones S (s .n) within) in
+          sym (fit-hide (prime s) (notSent (prime s)) unsent (omega (arith, legal .prime .two)) ms (s .table) ys (s .t) (ones S - s .t))
+          ∙ decoded (λ i. honest i && member S i) (ones S - s .t) (hide (notSent (prime s)) ms ys) f hf
+          (length-hide (notSent (prime s)) ms ys size-ms ∙ size-ys)
           (honest-members honest S (s .n) (s .t) within few) (omega arith)
           (λ i party e. let both = and-eq-true-iff (honest i) (member S i) .0 e in
           agrees i party (both .0) (both .1) ∙ sym (kept i party (both .1)))
         where
           kept : (i : ℕ) → isParty (s .n) i ≡ true → member S i ≡ true
-              → entry (hide (notSent (s .p)) (tabulate (bit S) (s .n)) (take (s .n) heard)) i ≡ entry heard i
+              → entry (hide (notSent (prime s)) (tabulate (bit S) (s .n)) (take (s .n) heard)) i ≡ entry heard i
           kept i party e =
               let h = party-facts (s .n) i party in
-              hide-at (notSent (s .p)) (tabulate (bit S) (s .n)) (take (s .n) heard) (i - 1) 0
+              hide-at (notSent (prime s)) (tabulate (bit S) (s .n)) (take (s .n) heard) (i - 1) 0
               (getD-tabulate (bit S) (s .n) (i - 1) false (omega arith) ∙ e)
               ∙ getD-take (s .n) heard (i - 1) 0 (omega arith)
 
@@ -194,11 +194,11 @@ module _ (s : Setting) (legal : Legal s) where
           let z = sizes-facts (s .n) (s .t) (legal .size) in
           omega (arith, honest-members honest S (s .n) (s .t) within few, length-keep (λ i. honest i && member S i) (parties (s .n)))
 
-      inside-points : Points (s .p) (map (point s) inside)
+      inside-points : Points (prime s) (map (point s) inside)
       unfolding inside
       inside-points =
-          points-sublist (s .p) (map-sublist (point s) (keep-sublist (λ i. honest i && member S i) (parties (s .n))))
-          (subst (Points (s .p)) (sym (points-of (s .n) (s .table) (legal .table .size))) points-fine)
+          points-sublist (prime s) (map-sublist (point s) (keep-sublist (λ i. honest i && member S i) (parties (s .n))))
+          (subst (Points (prime s)) (sym (points-of (s .n) (s .table) (legal .table .size))) points-fine)
 
       -- Another party inside, beside any.
       pub neighbour : (i : ℕ) → (j : ℕ) × In j × (i ≡ j → ⊥)
@@ -211,7 +211,7 @@ module _ (s : Setting) (legal : Legal s) where
         abbrev On : List ℕ → Type 0
         On = Lies s honest S rows columns
 
-        all-on : (F : List ℕ) → On F → LieOn (s .p) (width s) (width s) (point s) inside rows columns F
+        all-on : (F : List ℕ) → On F → LieOn (prime s) (terms s) (terms s) (point s) inside rows columns F
         all-on F h = record {
           residues = h .poly .residues;
           size = h .poly .size;
@@ -221,13 +221,13 @@ module _ (s : Setting) (legal : Legal s) where
 
         pub lies-once : (F G : List ℕ) → On F → On G → F ≡ G
         lies-once F G hF hG =
-            lie-once (s .p) (legal .prime) (point s) inside inside-points (width s) (omega (arith, inside-many)) (width s) rows columns F G
-            (all-on F hF) (all-on G hG)
+            lie-once (prime s) (legal .prime) (point s) inside inside-points (terms s) (omega (arith, inside-many)) (terms s) rows columns
+            F G (all-on F hF) (all-on G hG)
 
         pub lies : Crossed s honest S rows columns → (F : List ℕ) × On F
         lies c =
             let r =
-            lie-on (s .p) (legal .prime) (point s) inside inside-points (width s) (omega (arith, inside-many)) (width s) rows columns
+            lie-on (prime s) (legal .prime) (point s) inside inside-points (terms s) (omega (arith, inside-many)) (terms s) rows columns
             (omega (arith, inside-many))
             (λ i m. c .row-polys i (mem-inside i m)) (λ i m. c .column-polys i (mem-inside i m))
             (λ i j mi mj. c .cross i j (mem-inside i mi) (mem-inside j mj)) in (

@@ -1,16 +1,20 @@
 -- The tests of a call, each with the refusal that it guards against, and a call behind any number of them.
---   size-test, party-test, same-test, table-test, stage-test, waiting-test   each test passes exactly where its refusal does not apply
+--   size-test, party-test, width-test, same-test, table-test, stage-test, waiting-test   each test passes exactly where its refusal does
+--              not apply
 --   guarded    a call behind tests follows their rows, and then its own table; replying: a lamp's call
 --   seven      a settling behind the look at the lamp's own report
 use mathlib.Core.Path.{_≡_, refl, sym, ap, _∙_}
 use mathlib.Core.Logic.{inl, inr}
-use mathlib.Core.Bool.{Bool, true, false, cond, not}
+use mathlib.Core.Bool.{Bool, true, false, cond, not, true≢false}
 use mathlib.Core.Option.{Option, some}
 use mathlib.Core.List.{List, [], _∷_}
 use Prim.Native.Nat.{ℕ, _+_, _*_}
 use lib.Dec.{eqb}
 use borrow.Author.Tests.{eqb-true, eq-eqb, le-leb, not-true, not-false}
 use Rattle.lists.proofs.Cases.{not-both}
+use Rattle.field.specs.declared.Width.{Width}
+use Rattle.field.specs.declared.Width.the-variants.{Narrow, Wide}
+use Rattle.field.specs.Modulus.{sameWidth}
 use Rattle.parties.specs.Parties.{sizes, isParty}
 use Rattle.parties.proofs.Parties.{sizes-facts, party-facts, party-true}
 use Rattle.tables.specs.Tables.{IsTable, isTable}
@@ -28,13 +32,16 @@ use Rattle.lamp.specs.declared.Reply.{Reply}
 use Rattle.lamp.specs.Lamp.{refuse, guard, isAt}
 use Rattle.agreement.specs.Demand1.{Rows, Follows, Replies, Sizes, Among}
 use Rattle.agreement.proofs.Rows.{Tests, unless}
+use Rattle.agreement.proofs.Steps.{width-same}
 
 -- ---- the tests
+pub legal-sizes : (n t : ℕ) → sizes n t ≡ true → Sizes n t
+legal-sizes n t e = let f = sizes-facts n t e in record { some-faulty = f .0; few-faulty = f .1; enough = f .2; few = f .3 }
+
 pub size-test : (n t : ℕ) → Tests (sizes n t) (Sizes n t → ⊥)
 unfolding sizes
 size-test n t =
-    unless (sizes n t)
-    (λ e. let f = sizes-facts n t e in record { some-faulty = f .0; few-faulty = f .1; enough = f .2; few = f .3 })
+    unless (sizes n t) (legal-sizes n t)
     (λ s. simp (le-leb 1 t (s .some-faulty), le-leb t 3 (s .few-faulty), le-leb (4 * t + 1) n (s .enough), le-leb n 16 (s .few)))
 
 pub party-test : (n i : ℕ) → Tests (isParty n i) (Among n i → ⊥)
@@ -48,6 +55,16 @@ same-test a b = unless (eqb a b) (eqb-true a b) (eq-eqb a b)
 
 pub table-test : (p n : ℕ) (T : List ℕ) → Tests (isTable p n T) (IsTable p n T → ⊥)
 table-test p n T = unless (isTable p n T) (table-facts p n T) (table-true p n T)
+
+-- Widths that pass the test are one.
+pub same-width : (v w : Width) → sameWidth v w ≡ true → v ≡ w
+same-width Narrow Narrow e = refl
+same-width Narrow Wide e = absurd (true≢false (sym e))
+same-width Wide Narrow e = absurd (true≢false (sym e))
+same-width Wide Wide e = refl
+
+pub width-test : (v w : Width) → Tests (sameWidth v w) (v ≡ w → ⊥)
+width-test v w = unless (sameWidth v w) (same-width v w) (width-same v w)
 
 -- The stage is told by its number.
 stageOf : ℕ → Stage

@@ -30,9 +30,9 @@ module _ (s : Setting) (legal : Legal s) (e : Execution) (pr : Premises s e) (i 
       let b = pr .brings i h in
       let cs = e .calls i in
       let r = e .run i in
-      let taking = ap (λ l. step (s .p) l (takeDeal (r .itsDeal))) (one.to-deal s i ready cs r b) ∙ one.deal-taken s i ready cs r b in
+      let taking = ap (λ l. step l (takeDeal (r .width) (r .itsDeal))) (one.to-deal s i ready cs r b) ∙ one.deal-taken s i ready cs r b in
       let hearing =
-      ap (λ l. step (s .p) l (hearPairs (r .itsPairs))) (one.to-pairs s i ready cs r b) ∙ one.pairs-heard s i ready cs r b in
+      ap (λ l. step l (hearPairs (r .width) (r .itsPairs))) (one.to-pairs s i ready cs r b) ∙ one.pairs-heard s i ready cs r b in
       record {
         takes = (ap (λ (z : Reply). numberOf (z .answer)) taking, ap (λ (z : Reply). valuesOf (z .answer)) taking);
         says = λ xs j other at. let said = one.says-pair s i ready cs r b xs j other in (ap numberOf said, ap valuesOf said);
@@ -44,23 +44,23 @@ module _ (s : Setting) (legal : Legal s) (e : Execution) (pr : Premises s e) (i 
   reported = one.reported s i ready (e .calls i) (e .run i) (pr .brings i h)
 
   -- Settling, once its outcome is known.
-  pub settling : (w : Reply) → settled (s .p) reported S ≡ w → replyAt s i (toReports (e .run i)) (settle (e .run i .itsReports)) ≡ w
+  pub settling : (w : Reply) → settled reported S ≡ w → replyAt s i (toReports (e .run i)) (settle (e .run i .itsReports)) ≡ w
   settling w is =
-      ap (λ l. step (s .p) l (settle (e .run i .itsReports))) (one.to-reports s i ready (e .calls i) (e .run i) (pr .brings i h))
+      ap (λ l. step l (settle (e .run i .itsReports))) (one.to-reports s i ready (e .calls i) (e .run i) (pr .brings i h))
       ∙ one.settling s i ready (e .calls i) (e .run i) (pr .brings i h)
-      ∙ ap (λ rs. settled (s .p) reported (happySet rs)) (pr .same i h)
+      ∙ ap (λ rs. settled reported (happySet rs)) (pr .same i h)
       ∙ is
 
-  pub ended : (w : Reply) → settled (s .p) reported S ≡ w → (xs : List Call) → lampAt s i (sinceSettling (e .run i) xs) ≡ w .lamp
+  pub ended : (w : Reply) → settled reported S ≡ w → (xs : List Call) → lampAt s i (sinceSettling (e .run i) xs) ≡ w .lamp
   ended w is xs =
       one.since-settling s i ready (e .calls i) (e .run i) (pr .brings i h) xs
-      ∙ ap (λ rs. settled (s .p) reported (happySet rs) .lamp) (pr .same i h)
+      ∙ ap (λ rs. settled reported (happySet rs) .lamp) (pr .same i h)
       ∙ ap (λ (z : Reply). z .lamp) is
 
-  pub at-end : (w : Reply) → settled (s .p) reported S ≡ w → lampAt s i (e .calls i) ≡ w .lamp
+  pub at-end : (w : Reply) → settled reported S ≡ w → lampAt s i (e .calls i) ≡ w .lamp
   at-end w is = ap (lampAt s i) (pr .brings i h .list) ∙ ended w is (e .run i .rest)
 
-  pub stays : (w : Reply) → settled (s .p) reported S ≡ w
+  pub stays : (w : Reply) → settled reported S ≡ w
       → Stays s e s i (w .lamp .sharing .stage) (w .lamp .sharing .happy) (w .lamp .sharing .share)
   stays w is = record {
     stages = λ xs _. ap (λ (l : Lamp). l .sharing .stage) (ended w is xs);
@@ -72,5 +72,5 @@ module _ (s : Setting) (legal : Legal s) (e : Execution) (pr : Premises s e) (i 
   pub rejects : ones S < s .n - s .t → Rejects s e s i
   unfolding withPairs withDeal atEnd
   rejects few =
-      let is = settled-rejects (s .p) reported S few in
+      let is = settled-rejects reported S few in
       record { answered = ap (λ (z : Reply). numberOf (z .answer)) (settling _ is); stays = stays _ is }

@@ -14,6 +14,7 @@ pub mod Rows
 pub mod Settling
 pub mod Rightness
 pub mod Sentences
+pub mod Shares
 pub mod Makings
 pub mod Guards
 pub mod Sayings

@@ -7,10 +7,12 @@ use mathlib.Core.List.{List}
 use Prim.Native.Nat.{ℕ, _≤_}
 use native.Mathlib.Omega.{arith}
 use lib.Dec.{eqb}
-use lib.ListN.{length, getD, take, replicate}
+use lib.ListN.{length, getD, replicate}
 use lib.Seq.{getD-take}
 use borrow.Author.Tests.{eqb-true, eqb-false, eq-eqb}
 use Rattle.lists.proofs.Cases.{true-or-false}
+use Rattle.field.specs.declared.Width.{Width}
+use Rattle.field.specs.Modulus.{primeOf}
 use Rattle.parties.proofs.Parties.{sizes-facts, party-true}
 use Rattle.tables.specs.Tables.{pointAt, isTable}
 use Rattle.tables.proofs.Tables.{table-facts, point-not-zero, kept-front, kept-not}
@@ -29,23 +31,26 @@ use Rattle.agreement.proofs.Rows.{none-some}
 use Rattle.agreement.proofs.Sentences.{same-party}
 
 -- A call that no test refuses has a valid party.
-passed-valid : (p : ℕ) (l : Lamp) (c : Call) → Passed p l c → Valid p (l .party)
-passed-valid p l (takeDeal d) h = h .0
-passed-valid p l (sayPair j) h = h .0
-passed-valid p l (hearPairs hs) h = h .0
-passed-valid p l (settle rs) h = h .0
-passed-valid p l (openShares xs) h = h .0
+passed-valid : (l : Lamp) (c : Call) → Passed l c → Valid (l .party)
+passed-valid l (takeDeal w d) h = h .0
+passed-valid l (sayPair j) h = h .0
+passed-valid l (hearPairs w hs) h = h .0
+passed-valid l (settle rs) h = h .0
+passed-valid l (openShares w xs) h = h .0
 
-module _ (p n t i : ℕ) (T : List ℕ) where
+module _ (w : Width) (n t i : ℕ) (T : List ℕ) where
   abbrev a : Party
-  a = madeWith n t i T .party
+  a = madeWith w n t i T .party
+
+  abbrev p : ℕ
+  p = primeOf w
 
   first-zero : 1 ≤ n → a .table ≡ replicate 16 0 → pointAt (tableOf a) 1 ≡ 0
   unfolding pointAt
   first-zero h zeros = getD-take n (a .table) 0 0 (omega arith) ∙ ap (λ l. getD l 0 0) zeros
 
   -- A party that is valid was lent n numbers: otherwise its points are zeros.
-  right-length : Valid p a → length T ≡ n
+  right-length : Valid a → length T ≡ n
   right-length v =
       let size = sizes-facts n t (v .size) in
       ⊎-elim
@@ -57,7 +62,7 @@ module _ (p n t i : ℕ) (T : List ℕ) where
       (true-or-false (eqb (length T) n))
 
   -- So its making was not refused.
-  made-passes : Valid p a → lowest (makingTests p a T) ≡ Pass
+  made-passes : Valid a → lowest (makingTests a T) ≡ Pass
   made-passes v =
       let size = sizes-facts n t (v .size) in
       let same = right-length v in
@@ -69,15 +74,15 @@ module _ (p n t i : ℕ) (T : List ℕ) where
       )
 
   -- Whatever calls come after a making that was refused, every one of them is refused.
-  pub bad-at-every-call : (k : ℕ) → numberOf (makeWith p n t i T .answer) ≡ some k → (cs : List Call) (c : Call)
-      → (j : ℕ) × (numberOf (step p (after p (madeWith n t i T) cs) c .answer) ≡ some j)
-  bad-at-every-call k bad cs c = go (lowest (tests p l c)) refl
+  pub bad-at-every-call : (k : ℕ) → numberOf (makeWith w n t i T .answer) ≡ some k → (cs : List Call) (c : Call)
+      → (j : ℕ) × (numberOf (step (after (madeWith w n t i T) cs) c .answer) ≡ some j)
+  bad-at-every-call k bad cs c = go (lowest (tests l c)) refl
     where
       l : Lamp
-      l = after p (madeWith n t i T) cs
+      l = after (madeWith w n t i T) cs
 
-      go : (found : Admission) → lowest (tests p l c) ≡ found → (j : ℕ) × (numberOf (step p l c .answer) ≡ some j)
-      go (Fail why) e = (refusalNumber why, ap (λ (r : Reply). numberOf (r .answer)) (sym (step-refused p l c e)))
+      go : (found : Admission) → lowest (tests l c) ≡ found → (j : ℕ) × (numberOf (step l c .answer) ≡ some j)
+      go (Fail why) e = (refusalNumber why, ap (λ (r : Reply). numberOf (r .answer)) (sym (step-refused l c e)))
       go Pass e =
-          let v : Valid p a = subst (Valid p) (same-party p (madeWith n t i T) refl cs .0) (passed-valid p l c (passed p l c e)) in
-          absurd (none-some _ k (ap (λ (r : Reply). numberOf (r .answer)) (sym (make-admitted p n t i T (made-passes v)))) bad)
+          let v : Valid a = subst Valid (same-party (madeWith w n t i T) refl cs .0) (passed-valid l c (passed l c e)) in
+          absurd (none-some _ k (ap (λ (r : Reply). numberOf (r .answer)) (sym (make-admitted w n t i T (made-passes v)))) bad)

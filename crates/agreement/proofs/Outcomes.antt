@@ -19,26 +19,26 @@ use Rattle.lamp.specs.declared.Lamp.{Lamp}
 use Rattle.consistency.specs.Deal.{firstFrom}
 use Rattle.recovery.specs.Recovery.{repair}
 use Rattle.answers.specs.Fits.{constant}
-use Rattle.lamp.specs.Lamp.{tableOf, reply, columnOfLamp, firsts, atEnd, repaired, settled, opened}
+use Rattle.lamp.specs.Lamp.{itsPrime, tableOf, reply, columnOfLamp, firsts, atEnd, repaired, settled, opened}
 
-module _ (p : ℕ) (l : Lamp) (S : ℕ) where
-  pub settled-rejects : ones S < l .party .n - l .party .t → settled p l S ≡ reply (atEnd l Closed 0 0) (Refused DealerRejected)
+module _ (l : Lamp) (S : ℕ) where
+  pub settled-rejects : ones S < l .party .n - l .party .t → settled l S ≡ reply (atEnd l Closed 0 0) (Refused DealerRejected)
   unfolding settled
   settled-rejects h = rw (lt-leb (l .party .n - l .party .t) (ones S) h)
 
   module _ (many : l .party .n - l .party .t ≤ ones S) where
-    pub settled-happy : member S (l .party .number) ≡ true → settled p l S ≡ reply (atEnd l Holding S (constant (columnOfLamp l))) Accepted
+    pub settled-happy : member S (l .party .number) ≡ true → settled l S ≡ reply (atEnd l Holding S (constant (columnOfLamp l))) Accepted
     unfolding settled
     settled-happy e = rw (le-leb (l .party .n - l .party .t) (ones S) many, e)
 
     pub settled-mended : member S (l .party .number) ≡ false
-        → settled p l S ≡ repaired l S (repair p (l .party .n) (l .party .t) (tableOf (l .party)) S (l .sharing .heard))
+        → settled l S ≡ repaired l S (repair (itsPrime (l .party)) (l .party .n) (l .party .t) (tableOf (l .party)) S (l .sharing .heard))
     unfolding settled
     settled-mended e = rw (le-leb (l .party .n - l .party .t) (ones S) many, e)
 
     pub settled-repaired : (f : List ℕ) → member S (l .party .number) ≡ false
-        → repair p (l .party .n) (l .party .t) (tableOf (l .party)) S (l .sharing .heard) ≡ some f
-        → settled p l S ≡ reply (atEnd l Holding S (constant f)) Accepted
+        → repair (itsPrime (l .party)) (l .party .n) (l .party .t) (tableOf (l .party)) S (l .sharing .heard) ≡ some f
+        → settled l S ≡ reply (atEnd l Holding S (constant f)) Accepted
     settled-repaired f e found = settled-mended e ∙ ap (repaired l S) found
 
 -- The first number heard from each party is kept.

@@ -25,7 +25,7 @@ use Rattle.lists.specs.Choices.{count}
 use Rattle.parties.specs.Parties.{isParty, parties, member, entry}
 use Rattle.parties.proofs.Parties.{sizes-facts, party-facts, party-true, mem-parties}
 use Rattle.consistency.specs.Deal.{firstFrom, secondFrom, sound, pairFor, reportOf}
-use Rattle.agreement.specs.Setting.{Setting, Legal, width, point, rowFor, columnFor}
+use Rattle.agreement.specs.Setting.{Setting, Legal, prime, terms, point, rowFor, columnFor}
 use Rattle.agreement.specs.Demand1.{Sound}
 use Rattle.agreement.proofs.Counting.{ones-parties, honest-parties}
 use Rattle.agreement.proofs.Deals.{sound-facts, sound-true, pair-first, pair-second, Confirmed, confirmed, confirms-true, report-bit}
@@ -39,15 +39,15 @@ count-same a b (x ∷ xs) e =
 -- What the honest parties hold, hear and report.
 pub record Heard (s : Setting) (honest : ℕ → Bool) (rows columns pairs : ℕ → List ℕ) (rs : List ℕ) : Type 0 where
   pub few : count (λ i. not (honest i)) (parties (s .n)) ≤ s .t
-  pub row-sizes : (i : ℕ) → isParty (s .n) i ≡ true → honest i ≡ true → length (rows i) ≡ width s
-  pub column-sizes : (i : ℕ) → isParty (s .n) i ≡ true → honest i ≡ true → length (columns i) ≡ width s
+  pub row-sizes : (i : ℕ) → isParty (s .n) i ≡ true → honest i ≡ true → length (rows i) ≡ terms s
+  pub column-sizes : (i : ℕ) → isParty (s .n) i ≡ true → honest i ≡ true → length (columns i) ≡ terms s
   pub long : length rs ≡ s .n
   pub own : (i : ℕ) → isParty (s .n) i ≡ true → honest i ≡ true
-      → entry rs i ≡ reportOf (s .p) (s .n) (s .table) i (rows i) (columns i) (pairs i)
+      → entry rs i ≡ reportOf (prime s) (s .n) (s .table) i (rows i) (columns i) (pairs i)
   pub firsts : (i j : ℕ) → isParty (s .n) i ≡ true → honest i ≡ true → isParty (s .n) j ≡ true → honest j ≡ true → i ≢ j
-      → firstFrom (pairs i) j ≡ pairFor (s .p) (s .table) j (rows j) (columns j) i .0
+      → firstFrom (pairs i) j ≡ pairFor (prime s) (s .table) j (rows j) (columns j) i .0
   pub seconds : (i j : ℕ) → isParty (s .n) i ≡ true → honest i ≡ true → isParty (s .n) j ≡ true → honest j ≡ true → i ≢ j
-      → secondFrom (pairs i) j ≡ pairFor (s .p) (s .table) j (rows j) (columns j) i .1
+      → secondFrom (pairs i) j ≡ pairFor (prime s) (s .table) j (rows j) (columns j) i .1
 
 module _ (s : Setting) (legal : Legal s) (honest : ℕ → Bool) (rows columns pairs : ℕ → List ℕ) (rs : List ℕ)
     (h : Heard s honest rows columns pairs rs) where
@@ -62,10 +62,10 @@ module _ (s : Setting) (legal : Legal s) (honest : ℕ → Bool) (rows columns p
 
   -- ---- an honest party's one for j
   one-for : (i j : ℕ) → isParty (s .n) i ≡ true → honest i ≡ true → isParty (s .n) j ≡ true → bit (getD rs (i - 1) 0) (j - 1) ≡ true
-      → Confirmed (s .p) (s .table) i (rows i) (columns i) (pairs i) j
+      → Confirmed (prime s) (s .table) i (rows i) (columns i) (pairs i) j
   one-for i j party good other e =
-      confirmed (s .p) (s .table) i (rows i) (columns i) (pairs i) j
-      (sym (report-bit (s .p) (s .table) i (rows i) (columns i) (pairs i) j (s .n) other)
+      confirmed (prime s) (s .table) i (rows i) (columns i) (pairs i) j
+      (sym (report-bit (prime s) (s .table) i (rows i) (columns i) (pairs i) j (s .n) other)
       ∙ sym (ap (λ m. bit m (j - 1)) (h .own i party good))
       ∙ e)
 
@@ -73,7 +73,7 @@ module _ (s : Setting) (legal : Legal s) (honest : ℕ → Bool) (rows columns p
     abbrev In : ℕ → Type 0
     In = Inside s honest (happySet rs)
 
-    happy-ones : (i j : ℕ) → In i → In j → i ≢ j → Confirmed (s .p) (s .table) i (rows i) (columns i) (pairs i) j
+    happy-ones : (i j : ℕ) → In i → In j → i ≢ j → Confirmed (prime s) (s .table) i (rows i) (columns i) (pairs i) j
     happy-ones i j a b d =
         let fi = party-facts (s .n) i (a .party) in
         let fj = party-facts (s .n) j (b .party) in
@@ -82,51 +82,51 @@ module _ (s : Setting) (legal : Legal s) (honest : ℕ → Bool) (rows columns p
         (agree-iff rs (i - 1) (j - 1) .0 (happy-right .clique (i - 1) (j - 1) (a .happy) (b .happy) apart) .forth)
 
     -- Everyone inside has a sound deal, since it has a one for a neighbour inside.
-    pub soundly : (i : ℕ) → In i → sound (s .p) (s .table) i (rows i) (columns i) ≡ true
+    pub soundly : (i : ℕ) → In i → sound (prime s) (s .table) i (rows i) (columns i) ≡ true
     soundly i a =
         let q = neighbour s legal honest (h .few) (happySet rs) happy-within many i in happy-ones i (q .0) a (q .1) (q .2) .soundly
 
     -- What an honest party hears first from another one inside.
     pub heard-first : (i j : ℕ) → isParty (s .n) i ≡ true → honest i ≡ true → In j → i ≢ j
-        → firstFrom (pairs i) j ≡ value (s .p) (rows j) (point s i)
+        → firstFrom (pairs i) j ≡ value (prime s) (rows j) (point s i)
     heard-first i j party good b d =
         h .firsts i j party good (b .party) (b .good) d
-        ∙ pair-first (s .p) (s .table) j (rows j) (columns j) i (λ q. d (sym q)) (soundly j b)
+        ∙ pair-first (prime s) (s .table) j (rows j) (columns j) i (λ q. d (sym q)) (soundly j b)
 
     pub crossed : Crossed s honest (happySet rs) rows columns
     crossed = record {
       row-polys = λ i a. record { residues = facts i a .row-below; size = h .row-sizes i (a .party) (a .good) };
       column-polys = λ i a. record { residues = facts i a .column-below; size = h .column-sizes i (a .party) (a .good) };
       cross = λ i j a b. elim (ℕ-discrete i j) [
-        | yes e ↦ subst (λ k. value (s .p) (rows i) (point s k) ≡ value (s .p) (columns k) (point s i)) e (facts i a .crossing)
+        | yes e ↦ subst (λ k. value (prime s) (rows i) (point s k) ≡ value (prime s) (columns k) (point s i)) e (facts i a .crossing)
         | no d ↦ sym (heard-first j i (b .party) (b .good) a (λ q. d (sym q))) ∙ happy-ones j i b a (λ q. d (sym q)) .first
       ];
     }
       where
-        facts : (i : ℕ) → In i → Sound (s .p) (s .table) i (rows i) (columns i)
-        facts i a = sound-facts (s .p) (s .table) i (rows i) (columns i) (soundly i a)
+        facts : (i : ℕ) → In i → Sound (prime s) (s .table) i (rows i) (columns i)
+        facts i a = sound-facts (prime s) (s .table) i (rows i) (columns i) (soundly i a)
 
   -- ---- an honest dealer: every honest party has F's row and column
-  module _ (F : List ℕ) (square : length F ≡ width s * width s)
+  module _ (F : List ℕ) (square : length F ≡ terms s * terms s)
       (its-row : (i : ℕ) → isParty (s .n) i ≡ true → honest i ≡ true → rowFor s F i ≡ rows i)
       (its-column : (i : ℕ) → isParty (s .n) i ≡ true → honest i ≡ true → columnFor s F i ≡ columns i) where
     abbrev Good : ℕ → Type 0
     Good i = (isParty (s .n) i ≡ true) × (honest i ≡ true)
 
-    cross : (i j : ℕ) → Good i → Good j → value (s .p) (rows i) (point s j) ≡ value (s .p) (columns j) (point s i)
+    cross : (i j : ℕ) → Good i → Good j → value (prime s) (rows i) (point s j) ≡ value (prime s) (columns j) (point s i)
     cross i j a b =
-        ap (λ f. value (s .p) f (point s j)) (sym (its-row i (a .0) (a .1)))
-        ∙ crossing (s .p) (width s) (width s) F (point s j) (point s i) square
-        ∙ ap (λ f. value (s .p) f (point s i)) (its-column j (b .0) (b .1))
+        ap (λ f. value (prime s) f (point s j)) (sym (its-row i (a .0) (a .1)))
+        ∙ crossing (prime s) (terms s) (terms s) F (point s j) (point s i) square
+        ∙ ap (λ f. value (prime s) f (point s i)) (its-column j (b .0) (b .1))
 
-    dealt-sound : (i : ℕ) → Good i → sound (s .p) (s .table) i (rows i) (columns i) ≡ true
-    dealt-sound i a = sound-true (s .p) (s .table) i (rows i) (columns i) (record {
+    dealt-sound : (i : ℕ) → Good i → sound (prime s) (s .table) i (rows i) (columns i) ≡ true
+    dealt-sound i a = sound-true (prime s) (s .table) i (rows i) (columns i) (record {
       row-below =
-          subst (Poly (s .p) (width s)) (its-row i (a .0) (a .1))
-          (row-poly (s .p) (width s) (width s) F (point s i) (omega (arith, legal .prime .two))) .residues;
+          subst (Poly (prime s) (terms s)) (its-row i (a .0) (a .1))
+          (row-poly (prime s) (terms s) (terms s) F (point s i) (omega (arith, legal .prime .two))) .residues;
       column-below =
-          subst (Poly (s .p) (width s)) (its-column i (a .0) (a .1))
-          (column-poly (s .p) (width s) (width s) F (point s i) (omega (arith, legal .prime .two)) square) .residues;
+          subst (Poly (prime s) (terms s)) (its-column i (a .0) (a .1))
+          (column-poly (prime s) (terms s) (terms s) F (point s i) (omega (arith, legal .prime .two)) square) .residues;
       crossing = cross i i a a;
     })
 
@@ -134,17 +134,17 @@ module _ (s : Setting) (legal : Legal s) (honest : ℕ → Bool) (rows columns p
     honest-one : (i j : ℕ) → Good i → Good j → i ≢ j → bit (entry rs i) (j - 1) ≡ true
     honest-one i j a b d =
         ap (λ m. bit m (j - 1)) (h .own i (a .0) (a .1))
-        ∙ report-bit (s .p) (s .table) i (rows i) (columns i) (pairs i) j (s .n) (b .0)
-        ∙ confirms-true (s .p) (s .table) i (rows i) (columns i) (pairs i) j (record {
+        ∙ report-bit (prime s) (s .table) i (rows i) (columns i) (pairs i) j (s .n) (b .0)
+        ∙ confirms-true (prime s) (s .table) i (rows i) (columns i) (pairs i) j (record {
           other = d;
           soundly = dealt-sound i a;
           first =
               h .firsts i j (a .0) (a .1) (b .0) (b .1) d
-              ∙ pair-first (s .p) (s .table) j (rows j) (columns j) i (λ q. d (sym q)) (dealt-sound j b)
+              ∙ pair-first (prime s) (s .table) j (rows j) (columns j) i (λ q. d (sym q)) (dealt-sound j b)
               ∙ cross j i b a;
           second =
               h .seconds i j (a .0) (a .1) (b .0) (b .1) d
-              ∙ pair-second (s .p) (s .table) j (rows j) (columns j) i (λ q. d (sym q)) (dealt-sound j b)
+              ∙ pair-second (prime s) (s .table) j (rows j) (columns j) i (λ q. d (sym q)) (dealt-sound j b)
               ∙ sym (cross i j a b);
         })
 

@@ -1,14 +1,15 @@
 -- Sentences of the protocol about the lamp, each a short theorem: at every state and every list of calls, unless said otherwise.
---   same-party          no call changes the lamp's sizes, number and table, nor how many places it has for what it hears
+--   same-party          no call changes the lamp's sizes, number, width and table, nor how many places it has for what it hears
 --   until-it-settles    "Until it settles its share is 0 and its happy set empty."
 --   after-three-calls   "A lamp given these messages in turn is holding or closed after three accepted calls, a settling that gives 8 or 9
 --                       counted among them."
 --   nothing-hidden      a list of calls determines the deal, the pairs and the reports that it brings
 --   report-kept         the report that is given out is the one that is kept
+-- That a lamp's share is a residue of its prime is in Shares, by the same induction over calls (step-makes, after-makes).
 -- "The number is the only result; lists and lamp are unchanged, but 8 and 9 close the lamp" is demand 1.
 use mathlib.Core.Path.{_≡_, refl, sym, ap, ap₂, subst, _∙_}
 use mathlib.Core.Logic.{_⊎_, inl, inr}
-use mathlib.Core.Bool.{Bool, true, _&&_}
+use mathlib.Core.Bool.{Bool, true, false, cond, _&&_}
 use mathlib.Core.Option.{Option, none, some}
 use mathlib.Core.List.{List, [], _∷_, _++_, append-assoc, head-eq-of-cons-eq, tail-eq-of-cons-eq}
 use Prim.Native.Nat.{ℕ, _*_, _≤_}
@@ -18,6 +19,7 @@ use lib.ListN.{length, drop}
 use lib.Seq.{drop-append-seam}
 use borrow.Author.Tests.{eq-eqb, eqb-true}
 use Rattle.lists.proofs.Cases.{not-both}
+use Rattle.field.specs.declared.Width.{Width}
 use Rattle.happy.specs.Happy.{happySet}
 use Rattle.parties.specs.Parties.{entry}
 use Rattle.answers.specs.declared.Stage.{Stage}
@@ -35,10 +37,11 @@ use Rattle.lamp.specs.Lamp.{reply, refuse, guard, withDeal, withPairs, reportFr
 use Rattle.lamp.specs.Lamp.{settled, opening, opened, Call, takeDeal, sayPair, hearPairs, settle, openShares, step}
 use Rattle.lamp.specs.Lamp.{tests, outcome, after}
 use Rattle.lamp.proofs.Checks.{Passed, passed, valid-facts}
-use Rattle.agreement.specs.Setting.{Setting, width, reportBy, madeFor, lampAt}
+use Rattle.agreement.specs.Setting.{Setting, terms, reportBy, madeFor, lampAt}
 use Rattle.agreement.specs.Calls.{Run, whole, Never, isDeal, isHearing, isSettling}
 use Rattle.agreement.specs.Demand3.{Brings}
-use Rattle.agreement.proofs.Runs.{by-cond, settled-ends}
+use Rattle.agreement.proofs.Steps.{fits}
+use Rattle.agreement.proofs.Runs.{settled-ends}
 use Rattle.agreement.proofs.Strays.{cuts, never-at}
 use Rattle.agreement.proofs.Outcomes.{heard-all}
 use Rattle.agreement.proofs.Collapse as one
@@ -48,46 +51,53 @@ guard-makes : (Q : Lamp → Type 0) (l : Lamp) (a : Admission) (r : Reply) → Q
 guard-makes Q l Pass r h k = k refl
 guard-makes Q l (Fail why) r h k = h
 
+-- By the test's answer, which the first case may cite.
+by-test : {A : Type 0} (Q : A → Type 0) (b : Bool) (x y : A) → (b ≡ true → Q x) → Q y → Q (cond b x y)
+by-test Q true x y hx hy = hx refl
+by-test Q false x y hx hy = hy
+
 opened-makes : (Q : Lamp → Type 0) (l : Lamp) (o : Option (List ℕ)) → Q l → Q (opened l o .lamp)
 opened-makes Q l none h = h
 opened-makes Q l (some f) h = h
 
-module _ (p : ℕ) (Q : Lamp → Type 0) (l : Lamp) where
-  pub step-makes : Q l → ((d : List ℕ) → Passed p l (takeDeal d) → Q (withDeal l d))
-      → ((hs : List ℕ) → Passed p l (hearPairs hs) → Q (withPairs p l hs))
-      → ((S : ℕ) → Q (settled p l S .lamp)) → (c : Call) → Q (step p l c .lamp)
+module _ (Q : Lamp → Type 0) (l : Lamp) where
+  pub step-makes : Q l → ((w : Width) (d : List ℕ) → Passed l (takeDeal w d) → Q (withDeal l d))
+      → ((w : Width) (hs : List ℕ) → Passed l (hearPairs w hs) → Q (withPairs l hs))
+      → ((rs : List ℕ) → Passed l (settle rs) → entry rs (l .party .number) ≡ l .sharing .report → Q (settled l (happySet rs) .lamp))
+      → (c : Call) → Q (step l c .lamp)
   unfolding step
-  step-makes same dealt heard ended c = guard-makes Q l (lowest (tests p l c)) (outcome p l c) same (makes c)
+  step-makes same dealt heard ended c = guard-makes Q l (lowest (tests l c)) (outcome l c) same (makes c)
     where
-      makes : (c : Call) → lowest (tests p l c) ≡ Pass → Q (outcome p l c .lamp)
-      makes (takeDeal d) e = dealt d (passed p l (takeDeal d) e)
+      makes : (c : Call) → lowest (tests l c) ≡ Pass → Q (outcome l c .lamp)
+      makes (takeDeal w d) e = dealt w d (passed l (takeDeal w d) e)
       makes (sayPair j) e = same
-      makes (hearPairs hs) e = heard hs (passed p l (hearPairs hs) e)
+      makes (hearPairs w hs) e = heard w hs (passed l (hearPairs w hs) e)
       makes (settle rs) e =
-          by-cond (λ (r : Reply). Q (r .lamp)) (eqb (entry rs (l .party .number)) (l .sharing .report))
-          (settled p l (happySet rs)) (refuse l AlteredReport) (ended (happySet rs)) same
-      makes (openShares xs) e = opened-makes Q l (opening p l xs) same
+          by-test (λ (r : Reply). Q (r .lamp)) (eqb (entry rs (l .party .number)) (l .sharing .report))
+          (settled l (happySet rs)) (refuse l AlteredReport)
+          (λ own. ended rs (passed l (settle rs) e) (eqb-true (entry rs (l .party .number)) (l .sharing .report) own)) same
+      makes (openShares w xs) e = opened-makes Q l (opening l xs) same
 
 -- What every call keeps, every list of calls keeps.
-pub after-makes : (p : ℕ) (Q : Lamp → Type 0) → ((l : Lamp) → Q l → (c : Call) → Q (step p l c .lamp))
-    → (l : Lamp) → Q l → (cs : List Call) → Q (after p l cs)
-after-makes p Q keeps l h [] = h
-after-makes p Q keeps l h (c ∷ cs) = after-makes p Q keeps (step p l c .lamp) (keeps l h c) cs
+pub after-makes : (Q : Lamp → Type 0) → ((l : Lamp) → Q l → (c : Call) → Q (step l c .lamp))
+    → (l : Lamp) → Q l → (cs : List Call) → Q (after l cs)
+after-makes Q keeps l h [] = h
+after-makes Q keeps l h (c ∷ cs) = after-makes Q keeps (step l c .lamp) (keeps l h c) cs
 
 -- ---- the party is the same for ever
 -- The party a, and sixteen places for what is heard.
 abbrev Same : Party → Lamp → Type 0
 Same a l = (l .party ≡ a) × (length (l .sharing .heard) ≡ 16)
 
-step-same : (p : ℕ) (a : Party) (l : Lamp) → Same a l → (c : Call) → Same a (step p l c .lamp)
+step-same : (a : Party) (l : Lamp) → Same a l → (c : Call) → Same a (step l c .lamp)
 unfolding withDeal withPairs atEnd
-step-same p a l h =
-    step-makes p (Same a) l h (λ d w. h) (λ hs w. (h .0, heard-all (l .party .n) hs (valid-facts p (l .party) (w .0) .room)))
-    (settled-ends p l (Same a) (λ S v. h) (λ S v. h))
+step-same a l h =
+    step-makes (Same a) l h (λ w d ok. h) (λ w hs ok. (h .0, heard-all (l .party .n) hs (valid-facts (l .party) (ok .0) .room)))
+    (λ rs ok own. settled-ends l (Same a) (λ S v. h) (λ S v. h) (happySet rs))
 
-pub same-party : (p : ℕ) (l : Lamp) → length (l .sharing .heard) ≡ 16 → (cs : List Call)
-    → (after p l cs .party ≡ l .party) × (length (after p l cs .sharing .heard) ≡ 16)
-same-party p l long = after-makes p (Same (l .party)) (step-same p (l .party)) l (refl, long)
+pub same-party : (l : Lamp) → length (l .sharing .heard) ≡ 16 → (cs : List Call)
+    → (after l cs .party ≡ l .party) × (length (after l cs .sharing .heard) ≡ 16)
+same-party l long = after-makes (Same (l .party)) (step-same (l .party)) l (refl, long)
 
 -- ---- until it settles
 abbrev Unsettled : Lamp → Type 0
@@ -97,36 +107,48 @@ end-settled : (l : Lamp) (s : Stage) (S v : ℕ) → 3 ≤ stageNumber s → Uns
 unfolding atEnd
 end-settled l s S v h k = absurd (omega arith)
 
-step-unsettled : (p : ℕ) (l : Lamp) → Unsettled l → (c : Call) → Unsettled (step p l c .lamp)
+step-unsettled : (l : Lamp) → Unsettled l → (c : Call) → Unsettled (step l c .lamp)
 unfolding withDeal withPairs
-step-unsettled p l h c =
-    step-makes p Unsettled l h
-    (λ d w k. h (omega (arith, eqb-true (stageNumber (l .sharing .stage)) 0 (w .2))))
-    (λ hs w k. h (omega (arith, eqb-true (stageNumber (l .sharing .stage)) 1 (w .2))))
-    (settled-ends p l Unsettled (λ S v. end-settled l Holding S v (omega arith)) (λ S v. end-settled l Closed S v (omega arith))) c
+step-unsettled l h c =
+    step-makes Unsettled l h
+    (λ w d ok k. h (omega (arith, eqb-true (stageNumber (l .sharing .stage)) 0 (ok .2))))
+    (λ w hs ok k. h (omega (arith, eqb-true (stageNumber (l .sharing .stage)) 1 (ok .2))))
+    (λ rs ok own.
+    settled-ends l Unsettled (λ S v. end-settled l Holding S v (omega arith)) (λ S v. end-settled l Closed S v (omega arith)) (happySet rs))
+    c
 
 pub until-it-settles : (s : Setting) (i : ℕ) (cs : List Call) → stageNumber (lampAt s i cs .sharing .stage) ≤ 2
     → (lampAt s i cs .sharing .share ≡ 0) × (lampAt s i cs .sharing .happy ≡ 0)
-until-it-settles s i = after-makes (s .p) Unsettled (step-unsettled (s .p)) (madeFor s i) (λ k. (refl, refl))
+until-it-settles s i = after-makes Unsettled step-unsettled (madeFor s i) (λ k. (refl, refl))
 
 -- ---- holding or closed after three accepted calls
-end-last : (p : ℕ) (l : Lamp) (S : ℕ) → (settled p l S .lamp .sharing .stage ≡ Holding) ⊎ (settled p l S .lamp .sharing .stage ≡ Closed)
+end-last : (l : Lamp) (S : ℕ) → (settled l S .lamp .sharing .stage ≡ Holding) ⊎ (settled l S .lamp .sharing .stage ≡ Closed)
 unfolding atEnd
-end-last p l =
-    settled-ends p l (λ (m : Lamp). (m .sharing .stage ≡ Holding) ⊎ (m .sharing .stage ≡ Closed)) (λ S v. inl refl) (λ S v. inr refl)
+end-last l =
+    settled-ends l (λ (m : Lamp). (m .sharing .stage ≡ Holding) ⊎ (m .sharing .stage ≡ Closed)) (λ S v. inl refl) (λ S v. inr refl)
 
 -- A deal, then pairs, then reports, each of the right length, the lamp's own report in its place.
-abbrev inTurn : List ℕ → List ℕ → List ℕ → Run
-inTurn d hs rs = record { beforeDeal = []; itsDeal = d; beforePairs = []; itsPairs = hs; beforeReports = []; itsReports = rs; rest = [] }
+abbrev inTurn : Width → List ℕ → List ℕ → List ℕ → Run
+inTurn w d hs rs = record {
+  width = w;
+  beforeDeal = [];
+  itsDeal = d;
+  beforePairs = [];
+  itsPairs = hs;
+  beforeReports = [];
+  itsReports = rs;
+  rest = [];
+}
 
 pub after-three-calls : (s : Setting) (i : ℕ) (d hs rs : List ℕ) → one.Ready s i
-    → length d ≡ 2 * width s → length hs ≡ 2 * s .n → length rs ≡ s .n → entry rs i ≡ reportBy s i d hs
-    → (lampAt s i (takeDeal d ∷ hearPairs hs ∷ settle rs ∷ []) .sharing .stage ≡ Holding)
-    ⊎ (lampAt s i (takeDeal d ∷ hearPairs hs ∷ settle rs ∷ []) .sharing .stage ≡ Closed)
+    → length d ≡ 2 * terms s → length hs ≡ 2 * s .n → length rs ≡ s .n → entry rs i ≡ reportBy s i d hs
+    → (lampAt s i (takeDeal (s .width) d ∷ hearPairs (s .width) hs ∷ settle rs ∷ []) .sharing .stage ≡ Holding)
+    ⊎ (lampAt s i (takeDeal (s .width) d ∷ hearPairs (s .width) hs ∷ settle rs ∷ []) .sharing .stage ≡ Closed)
 after-three-calls s i d hs rs ready ld lh lr own =
-    let r : Run = inTurn d hs rs in
+    let r : Run = inTurn (s .width) d hs rs in
     let b : Brings s i (whole r) r = record {
       list = refl;
+      own-width = refl;
       deal-length = ld;
       deal-first = tt;
       pairs-length = lh;
@@ -137,16 +159,16 @@ after-three-calls s i d hs rs ready ld lh lr own =
     } in
     subst (λ (l : Lamp). (l .sharing .stage ≡ Holding) ⊎ (l .sharing .stage ≡ Closed))
     (sym (one.since-settling s i ready (whole r) r b []))
-    (end-last (s .p) (one.reported s i ready (whole r) r b) (happySet rs))
+    (end-last (one.reported s i ready (whole r) r b) (happySet rs))
 
 -- ---- the report that is given out is kept
-pub report-kept : (p : ℕ) (l : Lamp) (hs : List ℕ) (r : ℕ) → step p l (hearPairs hs) .answer ≡ Report r
-    → step p l (hearPairs hs) .lamp .sharing .report ≡ r
+pub report-kept : (l : Lamp) (w : Width) (hs : List ℕ) (r : ℕ) → step l (hearPairs w hs) .answer ≡ Report r
+    → step l (hearPairs w hs) .lamp .sharing .report ≡ r
 unfolding step withPairs
-report-kept p l hs r e = by (lowest (tests p l (hearPairs hs))) e
+report-kept l w hs r e = by (lowest (tests l (hearPairs w hs))) e
   where
     heard : Reply
-    heard = reply (withPairs p l hs) (Report (reportFrom p l hs))
+    heard = reply (withPairs l hs) (Report (reportFrom l hs))
 
     by : (a : Admission) → guard l a heard .answer ≡ Report r → guard l a heard .lamp .sharing .report ≡ r
     by Pass e = cc
@@ -171,24 +193,25 @@ first-once test us c ws vs b zs nu nv tc tb e =
 
 -- The list of a run, from the front.
 abbrev fromPairs : Run → List Call
-fromPairs r = r .beforePairs ++ hearPairs (r .itsPairs) ∷ (r .beforeReports ++ settle (r .itsReports) ∷ r .rest)
+fromPairs r = r .beforePairs ++ hearPairs (r .width) (r .itsPairs) ∷ (r .beforeReports ++ settle (r .itsReports) ∷ r .rest)
 
-flat : (r : Run) → whole r ≡ r .beforeDeal ++ takeDeal (r .itsDeal) ∷ fromPairs r
+flat : (r : Run) → whole r ≡ r .beforeDeal ++ takeDeal (r .width) (r .itsDeal) ∷ fromPairs r
 flat r = simp append-assoc
 
 pub nothing-hidden : (s : Setting) (i : ℕ) (cs : List Call) (r q : Run) → Brings s i cs r → Brings s i cs q → r ≡ q
 nothing-hidden s i cs r q br bq =
     let a =
-    first-once (isDeal s) (r .beforeDeal) (takeDeal (r .itsDeal)) _ (q .beforeDeal) (takeDeal (q .itsDeal)) _
+    first-once (isDeal s) (r .beforeDeal) (takeDeal (r .width) (r .itsDeal)) _ (q .beforeDeal) (takeDeal (q .width) (q .itsDeal)) _
     (br .deal-first) (bq .deal-first)
-    (eq-eqb (length (r .itsDeal)) (2 * width s) (br .deal-length)) (eq-eqb (length (q .itsDeal)) (2 * width s) (bq .deal-length))
+    (fits (r .width) (s .width) (br .own-width) _ _ (br .deal-length)) (fits (q .width) (s .width) (bq .own-width) _ _ (bq .deal-length))
     (sym (flat r) ∙ sym (br .list) ∙ bq .list ∙ flat q) in
     let b =
-    first-once (isHearing s) (r .beforePairs) (hearPairs (r .itsPairs)) _ (q .beforePairs) (hearPairs (q .itsPairs)) _
+    first-once (isHearing s) (r .beforePairs) (hearPairs (r .width) (r .itsPairs)) _ (q .beforePairs) (hearPairs (q .width) (q .itsPairs)) _
     (br .pairs-first) (bq .pairs-first)
-    (eq-eqb (length (r .itsPairs)) (2 * s .n) (br .pairs-length)) (eq-eqb (length (q .itsPairs)) (2 * s .n) (bq .pairs-length)) (a .2) in
-    let deals : r .itsDeal ≡ q .itsDeal = let e : takeDeal (r .itsDeal) ≡ takeDeal (q .itsDeal) = a .1 in cc in
-    let pairs : r .itsPairs ≡ q .itsPairs = let e : hearPairs (r .itsPairs) ≡ hearPairs (q .itsPairs) = b .1 in cc in
+    (fits (r .width) (s .width) (br .own-width) _ _ (br .pairs-length)) (fits (q .width) (s .width) (bq .own-width) _ _ (bq .pairs-length))
+    (a .2) in
+    let deals : r .itsDeal ≡ q .itsDeal = let e : takeDeal (r .width) (r .itsDeal) ≡ takeDeal (q .width) (q .itsDeal) = a .1 in cc in
+    let pairs : r .itsPairs ≡ q .itsPairs = let e : hearPairs (r .width) (r .itsPairs) ≡ hearPairs (q .width) (q .itsPairs) = b .1 in cc in
     let its : Run → ℕ = λ z. reportBy s i (z .itsDeal) (z .itsPairs) in
     let same : its q ≡ its r = ap₂ (reportBy s i) (sym deals) (sym pairs) in
     let c =
@@ -201,7 +224,9 @@ nothing-hidden s i cs r q br bq =
     (eq-eqb (entry (q .itsReports) i) (its r) (bq .reports-own ∙ same)))
     (b .2) in
     let seen : r .itsReports ≡ q .itsReports = let e : settle (r .itsReports) ≡ settle (q .itsReports) = c .1 in cc in
+    let widths : r .width ≡ q .width = br .own-width ∙ sym (bq .own-width) in
     λ j. record {
+      width = widths j;
       beforeDeal = a .0 j;
       itsDeal = deals j;
       beforePairs = b .0 j;

@@ -42,7 +42,7 @@ use Rattle.answers.specs.Answers.{numberOf, valuesOf, stageNumber}
 use Rattle.recovery.specs.Recovery.{repair}
 use Rattle.recovery.proofs.Deciding.{marks-ones}
 use Rattle.answers.specs.Fits.{constant}
-use Rattle.lamp.specs.Lamp.{tableOf, reply, columnOfLamp, atEnd, repaired, settled, settle, step}
+use Rattle.lamp.specs.Lamp.{itsPrime, tableOf, reply, columnOfLamp, atEnd, repaired, settled, settle, step}
 use Rattle.agreement.specs.Demand2.{FewAgree, pointsIn, heardIn, FitsHeard, EndsHolding, Settles}
 use Rattle.agreement.specs.Demand2.{KeepsRight, RepairsRight}
 use Rattle.agreement.specs.Demand3.{Refuses}
@@ -58,7 +58,10 @@ holds-end l S v r e = record {
   left = ap (λ (z : Reply). z .lamp) e;
 }
 
-module _ (p : ℕ) (P : Prime p) (l : Lamp) (rs : List ℕ) (h : Settles p l rs) where
+module _ (l : Lamp) (P : Prime (itsPrime (l .party))) (rs : List ℕ) (h : Settles l rs) where
+  abbrev p : ℕ
+  p = itsPrime (l .party)
+
   abbrev n : ℕ
   n = l .party .n
 
@@ -83,9 +86,9 @@ module _ (p : ℕ) (P : Prime p) (l : Lamp) (rs : List ℕ) (h : Settles p l rs)
   pub largest : Largest (agree rs) n S
   largest = subst (λ k. Largest (agree rs) k S) (h .long) (happy-is rs small)
 
-  pub goes : step p l (settle rs) ≡ settled p l S
+  pub goes : step l (settle rs) ≡ settled l S
   goes =
-      settles p l (h .valid) rs
+      settles l (h .valid) rs
       (ap₂ (λ (a b : Bool). a && b)
       (ap₂ (λ (a b : Bool). a && b) (eq-eqb (length rs) n (h .long)) (ap (λ s. eqb (stageNumber s) 2) (h .stage)))
       (eq-eqb (entry rs i) (l .sharing .report) (h .own)))
@@ -95,53 +98,53 @@ module _ (p : ℕ) (P : Prime p) (l : Lamp) (rs : List ℕ) (h : Settles p l rs)
   repaired-number (some f) e = none-some none 8 refl e
 
   -- Where enough agree the answer is not 8.
-  pub not-rejected : n - t ≤ ones S → Refuses (step p l (settle rs) .answer) 8 → ⊥
+  pub not-rejected : n - t ≤ ones S → Refuses (step l (settle rs) .answer) 8 → ⊥
   unfolding settled
   not-rejected many e =
       ⊎-elim
       (λ (m : member S i ≡ true).
-      none-some _ 8 (ap (λ (z : Reply). numberOf (z .answer)) (goes ∙ settled-happy p l S many m)) e)
+      none-some _ 8 (ap (λ (z : Reply). numberOf (z .answer)) (goes ∙ settled-happy l S many m)) e)
       (λ (m : member S i ≡ false).
       repaired-number (repair p n t T S (l .sharing .heard))
-      (sym (ap (λ (z : Reply). numberOf (z .answer)) (goes ∙ settled-mended p l S many m)) ∙ e))
+      (sym (ap (λ (z : Reply). numberOf (z .answer)) (goes ∙ settled-mended l S many m)) ∙ e))
       (true-or-false (member S i))
 
-  pub rejects-right : Refuses (step p l (settle rs) .answer) 8 ↔ FewAgree n t rs
+  pub rejects-right : Refuses (step l (settle rs) .answer) 8 ↔ FewAgree n t rs
   rejects-right = (to, from)
     where
-      to : Refuses (step p l (settle rs) .answer) 8 → FewAgree n t rs
+      to : Refuses (step l (settle rs) .answer) 8 → FewAgree n t rs
       to e =
           ⊎-elim (λ many. absurd (not-rejected many e))
           (λ few s w c. omega (arith, largest .most s w c, ones-members n s w))
           (le-or-lt (n - t) (ones S))
 
-      from : FewAgree n t rs → Refuses (step p l (settle rs) .answer) 8
+      from : FewAgree n t rs → Refuses (step l (settle rs) .answer) 8
       from few =
           let found = few S (largest .within) (largest .clique) in
           let counted = ones-members n S (largest .within) in
-          ap (λ (z : Reply). numberOf (z .answer)) (goes ∙ settled-rejects p l S (omega (arith, found, counted)))
+          ap (λ (z : Reply). numberOf (z .answer)) (goes ∙ settled-rejects l S (omega (arith, found, counted)))
 
   module _ (many : n - t ≤ ones S) where
-    pub keeps-right : KeepsRight p l rs S
+    pub keeps-right : KeepsRight l rs S
     unfolding atEnd
     keeps-right = record {
       kept = kept;
       largest = largest;
       enough = many;
       counted = ones-members n S (largest .within);
-      happy-share = λ m. holds-end l S (constant (columnOfLamp l)) (step p l (settle rs)) (goes ∙ settled-happy p l S many m);
+      happy-share = λ m. holds-end l S (constant (columnOfLamp l)) (step l (settle rs)) (goes ∙ settled-happy l S many m);
     }
       where
         mended : (o : Option (List ℕ)) → repaired l S o .lamp .sharing .happy ≡ S
         mended none = refl
         mended (some f) = refl
 
-        kept : step p l (settle rs) .lamp .sharing .happy ≡ S
+        kept : step l (settle rs) .lamp .sharing .happy ≡ S
         kept =
             ⊎-elim
-            (λ (m : member S i ≡ true). ap (λ (z : Reply). z .lamp .sharing .happy) (goes ∙ settled-happy p l S many m))
+            (λ (m : member S i ≡ true). ap (λ (z : Reply). z .lamp .sharing .happy) (goes ∙ settled-happy l S many m))
             (λ (m : member S i ≡ false).
-            ap (λ (z : Reply). z .lamp .sharing .happy) (goes ∙ settled-mended p l S many m)
+            ap (λ (z : Reply). z .lamp .sharing .happy) (goes ∙ settled-mended l S many m)
             ∙ mended (repair p n t T S (l .sharing .heard)))
             (true-or-false (member S i))
 
@@ -178,23 +181,23 @@ module _ (p : ℕ) (P : Prime p) (l : Lamp) (rs : List ℕ) (h : Settles p l rs)
       unfolding repair
       repair-is = ap (λ m. fit p t (m - t) xs ys) (sym size-xs)
 
-      found : (f : List ℕ) → FitsHeard p l S f → step p l (settle rs) ≡ reply (atEnd l Holding S (constant f)) Accepted
+      found : (f : List ℕ) → FitsHeard l S f → step l (settle rs) ≡ reply (atEnd l Holding S (constant f)) Accepted
       found f near =
-          goes ∙ settled-repaired p l S many f out (repair-is ∙ near-found p P t xs ys fine (size-xs ∙ sym size-ys) enough f near)
+          goes ∙ settled-repaired l S many f out (repair-is ∙ near-found p P t xs ys fine (size-xs ∙ sym size-ys) enough f near)
 
-      pub closed : mended ≡ none → step p l (settle rs) ≡ reply (atEnd l Closed S 0) (Refused NoColumn)
-      closed e = goes ∙ settled-mended p l S many out ∙ ap (repaired l S) e
+      pub closed : mended ≡ none → step l (settle rs) ≡ reply (atEnd l Closed S 0) (Refused NoColumn)
+      closed e = goes ∙ settled-mended l S many out ∙ ap (repaired l S) e
 
       -- 9 says that nothing was found.
-      nine : Refuses (step p l (settle rs) .answer) 9 → mended ≡ none
+      nine : Refuses (step l (settle rs) .answer) 9 → mended ≡ none
       nine e = by mended refl
         where
           by : (o : Option (List ℕ)) → mended ≡ o → mended ≡ none
           by none q = q
           by (some f) q =
-              absurd (none-some _ 9 (ap (λ (z : Reply). numberOf (z .answer)) (goes ∙ settled-repaired p l S many f out q)) e)
+              absurd (none-some _ 9 (ap (λ (z : Reply). numberOf (z .answer)) (goes ∙ settled-repaired l S many f out q)) e)
 
-      pub repairs-right : RepairsRight p l rs S
+      pub repairs-right : RepairsRight l rs S
       repairs-right =
           let iff = near-none p P t xs ys fine (size-xs ∙ sym size-ys) enough in
           record {
@@ -203,5 +206,5 @@ module _ (p : ℕ) (P : Prime p) (l : Lamp) (rs : List ℕ) (h : Settles p l rs)
               λ e. ap (λ (z : Reply). numberOf (z .answer)) (closed (repair-is ∙ iff .1 e)),
             );
             only = near-only p P t xs ys fine (size-xs ∙ sym size-ys) enough;
-            fits = λ f near. holds-end l S (constant f) (step p l (settle rs)) (found f near);
+            fits = λ f near. holds-end l S (constant f) (step l (settle rs)) (found f near);
           }

@@ -14,7 +14,10 @@ use Rattle.lists.specs.Masks.{mask}
 use Rattle.lists.specs.Tabulate.{tabulate}
 use Rattle.lists.specs.Choices.{count}
 use Rattle.lists.proofs.Tabulate.{length-tabulate, getD-tabulate}
-use Rattle.field.specs.Modulus.{modulus}
+use Rattle.field.specs.declared.Width.{Width}
+use Rattle.field.specs.declared.Width.the-variants.{Narrow, Wide}
+use Rattle.field.specs.Modulus.{primeOf}
+use Rattle.polynomial.specs.Polynomial.{Residues}
 use Rattle.polynomial.proofs.Below.{residues-facts}
 use Rattle.mutual.specs.Agreement.{agree, agreements}
 use Rattle.happy.specs.Happy.{joins, better, best, largest, largestIn, happySet}
@@ -35,9 +38,9 @@ use Rattle.answers.specs.Answers.{numberOf, valuesOf}
 use Rattle.recovery.specs.Recovery.{repair}
 use Rattle.lamp.specs.Lamp.{Call, settle, openShares, step, withDeal, withPairs, reportFrom, settled, opening, atEnd}
 use Rattle.consistency.specs.Deal.{firstFrom, secondFrom, sound, pairFor, confirms, reportOf}
-use Rattle.agreement.specs.Setting.{Setting, width, pairBy, reportBy, replyAt, answerAt}
+use Rattle.agreement.specs.Setting.{Setting, prime, terms, pairBy, reportBy, replyAt, answerAt}
 use Rattle.agreement.specs.Calls.{toReports, sinceSettling, Never, isDeal, isHearing, isSettling}
-use Rattle.agreement.specs.Demand3.{Honest, Premises, OneTable, AllReject, AllAccept, Demand3}
+use Rattle.agreement.specs.Demand3.{Honest, Premises, OneTable, OneWidth, AllReject, AllAccept, Demand3}
 use Rattle.agreement.specs.Stories.{Plot, pairHeard, pairsHeard, reportsSeen, runOf, execution, anF, fiveWith, five}
 use Rattle.agreement.specs.Stories.{honestDealer, liar, twoDealers}
 use Rattle.agreement.specs.Harbour.{stations}
@@ -81,7 +84,7 @@ module _ (s : Setting) (q : Plot) where
 
   -- The premises are met.
   pub premises : sizes (s .n) (s .t) ≡ true → count (λ i. not (q .good i)) (parties (s .n)) ≤ s .t
-      → ((i : ℕ) → isParty (s .n) i ≡ true → q .good i ≡ true → length (q .dealTo i) ≡ 2 * width s)
+      → ((i : ℕ) → isParty (s .n) i ≡ true → q .good i ≡ true → length (q .dealTo i) ≡ 2 * terms s)
       → Never (isDeal s) (q .early) → Never (isHearing s) (q .between) → ((i r : ℕ) → Never (isSettling s i r) (q .late))
       → Premises s (execution s q)
   unfolding pairsHeard reportsSeen
@@ -90,6 +93,7 @@ module _ (s : Setting) (q : Plot) where
     few = few;
     brings = λ i h. record {
       list = refl;
+      own-width = refl;
       deal-length = long i (h .party) (h .good);
       deal-first = no-deal;
       pairs-length = length-tabulate _ (2 * s .n);
@@ -106,119 +110,145 @@ module _ (s : Setting) (q : Plot) where
   }
 
   -- All lamps have the setting's table.
-  pub one-table : IsTable (s .p) (s .n) (s .table) → OneTable s (execution s q)
+  pub one-table : IsTable (prime s) (s .n) (s .table) → OneTable s (execution s q)
   one-table points = record { table = points; loaded = λ i h. refl }
 
--- ---- three plots for five lamps, one of them faulty, modulo 65,521
+  -- And its width.
+  pub one-width : OneWidth s (execution s q)
+  one-width i h = refl
+
+-- ---- three plots for five lamps, one of them faulty, in numbers of either width
 
 -- What lamp i answers to its settling, with its set and share then; and what it answers to the list that is opened in the end.
-abbrev ended : Plot → ℕ → Reply
-ended q i = replyAt (five modulus) i (toReports (runOf (five modulus) q i)) (settle (reportsSeen (five modulus) q))
+abbrev ended : Width → Plot → ℕ → Reply
+ended w q i = replyAt (five w) i (toReports (runOf (five w) q i)) (settle (reportsSeen (five w) q))
 
-abbrev outcome : Plot → ℕ → Option ℕ × ℕ × ℕ
-outcome q i = (numberOf (ended q i .answer), ended q i .lamp .sharing .happy, ended q i .lamp .sharing .share)
+abbrev outcome : Width → Plot → ℕ → Option ℕ × ℕ × ℕ
+outcome w q i = (numberOf (ended w q i .answer), ended w q i .lamp .sharing .happy, ended w q i .lamp .sharing .share)
 
 -- Of all honest lamps but lamp 3.
-abbrev outcomes : Plot → List (Option ℕ × ℕ × ℕ)
-outcomes q = outcome q 1 ∷ outcome q 2 ∷ outcome q 4 ∷ outcome q 5 ∷ []
+abbrev outcomes : Width → Plot → List (Option ℕ × ℕ × ℕ)
+outcomes w q = outcome w q 1 ∷ outcome w q 2 ∷ outcome w q 4 ∷ outcome w q 5 ∷ []
 
-deal-long : (T : List ℕ) (i : ℕ) → length (deal modulus 2 T anF i) ≡ 4
-deal-long T i = length-deal modulus 2 T anF refl i
+deal-long : (w : Width) (T : List ℕ) (i : ℕ) → length (deal (primeOf w) 2 T anF i) ≡ 4
+deal-long w T i = length-deal (primeOf w) 2 T anF refl i
+
+-- Its numbers are residues.
+small : (w : Width) → Residues (primeOf w) anF
+small Narrow = residues-facts (primeOf Narrow) anF refl
+small Wide = residues-facts (primeOf Wide) anF refl
 
 -- The dealer is honest, and lamp 3 is not: accepted, with the dealer's own F, whatever table they all loaded.
-module _ (T : List ℕ) (table : IsTable modulus 5 T) where
-  pub honest-dealer-meets : Premises (fiveWith modulus T) (execution (fiveWith modulus T) (honestDealer modulus T))
+module _ (w : Width) (T : List ℕ) (table : IsTable (primeOf w) 5 T) where
+  pub honest-dealer-meets : Premises (fiveWith w T) (execution (fiveWith w T) (honestDealer w T))
   unfolding sizes tabulate
-  honest-dealer-meets = premises (fiveWith modulus T) (honestDealer modulus T) refl (lit≤ tt) (λ i q g. deal-long T i) tt tt (λ i r. tt)
+  honest-dealer-meets = premises (fiveWith w T) (honestDealer w T) refl (lit≤ tt) (λ i q g. deal-long w T i) tt tt (λ i r. tt)
 
-  pub honest-dealer-accepted : AllAccept (fiveWith modulus T) (execution (fiveWith modulus T) (honestDealer modulus T)) anF
+  pub honest-dealer-accepted : AllAccept (fiveWith w T) (execution (fiveWith w T) (honestDealer w T)) anF
   unfolding Demand3
   honest-dealer-accepted =
-      demand3 5 1 T (execution (fiveWith modulus T) (honestDealer modulus T)) honest-dealer-meets
-      (one-table (fiveWith modulus T) (honestDealer modulus T) table) .dealer anF (record {
+      demand3 w 5 1 T (execution (fiveWith w T) (honestDealer w T)) honest-dealer-meets
+      (one-table (fiveWith w T) (honestDealer w T) table) (one-width (fiveWith w T) (honestDealer w T)) .dealer anF (record {
         table = T;
         loaded = refl;
         lent = replicate 20 0;
         written = written;
         deals = λ i h.
             let range = party-facts 5 i (h .party) in
-            sym (desk-stretch modulus 5 1 T anF (replicate 20 0) written i (range .0) (range .1));
+            sym (desk-stretch (primeOf w) 5 1 T anF (replicate 20 0) written i (range .0) (range .1));
       }) .0
     where
-      written : dealingNumber (deskWith modulus 5 1 T anF (replicate 20 0) .1) ≡ none
+      written : dealingNumber (deskWith (primeOf w) 5 1 T anF (replicate 20 0) .1) ≡ none
       written =
-          ap (λ (q : List ℕ × Dealing). dealingNumber (q .1)) (desk-writes modulus 5 1 T anF (replicate 20 0) (record {
+          ap (λ (q : List ℕ × Dealing). dealingNumber (q .1)) (desk-writes (primeOf w) 5 1 T anF (replicate 20 0) (record {
             size = unfold sizes in refl;
             square = refl;
             long = refl;
             table = table;
-            below = residues-facts modulus anF refl;
+            below = small w;
           }))
 
 -- So without a table, and with the harbour's station numbers.
-five-points : IsTable modulus 5 (oneTo 5)
-five-points = one-to-table modulus 5 (lit< tt)
+five-points : (w : Width) → IsTable (primeOf w) 5 (oneTo 5)
+five-points Narrow = one-to-table (primeOf Narrow) 5 (lit< tt)
+five-points Wide = one-to-table (primeOf Wide) 5 (lit< tt)
 
-pub plain-accepted : AllAccept (five modulus) (execution (five modulus) (honestDealer modulus (oneTo 5))) anF
-plain-accepted = honest-dealer-accepted (oneTo 5) five-points
+pub plain-accepted : (w : Width) → AllAccept (five w) (execution (five w) (honestDealer w (oneTo 5))) anF
+plain-accepted w = honest-dealer-accepted w (oneTo 5) (five-points w)
 
-pub harbour-accepted : AllAccept (fiveWith modulus stations) (execution (fiveWith modulus stations) (honestDealer modulus stations)) anF
-harbour-accepted = honest-dealer-accepted stations (table-facts modulus 5 stations (unfold isTable in refl))
+stations-fine : (w : Width) → isTable (primeOf w) 5 stations ≡ true
+unfolding isTable
+stations-fine Narrow = refl
+stations-fine Wide = refl
+
+pub harbour-accepted : (w : Width) → AllAccept (fiveWith w stations) (execution (fiveWith w stations) (honestDealer w stations)) anF
+harbour-accepted w = honest-dealer-accepted w stations (table-facts (primeOf w) 5 stations (stations-fine w))
 
 -- Lamp 5's deal is unsound and lamp 3 lies to it: accepted with the set of lamps 1 to 4, and lamp 5 repairs its share.
-pub liar-meets : Premises (five modulus) (execution (five modulus) (liar modulus))
+pub liar-meets : (w : Width) → Premises (five w) (execution (five w) (liar w))
 unfolding sizes tabulate
-liar-meets =
-    premises (five modulus) (liar modulus) refl (lit≤ tt) (λ i q g. long (eqb i 5) i)
-    (refl, (refl, (refl, tt))) (refl, (refl, (refl, tt))) (λ i r. (refl, (refl, tt)))
+liar-meets w = premises (five w) (liar w) refl (lit≤ tt) (λ i q g. long (eqb i 5) i) (early w) (between w) (λ i r. (refl, (refl, tt)))
   where
-    long : (b : Bool) (i : ℕ) → length (cond b (17 ∷ 24 ∷ 22 ∷ 22 ∷ []) (deal modulus 2 (oneTo 5) anF i)) ≡ 4
-    long true i = refl
-    long false i = deal-long (oneTo 5) i
+    early : (w : Width) → Never (isDeal (five w)) (liar w .early)
+    early Narrow = (refl, (refl, (refl, (refl, tt))))
+    early Wide = (refl, (refl, (refl, (refl, tt))))
 
-pub liar-outcome : outcomes (liar modulus) ≡ (none, 15, 10) ∷ (none, 15, 13) ∷ (none, 15, 19) ∷ (none, 15, 22) ∷ []
+    between : (w : Width) → Never (isHearing (five w)) (liar w .between)
+    between Narrow = (refl, (refl, (refl, (refl, tt))))
+    between Wide = (refl, (refl, (refl, (refl, tt))))
+
+    long : (b : Bool) (i : ℕ) → length (cond b (17 ∷ 24 ∷ 22 ∷ 22 ∷ []) (deal (primeOf w) 2 (oneTo 5) anF i)) ≡ 4
+    long true i = refl
+    long false i = deal-long w (oneTo 5) i
+
+pub liar-outcome : (w : Width) → outcomes w (liar w) ≡ (none, 15, 10) ∷ (none, 15, 13) ∷ (none, 15, 19) ∷ (none, 15, 22) ∷ []
 unfolding
     pairHeard pairsHeard reportsSeen step withDeal withPairs reportFrom settled repair opening atEnd reportOf confirms pairFor
     sound sizes isParty isTable pointAt notSent deal fit pointsSent hits sent through interpolate zipWith happySet largestIn largest
     best better joins agreements agree mask tabulate at pow add sub mul inv invWithin ones
-liar-outcome = refl
+liar-outcome Narrow = refl
+liar-outcome Wide = refl
 
 -- Lamp 1's opening, which ignores the 0 in its own place and lamp 3's 999.
-abbrev settledOne : List Call
-settledOne = sinceSettling (runOf (five modulus) (liar modulus) 1) []
+abbrev settledOne : Width → List Call
+settledOne w = sinceSettling (runOf (five w) (liar w) 1) []
 
-pub liar-opened : valuesOf (answerAt (five modulus) 1 settledOne (openShares (0 ∷ 13 ∷ 999 ∷ 19 ∷ 22 ∷ []))) ≡ 7 ∷ []
+pub liar-opened : (w : Width) → valuesOf (answerAt (five w) 1 (settledOne w) (openShares w (0 ∷ 13 ∷ 999 ∷ 19 ∷ 22 ∷ []))) ≡ 7 ∷ []
 unfolding
     pairHeard pairsHeard reportsSeen step withDeal withPairs reportFrom settled repair opening atEnd reportOf confirms pairFor
     sound sizes isParty isTable pointAt notSent deal fit pointsSent hits sent through interpolate zipWith happySet largestIn largest
     best better joins agreements agree mask tabulate at pow add sub mul inv invWithin ones
-liar-opened = refl
+liar-opened Narrow = refl
+liar-opened Wide = refl
 
 -- Two polynomials were dealt: rejected by everyone.
-pub two-dealers-meet : Premises (five modulus) (execution (five modulus) (twoDealers modulus))
+pub two-dealers-meet : (w : Width) → Premises (five w) (execution (five w) (twoDealers w))
 unfolding sizes tabulate
-two-dealers-meet = premises (five modulus) (twoDealers modulus) refl (lit≤ tt) (λ i q g. long (leb i 2) i) tt tt (λ i r. tt)
+two-dealers-meet w = premises (five w) (twoDealers w) refl (lit≤ tt) (λ i q g. long (leb i 2) i) tt tt (λ i r. tt)
   where
-    long : (b : Bool) (i : ℕ) → length (cond b (deal modulus 2 (oneTo 5) anF i) (deal modulus 2 (oneTo 5) (8 ∷ 9 ∷ 3 ∷ 1 ∷ []) i)) ≡ 4
-    long true i = deal-long (oneTo 5) i
-    long false i = length-deal modulus 2 (oneTo 5) (8 ∷ 9 ∷ 3 ∷ 1 ∷ []) refl i
+    long : (b : Bool) (i : ℕ)
+        → length (cond b (deal (primeOf w) 2 (oneTo 5) anF i) (deal (primeOf w) 2 (oneTo 5) (8 ∷ 9 ∷ 3 ∷ 1 ∷ []) i)) ≡ 4
+    long true i = deal-long w (oneTo 5) i
+    long false i = length-deal (primeOf w) 2 (oneTo 5) (8 ∷ 9 ∷ 3 ∷ 1 ∷ []) refl i
 
-pub two-dealers-outcome : outcomes (twoDealers modulus) ≡ (some 8, 0, 0) ∷ (some 8, 0, 0) ∷ (some 8, 0, 0) ∷ (some 8, 0, 0) ∷ []
+pub two-dealers-outcome : (w : Width)
+    → outcomes w (twoDealers w) ≡ (some 8, 0, 0) ∷ (some 8, 0, 0) ∷ (some 8, 0, 0) ∷ (some 8, 0, 0) ∷ []
 unfolding
     pairHeard pairsHeard reportsSeen step withDeal withPairs reportFrom settled repair opening atEnd reportOf confirms pairFor
     sound sizes isParty isTable pointAt notSent deal fit pointsSent hits sent through interpolate zipWith happySet largestIn largest
     best better joins agreements agree mask tabulate at pow add sub mul inv invWithin ones
-two-dealers-outcome = refl
+two-dealers-outcome Narrow = refl
+two-dealers-outcome Wide = refl
 
-pub two-dealers-rejected : AllReject (five modulus) (execution (five modulus) (twoDealers modulus))
+pub two-dealers-rejected : (w : Width) → AllReject (five w) (execution (five w) (twoDealers w))
 unfolding Demand3
-two-dealers-rejected =
+two-dealers-rejected w =
     ⊎-elim (λ all. all)
-    (λ one. absurd (none-eight (sym (one .1 .hold 1 first .answered .0) ∙ ap (λ os. head os) two-dealers-outcome)))
-    (demand3 5 1 (oneTo 5) (execution (five modulus) (twoDealers modulus)) two-dealers-meet
-    (one-table (five modulus) (twoDealers modulus) five-points) .one-verdict)
+    (λ one. absurd (none-eight (sym (one .1 .hold 1 first .answered .0) ∙ ap (λ os. head os) (two-dealers-outcome w))))
+    (demand3 w 5 1 (oneTo 5) (execution (five w) (twoDealers w)) (two-dealers-meet w)
+    (one-table (five w) (twoDealers w) (five-points w)) (one-width (five w) (twoDealers w)) .one-verdict)
   where
-    first : Honest (five modulus) (execution (five modulus) (twoDealers modulus)) 1
+    first : Honest (five w) (execution (five w) (twoDealers w)) 1
     first = record { party = unfold isParty in refl; good = refl }
 
     head : List (Option ℕ × ℕ × ℕ) → Option ℕ

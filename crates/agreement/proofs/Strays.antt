@@ -1,4 +1,4 @@
--- Every call to deal, hear or settle, but for the three that bring the lamp something, is refused with 3, 4 or 7 and changes nothing.
+-- Every call to deal, hear or settle, but for the three that bring the lamp something, is refused with 3, 4, 7 or 18 and changes nothing.
 use mathlib.Core.Path.{_≡_, refl, sym, ap, ap₂, subst, _∙_}
 use mathlib.Core.Logic.{_⊎_, inl, inr, ⊎-elim}
 use mathlib.Core.Bool.{Bool, true, false}
@@ -37,12 +37,16 @@ never-at test (x ∷ xs) c ys h = let k = never-at test xs c ys (h .1) in ((h .0
 
 module _ (s : Setting) (i : ℕ) where
   -- The lamp is l there, and l refuses the call.
-  shut-stray : (xs : List Call) (c : Call) (l : Lamp) → lampAt s i xs ≡ l → Shut l (step (s .p) l c) → Stray s i xs c
+  shut-stray : (xs : List Call) (c : Call) (l : Lamp) → lampAt s i xs ≡ l → Shut l (step l c) → Stray s i xs c
   shut-stray xs c l here shut =
-      let is : replyAt s i xs c ≡ refuse l (shut .why) = ap (λ z. step (s .p) z c) here ∙ shut .is in
+      let is : replyAt s i xs c ≡ refuse l (shut .why) = ap (λ z. step z c) here ∙ shut .is in
       record {
         unchanged = ap (λ (r : Reply). r .lamp) is ∙ sym here;
-        refused = ⊎-elim (λ k. inl (number is k)) (⊎-elim (λ k. inr (inl (number is k))) (λ k. inr (inr (number is k)))) (shut .number);
+        refused =
+            ⊎-elim (λ k. inl (number is k))
+            (⊎-elim (λ k. inr (inl (number is k)))
+            (⊎-elim (λ k. inr (inr (inl (number is k)))) (λ k. inr (inr (inr (number is k))))))
+            (shut .number);
       }
     where
       number : {k : ℕ} → replyAt s i xs c ≡ refuse l (shut .why) → refusalNumber (shut .why) ≡ k → Refuses (answerAt s i xs c) k
@@ -50,12 +54,12 @@ module _ (s : Setting) (i : ℕ) where
 
   module _ (ready : one.Ready s i) (cs : List Call) (r : Run) (b : Brings s i cs r) where
     -- A call within a stretch of calls that the lamp l does not await.
-    within : (xs ws : List Call) (c : Call) (zs stretch : List Call) (l : Lamp) → Valid (s .p) (l .party) → Never (awaited l) stretch
+    within : (xs ws : List Call) (c : Call) (zs stretch : List Call) (l : Lamp) → Valid (l .party) → Never (awaited l) stretch
         → ws ++ c ∷ zs ≡ stretch
-        → lampAt s i xs ≡ after (s .p) l ws → moves c ≡ true → Stray s i xs c
+        → lampAt s i xs ≡ after l ws → moves c ≡ true → Stray s i xs c
     within xs ws c zs stretch l good never cut here m =
         let k = never-at (awaited l) ws c zs (subst (Never (awaited l)) (sym cut) never) in
-        shut-stray xs c l (here ∙ all-quiet (s .p) l good ws (k .0)) (stray (s .p) l good c m (k .1))
+        shut-stray xs c l (here ∙ all-quiet l good ws (k .0)) (stray l good c m (k .1))
 
     -- Before the deal, between deal and pairs, between pairs and reports, and behind the reports.
     before-deal : (xs : List Call) (c : Call) (zs : List Call) → toDeal r ≡ xs ++ c ∷ zs → moves c ≡ true → Stray s i xs c
@@ -66,7 +70,7 @@ module _ (s : Setting) (i : ℕ) where
     before-pairs : (xs : List Call) (c : Call) (zs : List Call) → toPairs r ≡ xs ++ c ∷ zs → moves c ≡ true
         → (xs ≡ toDeal r → ⊥) → Stray s i xs c
     before-pairs xs c zs cut m not-deal =
-        elim (cuts xs c zs (toDeal r) (takeDeal (r .itsDeal)) (r .beforePairs) (sym cut)) [
+        elim (cuts xs c zs (toDeal r) (takeDeal (r .width) (r .itsDeal)) (r .beforePairs) (sym cut)) [
           | inl h ↦ before-deal xs c (h .0) (h .1) m
           | inr (inl h) ↦ absurd (not-deal h)
           | inr (inr h) ↦
@@ -78,7 +82,7 @@ module _ (s : Setting) (i : ℕ) where
     before-reports : (xs : List Call) (c : Call) (zs : List Call) → toReports r ≡ xs ++ c ∷ zs → moves c ≡ true
         → (xs ≡ toDeal r → ⊥) → (xs ≡ toPairs r → ⊥) → Stray s i xs c
     before-reports xs c zs cut m not-deal not-pairs =
-        elim (cuts xs c zs (toPairs r) (hearPairs (r .itsPairs)) (r .beforeReports) (sym cut)) [
+        elim (cuts xs c zs (toPairs r) (hearPairs (r .width) (r .itsPairs)) (r .beforeReports) (sym cut)) [
           | inl h ↦ before-pairs xs c (h .0) (h .1) m not-deal
           | inr (inl h) ↦ absurd (not-pairs h)
           | inr (inr h) ↦

@@ -1,5 +1,6 @@
 -- Lists of calls of one lamp.
---   Run                        a list taken apart at the three calls that bring the lamp its deal, its pairs and its reports
+--   Run                        a list taken apart at the three calls that bring the lamp its deal, its pairs and its reports, with the
+--                              width of those that lend field numbers
 --   toDeal, toPairs, toReports   the calls before each of the three; whole: all of them
 --   sinceDeal r xs             the calls up to the deal, the deal, and the calls xs after it; sinceSettling likewise
 --   At cs xs c                 in the list cs the call c comes right after the calls xs
@@ -13,12 +14,15 @@ use Prim.Native.Nat.{ℕ, _*_}
 use lib.Dec.{eqb}
 use lib.ListN.{length}
 use Rattle.lists.specs.All.{All}
+use Rattle.field.specs.declared.Width.{Width}
+use Rattle.field.specs.Modulus.{sameWidth}
 use Rattle.parties.specs.Parties.{entry}
 use Rattle.lamp.specs.Lamp.{Call, takeDeal, sayPair, hearPairs, settle, openShares}
-use Rattle.agreement.specs.Setting.{Setting, width}
+use Rattle.agreement.specs.Setting.{Setting, terms}
 
--- A list of calls, taken apart.
+-- A list of calls, taken apart. The deal and the pairs are lent by calls of this width.
 pub record Run : Type 0 where
+  pub width : Width
   pub beforeDeal : List Call
   pub itsDeal : List ℕ
   pub beforePairs : List Call
@@ -32,10 +36,10 @@ abbrev pub toDeal : Run → List Call
 toDeal r = r .beforeDeal
 
 abbrev pub toPairs : Run → List Call
-toPairs r = toDeal r ++ takeDeal (r .itsDeal) ∷ r .beforePairs
+toPairs r = toDeal r ++ takeDeal (r .width) (r .itsDeal) ∷ r .beforePairs
 
 abbrev pub toReports : Run → List Call
-toReports r = toPairs r ++ hearPairs (r .itsPairs) ∷ r .beforeReports
+toReports r = toPairs r ++ hearPairs (r .width) (r .itsPairs) ∷ r .beforeReports
 
 -- All calls.
 abbrev pub whole : Run → List Call
@@ -43,7 +47,7 @@ whole r = toReports r ++ settle (r .itsReports) ∷ r .rest
 
 -- The calls up to some after the deal, and up to some after the settling.
 abbrev pub sinceDeal : Run → List Call → List Call
-sinceDeal r xs = toDeal r ++ takeDeal (r .itsDeal) ∷ xs
+sinceDeal r xs = toDeal r ++ takeDeal (r .width) (r .itsDeal) ∷ xs
 
 abbrev pub sinceSettling : Run → List Call → List Call
 sinceSettling r xs = toReports r ++ settle (r .itsReports) ∷ xs
@@ -60,34 +64,34 @@ Begins cs xs = (ys : List Call) × (cs ≡ xs ++ ys)
 abbrev pub Never : (Call → Bool) → List Call → Type 0
 Never test = All (λ c. test c ≡ false)
 
--- A deal of the right length is given.
+-- A deal of the right length is given, by a call of the setting's width.
 abbrev pub isDeal : Setting → Call → Bool
-isDeal s (takeDeal d) = eqb (length d) (2 * width s)
+isDeal s (takeDeal w d) = sameWidth w (s .width) && eqb (length d) (2 * terms s)
 isDeal s (sayPair j) = false
-isDeal s (hearPairs hs) = false
+isDeal s (hearPairs w hs) = false
 isDeal s (settle rs) = false
-isDeal s (openShares xs) = false
+isDeal s (openShares w xs) = false
 
--- Pairs of the right length are heard.
+-- Pairs of the right length are heard, by a call of the setting's width.
 abbrev pub isHearing : Setting → Call → Bool
-isHearing s (takeDeal d) = false
+isHearing s (takeDeal w d) = false
 isHearing s (sayPair j) = false
-isHearing s (hearPairs hs) = eqb (length hs) (2 * s .n)
+isHearing s (hearPairs w hs) = sameWidth w (s .width) && eqb (length hs) (2 * s .n)
 isHearing s (settle rs) = false
-isHearing s (openShares xs) = false
+isHearing s (openShares w xs) = false
 
 -- A settling with n reports and the report r in party i's place.
 abbrev pub isSettling : Setting → ℕ → ℕ → Call → Bool
-isSettling s i r (takeDeal d) = false
+isSettling s i r (takeDeal w d) = false
 isSettling s i r (sayPair j) = false
-isSettling s i r (hearPairs hs) = false
+isSettling s i r (hearPairs w hs) = false
 isSettling s i r (settle rs) = eqb (length rs) (s .n) && eqb (entry rs i) r
-isSettling s i r (openShares xs) = false
+isSettling s i r (openShares w xs) = false
 
 -- A call to deal, hear or settle.
 abbrev pub moves : Call → Bool
-moves (takeDeal d) = true
+moves (takeDeal w d) = true
 moves (sayPair j) = false
-moves (hearPairs hs) = true
+moves (hearPairs w hs) = true
 moves (settle rs) = true
-moves (openShares xs) = false
+moves (openShares w xs) = false

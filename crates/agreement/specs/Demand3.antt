@@ -1,16 +1,18 @@
 -- Demand 3, one type: the agreement of all honest lamps. Each record is a bullet of the protocol's "The lamps of demand 3", or a part of
 -- one.
---   Execution          who is honest, the table that each lamp loaded, the calls of each, and the reports that all see
---   own s e i          the setting as lamp i has it, with its own table
+--   Execution          who is honest, the width that each lamp was made for and the table that it loaded, the calls of each, and the
+--                      reports that all see
+--   own s e i          the setting as lamp i has it, with its own width and table
 --   Honest s e i       lamp i is one of the honest ones
 --   Brings s i cs r    the list cs brings lamp i a deal, pairs and reports, as r has them
---   Premises s e       what demand 3 supposes; OneTable s e: and of tables; HonestDealer s e F: and of an honest dealer
+--   Premises s e       what demand 3 supposes; OneTable s e: and of tables; OneWidth s e: and of primes; HonestDealer s e F: and of an
+--                      honest dealer
 --   HearEachOther, SameReports   two of these: honest pairs are unaltered, and all see the same reports
 --   Gives, Refuses     an answer's values, or its number
 --   Speaks, Rejects, Accepts   what it concludes of each lamp; Stray: of a call that changes nothing; Stays: from settling to the end
 --   OnF s e F, shareOf s e j   the honest happy rows and columns lie on F; lamp j's share
 --   AllReject, AllAccept       what it concludes of all together; Conclusions: all of it
---   Demand3 p          the demand, for arithmetic modulo p and any table
+--   Demand3 w          the demand, for numbers of the width w and any table
 use mathlib.Core.Path.{_≡_}
 use mathlib.Core.Logic.{_⊎_}
 use mathlib.Core.Bool.{Bool, true, not}
@@ -18,6 +20,7 @@ use mathlib.Core.Option.{none, some}
 use mathlib.Core.List.{List, [], _∷_}
 use Prim.Native.Nat.{ℕ, _*_, _≤_}
 use lib.ListN.{length, getD}
+use Rattle.field.specs.declared.Width.{Width}
 use Rattle.polynomial.specs.Polynomial.{Poly}
 use Rattle.mutual.specs.Agreement.{agree}
 use Rattle.happy.specs.Clique.{Largest}
@@ -32,7 +35,7 @@ use Rattle.answers.specs.declared.Answer.{Answer}
 use Rattle.answers.specs.Answers.{numberOf, valuesOf}
 use Rattle.consistency.specs.Deal.{firstFrom, secondFrom}
 use Rattle.lamp.specs.Lamp.{Call, takeDeal, sayPair, hearPairs, settle, openShares}
-use Rattle.agreement.specs.Setting.{Setting, setting, withTable, width, point, valueOf, rowFor, columnFor, deskFor}
+use Rattle.agreement.specs.Setting.{Setting, setting, withTable, prime, terms, point, valueOf, rowFor, columnFor, deskFor}
 use Rattle.agreement.specs.Setting.{dealtRow, dealtColumn, pairBy, reportBy, lampAt, replyAt, answerAt}
 use Rattle.agreement.specs.Calls.{Run, toDeal, toPairs, toReports, whole, sinceDeal, sinceSettling, At, Begins, Never}
 use Rattle.agreement.specs.Calls.{isDeal, isHearing, isSettling, moves}
@@ -44,28 +47,31 @@ Gives a vs = (numberOf a ≡ none) × (valuesOf a ≡ vs)
 abbrev pub Refuses : Answer → ℕ → Type 0
 Refuses a k = numberOf a ≡ some k
 
--- Which lamps are honest, the table that each was made with (1 to n where it loaded none), the calls of each, the same taken apart, and
--- the reports that all see.
+-- Which lamps are honest, the width and the table that each was made with (1 to n where it loaded none), the calls of each, the same
+-- taken apart, and the reports that all see.
 pub record Execution : Type 0 where
   pub honest : ℕ → Bool
+  pub widths : ℕ → Width
   pub tables : ℕ → List ℕ
   pub calls : ℕ → List Call
   pub run : ℕ → Run
   pub seen : List ℕ
 
--- (For the conclusions.) The call c of lamp i, after the calls xs, is refused with 3, 4 or 7, and nothing is changed.
+-- (For the conclusions.) The call c of lamp i, after the calls xs, is refused with 3, 4, 7 or 18, and nothing is changed.
 pub record Stray (s : Setting) (i : ℕ) (xs : List Call) (c : Call) : Type 0 where
   pub unchanged : replyAt s i xs c .lamp ≡ lampAt s i xs
   pub refused : Refuses (answerAt s i xs c) 3 ⊎ Refuses (answerAt s i xs c) 4 ⊎ Refuses (answerAt s i xs c) 7
+      ⊎ Refuses (answerAt s i xs c) 18
 
 module _ (s : Setting) where
   -- ---- PREMISES
 
   -- "the first of the right length", "the first hearing of the right length after that", "the first settling after that with n
-  -- reports and its own report in its place": the list cs brings lamp i these three.
+  -- reports and its own report in its place": the list cs brings lamp i these three, deal and pairs by calls of its own width.
   pub record Brings (i : ℕ) (cs : List Call) (r : Run) : Type 0 where
     pub list : cs ≡ whole r
-    pub deal-length : length (r .itsDeal) ≡ 2 * width s
+    pub own-width : r .width ≡ s .width
+    pub deal-length : length (r .itsDeal) ≡ 2 * terms s
     pub deal-first : Never (isDeal s) (r .beforeDeal)
     pub pairs-length : length (r .itsPairs) ≡ 2 * s .n
     pub pairs-first : Never (isHearing s) (r .beforePairs)
@@ -100,8 +106,12 @@ module _ (s : Setting) where
 
     -- "agreement of honest lamps has the further premise that all of them .. loaded the same one": the setting's, which is a table.
     pub record OneTable : Type 0 where
-      pub table : IsTable (s .p) (s .n) (s .table)
+      pub table : IsTable (prime s) (s .n) (s .table)
       pub loaded : (i : ℕ) → Honest i → e .tables i ≡ s .table
+
+    -- "What honest lamps agree on holds within one prime": all honest lamps were made for the setting's width.
+    abbrev pub OneWidth : Type 0
+    OneWidth = (i : ℕ) → Honest i → e .widths i ≡ s .width
 
     -- "each honest lamp's deal is its stretch as the desk writes it for a list that the desk does not refuse"; "and a dealer counted as
     -- honest, loaded the same" table.
@@ -110,13 +120,13 @@ module _ (s : Setting) where
       pub loaded : table ≡ s .table
       pub lent : List ℕ
       pub written : desks.dealingNumber (deskFor (withTable s table) F lent .1) ≡ none
-      pub deals : (i : ℕ) → Honest i → e .run i .itsDeal ≡ desks.stretch (width s) (deskFor (withTable s table) F lent .0) i
+      pub deals : (i : ℕ) → Honest i → e .run i .itsDeal ≡ desks.stretch (terms s) (deskFor (withTable s table) F lent .0) i
 
     -- ---- CONCLUSIONS
 
-    -- The setting as lamp i has it, with the table that it loaded.
+    -- The setting as lamp i has it, with the width that it was made for and the table that it loaded.
     abbrev pub own : ℕ → Setting
-    own i = withTable s (e .tables i)
+    own i = setting (e .widths i) (s .n) (s .t) (e .tables i)
 
     -- Lamp j's share, at the end of its list.
     abbrev pub shareOf : ℕ → ℕ
@@ -131,10 +141,10 @@ module _ (s : Setting) where
       -- The pair is answered at every saying from the deal on, the report is given out, and all other calls to deal, hear or settle are
       -- stray.
       pub record Speaks : Type 0 where
-        pub takes : Gives (answerAt o i (toDeal r) (takeDeal (r .itsDeal))) []
+        pub takes : Gives (answerAt o i (toDeal r) (takeDeal (r .width) (r .itsDeal))) []
         pub says : (xs : List Call) (j : ℕ) → isParty (s .n) j ≡ true → At (e .calls i) (sinceDeal r xs) (sayPair j)
             → Gives (answerAt o i (sinceDeal r xs) (sayPair j)) (pairBy s i (r .itsDeal) j .0 ∷ pairBy s i (r .itsDeal) j .1 ∷ [])
-        pub reports : Gives (answerAt o i (toPairs r) (hearPairs (r .itsPairs))) (reportBy s i (r .itsDeal) (r .itsPairs) ∷ [])
+        pub reports : Gives (answerAt o i (toPairs r) (hearPairs (r .width) (r .itsPairs))) (reportBy s i (r .itsDeal) (r .itsPairs) ∷ [])
         pub others : (xs : List Call) (c : Call) → At (e .calls i) xs c → moves c ≡ true
             → (xs ≡ toDeal r → ⊥) → (xs ≡ toPairs r → ⊥) → (xs ≡ toReports r → ⊥) → Stray o i xs c
 
@@ -149,18 +159,18 @@ module _ (s : Setting) where
         pub answered : Refuses (answerAt o i (toReports r) (settle (r .itsReports))) 8
         pub stays : Stays Closed 0 0
 
-      -- Settling accepts; the lamp stays holding, with the happy set and F(i, 0); and every opening of n numbers in which each other
-      -- honest lamp's place holds that lamp's share answers F(0, 0).
+      -- Settling accepts; the lamp stays holding, with the happy set and F(i, 0); and every opening of n numbers of its own width in
+      -- which each other honest lamp's place holds that lamp's share answers F(0, 0).
       pub record Accepts (F : List ℕ) : Type 0 where
         pub answered : Gives (answerAt o i (toReports r) (settle (r .itsReports))) []
         pub stays : Stays Holding (happySet (e .seen)) (valueOf s F (point s i) 0)
-        pub opens : (xs : List Call) (ys : List ℕ) → At (e .calls i) (sinceSettling r xs) (openShares ys) → length ys ≡ s .n
+        pub opens : (xs : List Call) (ys : List ℕ) → At (e .calls i) (sinceSettling r xs) (openShares (r .width) ys) → length ys ≡ s .n
             → ((j : ℕ) → Honest j → (j ≡ i → ⊥) → entry ys j ≡ shareOf j)
-            → Gives (answerAt o i (sinceSettling r xs) (openShares ys)) (valueOf s F 0 0 ∷ [])
+            → Gives (answerAt o i (sinceSettling r xs) (openShares (r .width) ys)) (valueOf s F 0 0 ∷ [])
 
-    -- F has (t + 1)² coefficients below p, and every honest happy lamp's row and column, as dealt, lie on it.
+    -- F has (t + 1)² coefficients below the prime, and every honest happy lamp's row and column, as dealt, lie on it.
     pub record OnF (F : List ℕ) : Type 0 where
-      pub poly : Poly (s .p) (width s * width s) F
+      pub poly : Poly (prime s) (terms s * terms s) F
       pub rows : (i : ℕ) → Honest i → member (happySet (e .seen)) i ≡ true → rowFor s F i ≡ dealtRow s (e .run i .itsDeal)
       pub columns : (i : ℕ) → Honest i → member (happySet (e .seen)) i ≡ true → columnFor s F i ≡ dealtColumn s (e .run i .itsDeal)
 
@@ -181,8 +191,8 @@ module _ (s : Setting) where
       pub one-verdict : AllReject ⊎ ((F : List ℕ) × AllAccept F)
       pub dealer : (F : List ℕ) → HonestDealer F → AllAccept F × (valueOf s F 0 0 ≡ getD F 0 0)
 
--- DEMAND 3, for arithmetic modulo p, with any table.
-unfoldable pub Demand3 : ℕ → Type 0
-Demand3 p =
+-- DEMAND 3, for numbers of either width, with any table.
+unfoldable pub Demand3 : Width → Type 0
+Demand3 w =
     (n t : ℕ) (T : List ℕ) (e : Execution)
-    → Premises (setting p n t T) e → OneTable (setting p n t T) e → Conclusions (setting p n t T) e
+    → Premises (setting w n t T) e → OneTable (setting w n t T) e → OneWidth (setting w n t T) e → Conclusions (setting w n t T) e

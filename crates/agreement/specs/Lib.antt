@@ -1,9 +1,11 @@
 pub mod Setting
 pub mod Calls
 pub mod Demand2
+pub mod Records
 pub mod Demand1
 pub mod Demand3
 pub mod Marked
 pub mod Stories
 pub mod Plain
 pub mod Harbour
+pub mod Wider

@@ -1,9 +1,11 @@
 -- What stays fixed throughout one sharing, as one record, and the protocol's notions in it.
---   Setting                         the prime p, the number n of parties, t, how many of them may be faulty, and the table of their points
---   setting p n t T                 the four together
+--   Setting                         the width of the numbers, the number n of parties, t, how many of them may be faulty, and the table of
+--                                   their points
+--   setting w n t T                 the four together
 --   withTable s T                   the same with another table
---   Legal s                         p is a prime, n and t are within the sizes, and the table is one
---   width s                         t + 1: how many coefficients a row or a column has
+--   prime s                         the prime of its width
+--   Legal s                         that is a prime, n and t are within the sizes, and the table is one
+--   terms s                         t + 1: how many coefficients a row or a column has
 --   point s i                       party i's point
 --   valueOf s F x y                 F(x, y)
 --   rowFor s F i, columnFor s F i   party i's row F(X, x) and column F(x, Y), x being its point
@@ -19,6 +21,8 @@ use mathlib.Core.Bool.{true}
 use mathlib.Core.List.{List}
 use Prim.Native.Nat.{ℕ, suc}
 use Rattle.field.specs.Arithmetic.{Prime}
+use Rattle.field.specs.declared.Width.{Width}
+use Rattle.field.specs.Modulus.{primeOf}
 use Rattle.bivariate.specs.Bivariate.{at, row, column}
 use Rattle.parties.specs.Parties.{sizes}
 use Rattle.tables.specs.Tables.{pointAt, IsTable}
@@ -32,29 +36,33 @@ use Rattle.lamp.specs.Lamp.{Call, madeWith, step, after}
 
 -- The fixed surroundings of a sharing.
 pub record Setting : Type 0 where
-  pub p : ℕ
+  pub width : Width
   pub n : ℕ
   pub t : ℕ
   pub table : List ℕ
 
 -- The four together.
-abbrev pub setting : ℕ → ℕ → ℕ → List ℕ → Setting
-setting p n t T = record { p = p; n = n; t = t; table = T }
+abbrev pub setting : Width → ℕ → ℕ → List ℕ → Setting
+setting w n t T = record { width = w; n = n; t = t; table = T }
 
 -- The same with another table.
 abbrev pub withTable : Setting → List ℕ → Setting
-withTable s T = setting (s .p) (s .n) (s .t) T
+withTable s T = setting (s .width) (s .n) (s .t) T
+
+-- The prime that all compute with.
+abbrev pub prime : Setting → ℕ
+prime s = primeOf (s .width)
 
 -- What the laws ask of a setting.
 pub record Legal (s : Setting) : Type 0 where
-  pub prime : Prime (s .p)
   pub size : sizes (s .n) (s .t) ≡ true
-  pub table : IsTable (s .p) (s .n) (s .table)
+  pub table : IsTable (prime s) (s .n) (s .table)
+  pub prime : Prime (prime s)
 
 module _ (s : Setting) where
   -- t + 1.
-  abbrev pub width : ℕ
-  width = suc (s .t)
+  abbrev pub terms : ℕ
+  terms = suc (s .t)
 
   -- Party i's point.
   abbrev pub point : ℕ → ℕ
@@ -64,22 +72,22 @@ module _ (s : Setting) where
 
   -- F(x, y).
   abbrev pub valueOf : List ℕ → ℕ → ℕ → ℕ
-  valueOf F x y = at (s .p) width width F x y
+  valueOf F x y = at (prime s) terms terms F x y
 
   -- F(X, x) and F(x, Y), at its point x.
   abbrev pub rowFor : List ℕ → ℕ → List ℕ
-  rowFor F i = row (s .p) width width F (point i)
+  rowFor F i = row (prime s) terms terms F (point i)
 
   abbrev pub columnFor : List ℕ → ℕ → List ℕ
-  columnFor F i = column (s .p) width width F (point i)
+  columnFor F i = column (prime s) terms terms F (point i)
 
   -- F(X, 0).
   abbrev pub zeroRow : List ℕ → List ℕ
-  zeroRow F = row (s .p) width width F 0
+  zeroRow F = row (prime s) terms terms F 0
 
   -- The lent list afterwards, and the desk's answer.
   abbrev pub deskFor : List ℕ → List ℕ → List ℕ × Dealing
-  deskFor F out = deskWith (s .p) (s .n) (s .t) (s .table) F out
+  deskFor F out = deskWith (prime s) (s .n) (s .t) (s .table) F out
 
   -- ---- what follows from a deal
 
@@ -92,25 +100,25 @@ module _ (s : Setting) where
 
   -- Step 2: the pair of party i, whose deal is d, for j.
   abbrev pub pairBy : ℕ → List ℕ → ℕ → ℕ × ℕ
-  pairBy i d j = pairFor (s .p) (s .table) i (dealtRow d) (dealtColumn d) j
+  pairBy i d j = pairFor (prime s) (s .table) i (dealtRow d) (dealtColumn d) j
 
   -- Step 3: the report of party i, whose deal is d and which heard the pairs hs.
   abbrev pub reportBy : ℕ → List ℕ → List ℕ → ℕ
-  reportBy i d hs = reportOf (s .p) (s .n) (s .table) i (dealtRow d) (dealtColumn d) hs
+  reportBy i d hs = reportOf (prime s) (s .n) (s .table) i (dealtRow d) (dealtColumn d) hs
 
   -- ---- lamp i along its calls
 
   -- As made.
   abbrev pub madeFor : ℕ → Lamp
-  madeFor i = madeWith (s .n) (s .t) i (s .table)
+  madeFor i = madeWith (s .width) (s .n) (s .t) i (s .table)
 
   -- After the calls xs.
   abbrev pub lampAt : ℕ → List Call → Lamp
-  lampAt i xs = after (s .p) (madeFor i) xs
+  lampAt i xs = after (madeFor i) xs
 
   -- What it then replies, and answers, to the call c.
   abbrev pub replyAt : ℕ → List Call → Call → Reply
-  replyAt i xs c = step (s .p) (lampAt i xs) c
+  replyAt i xs c = step (lampAt i xs) c
 
   abbrev pub answerAt : ℕ → List Call → Call → Answer
   answerAt i xs c = replyAt i xs c .answer

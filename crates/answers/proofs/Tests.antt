@@ -12,7 +12,7 @@ use Prim.Native.Nat.{ℕ}
 use native.Mathlib.Omega.{arith}
 use Rattle.answers.specs.declared.Refusal.{Refusal}
 use Rattle.answers.specs.declared.Refusal.the-variants.{WrongSize, WrongNumber, WrongLength, WrongStage, NotResidue, WrongDirectory}
-use Rattle.answers.specs.declared.Refusal.the-variants.{AlteredReport, DealerRejected, NoColumn, NoOpening, WrongTable}
+use Rattle.answers.specs.declared.Refusal.the-variants.{AlteredReport, DealerRejected, NoColumn, NoOpening, WrongTable, WrongWidth}
 use Rattle.answers.specs.declared.Admission.{Admission}
 use Rattle.answers.specs.declared.Admission.the-variants.{Pass, Fail}
 use Rattle.answers.specs.Refusals.{Test, refusalNumber, lowest, also}
@@ -87,3 +87,4 @@ number-not-0 DealerRejected e = omega arith
 number-not-0 NoColumn e = omega arith
 number-not-0 NoOpening e = omega arith
 number-not-0 WrongTable e = omega arith
+number-not-0 WrongWidth e = omega arith

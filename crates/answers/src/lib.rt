@@ -18,6 +18,7 @@ pub enum Refusal {
     NoColumn,
     NoOpening,
     WrongTable,
+    WrongWidth,
 }
 
 // Whether a call is admitted.
@@ -37,10 +38,10 @@ pub enum Stage {
 // What a lamp's call answers.
 pub enum Answer {
     Done,
-    Pair(u16, u16),
+    Pair(u32, u32),
     Report(u16),
     Accepted,
-    Opened(u16),
+    Opened(u32),
     Refused(Refusal),
 }
 
@@ -57,10 +58,11 @@ pub enum Decoding {
     Refused(Refusal),
 }
 
-// What a fit answers, with the coefficients found, the constant first, and 0 behind them.
+// What a fit answers, with the coefficients found, the constant first, and 0 behind them. These stand in front: then the struct is copied
+// in parts as they were written, and the processor does not wait.
 pub struct Fitted {
+    pub coefficients: [u32; 4],
     pub outcome: Decoding,
-    pub coefficients: [u16; 4],
 }
 
 // The protocol's number of a refusal.
@@ -79,6 +81,7 @@ pub fn refusal_number(why: Refusal) -> u8
         Refusal::NoColumn => 9,
         Refusal::NoOpening => 10,
         Refusal::WrongTable => 14,
+        Refusal::WrongWidth => 18,
     }
 }
 

@@ -2,7 +2,7 @@
 use libc::STDIN_FILENO;
 use libc::STDOUT_FILENO;
 
-// The longest record has 1,362 bytes. Of longer input more than that is read, so that a legal record never stands for it.
+// The longest record has 2,674 bytes. Of longer input more than that is read, so that a legal record never stands for it.
 fn main() {
     let mut buffer = io::buffer();
     let n = io::read_full(STDIN_FILENO, &mut buffer);

@@ -1,16 +1,17 @@
 -- One turn of each loop of the code, as a law over plain lists. F is n blocks of n numbers.
-use mathlib.Core.Path.{_≡_, refl, sym, ap, ap₂, _∙_}
+use mathlib.Core.Path.{_≡_, refl, sym, ap, ap₂, subst, _∙_}
 use mathlib.Core.List.{List, [], _∷_, _++_, zipWith}
 use Prim.Native.Nat.{ℕ, zero, suc, _+_, _*_, _-_, _<_, _≤_}
 use native.Mathlib.Nat.{mul-le-mul-right}
 use native.Mathlib.Omega.{arith}
 use lib.ListN.{length, take, drop, set, replicate, length-drop, length-set}
 use lib.Seq.{drop-drop, length-take-le}
+use Rattle.lists.proofs.All.{all-take, all-drop}
 use Rattle.lists.proofs.InPlace.{write-next, write-end, length-zipWith}
-use Rattle.field.specs.Arithmetic.{add}
-use Rattle.field.proofs.Ring.{mul-zero, mul-comm}
-use Rattle.polynomial.specs.Polynomial.{value}
+use Rattle.polynomial.specs.Polynomial.{Residues, value}
 use Rattle.bivariate.specs.Bivariate.{plusTimes, row, column}
+use Rattle.bivariate.proofs.Crossing.{plusTimes-residues}
+use Rattle.bivariate.proofs.Spaced.{alone}
 
 -- ---- n blocks of n numbers: block u stands at u n
 block-within : (u n at len : ℕ) → u < n → at ≡ u * n → len ≡ n * n → at + n ≤ len
@@ -38,6 +39,23 @@ no-blocks (suc u) n h e = omega arith
 pub column-block : (f : List ℕ) (n end : ℕ) → n ≤ end → end ≤ length f → length (take (end - (end - n)) (drop (end - n) f)) ≡ n
 column-block f n end l h =
     length-take-le (end - (end - n)) (drop (end - n) f) (omega (arith, length-drop (end - n) f)) ∙ omega arith
+
+-- A block of residues is one.
+pub block-residues : (p : ℕ) (f : List ℕ) (k at : ℕ) → Residues p f → Residues p (take k (drop at f))
+block-residues p f k at h = all-take (λ c. c < p) k (drop at f) (all-drop (λ c. c < p) at f h)
+
+-- A list of residues is one after another is written into it.
+pub set-residue : (p : ℕ) (f : List ℕ) (i v : ℕ) → v < p → Residues p f → Residues p (set f i v)
+set-residue p [] i v b h = tt
+set-residue p (c ∷ f) zero v b h = (b, h .1)
+set-residue p (c ∷ f) (suc i) v b h = (h .0, set-residue p f i v b (h .1))
+
+-- Two lists of one length, and of each two numbers the first.
+pub zip-first : (f g : List ℕ) → length f ≡ length g → zipWith (λ c d. c) f g ≡ f
+unfolding zipWith
+zip-first [] g e = refl
+zip-first (c ∷ f) [] e = absurd (omega arith)
+zip-first (c ∷ f) (d ∷ g) e = ap (λ l. c ∷ l) (zip-first f g (omega arith))
 
 module _ (p : ℕ) where
   -- ---- `row` and `column`
@@ -84,12 +102,12 @@ module _ (p : ℕ) where
             ∙ k .goal;
       }
 
-  -- The top block comes before the loop: times 0, whatever is multiplied by it, as x times a list of zeros.
-  top-block : (f : List ℕ) (x : ℕ) (g : List ℕ) → plusTimes p f 0 g ≡ plusTimes p f x (replicate (length g) 0)
+  -- The top block comes before the loop: x times a list of zeros changes no residue.
+  top-block : (f : List ℕ) (x : ℕ) → Residues p f → f ≡ plusTimes p f x (replicate (length f) 0)
   unfolding zipWith
-  top-block [] x g = refl
-  top-block (c ∷ f) x [] = refl
-  top-block (c ∷ f) x (d ∷ g) = ap₂ (λ a b. add p c a ∷ b) (mul-comm p 0 d ∙ mul-zero p d ∙ sym (mul-zero p x)) (top-block f x g)
+  top-block [] x h = refl
+  top-block (c ∷ f) x h =
+      ap₂ _∷_ (sym (alone p x c (h .0))) (top-block f x (h .1))
 
   top-column : (n : ℕ) (f : List ℕ) (x : ℕ) → plusTimes p (take n f) x (replicate n 0) ≡ column p (n - (n - 1)) n f x
   unfolding zipWith
@@ -98,30 +116,34 @@ module _ (p : ℕ) where
 
   -- u blocks are left, and they end at `end`.
   pub record ColumnLoop (f : List ℕ) (x n : ℕ) (out : List ℕ) (end : ℕ) : Type 0 where
+    pub positive : 0 < p
     pub u : ℕ
     pub within : u ≤ n
     pub size : n ≡ length out
     pub square : length f ≡ n * n
     pub place : end ≡ u * n
+    pub residues : Residues p out
     pub goal : out ≡ column p (n - u) n (drop end f) x
 
-  pub column-start : (f : List ℕ) (x n : ℕ) (out new : List ℕ) → n ≡ length out → length f ≡ n * n
-      → new ≡ plusTimes p (take (length f - (length f - n)) (drop (length f - n) f)) 0 out → ColumnLoop f x n new (length f - n)
-  column-start f x n out new s e z =
+  pub column-start : (f : List ℕ) (x n : ℕ) (new : List ℕ) → 0 < p → Residues p f → length f ≡ n * n
+      → new ≡ take (length f - (length f - n)) (drop (length f - n) f) → ColumnLoop f x n new (length f - n)
+  column-start f x n new positive small e z =
       let end : ℕ = length f - n in
       let l : n ≤ length f = root-within n (length f) e in
+      let size : length new ≡ n = ap length z ∙ column-block f n (length f) l (omega arith) in
       let part : length f - end ≡ n = omega arith in
-      let block : List ℕ = take (length f - end) (drop end f) in
-      let size : n ≡ length new = s ∙ sym (ap length z ∙ length-zipWith _ block out (column-block f n (length f) l (omega arith) ∙ s)) in
-      let written : new ≡ plusTimes p (take n (drop end f)) x (replicate n 0) =
-      z ∙ top-block block x out ∙ ap₂ (λ a b. plusTimes p (take a (drop end f)) x (replicate b 0)) part (sym s) in
+      let block : new ≡ take n (drop end f) = z ∙ ap (λ k. take k (drop end f)) part in
+      let residues : Residues p new = subst (Residues p) (sym z) (block-residues p f (length f - end) end small) in
       record {
+        positive = positive;
         u = n - 1;
         within = omega arith;
-        size = size;
+        size = sym size;
         square = e;
         place = top-place n (length f) e;
-        goal = written ∙ top-column n (drop end f) x;
+        residues = residues;
+        goal =
+            top-block new x residues ∙ ap₂ (λ a k. plusTimes p a x (replicate k 0)) block size ∙ top-column n (drop end f) x;
       }
 
   pub column-bounds : (f : List ℕ) (x n : ℕ) (out : List ℕ) (end : ℕ) (k : ColumnLoop f x n out end) → 0 < end
@@ -144,11 +166,13 @@ module _ (p : ℕ) where
       let one : k .u ≡ suc (k .u - 1) = omega (arith, b) in
       let written : new ≡ plusTimes p (take n block) x out = e ∙ ap (λ z. plusTimes p (take z block) x out) part in
       record {
+        positive = k .positive;
         u = k .u - 1;
         within = omega (arith, k .within);
         size = k .size ∙ sym (ap length e ∙ length-zipWith _ _ out (column-block f n end (b .2) (b .3) ∙ k .size));
         square = k .square;
         place = omega (arith, k .place, ap (λ z. z * n) one);
+        residues = subst (Residues p) (sym e) (plusTimes-residues p _ x out (k .positive));
         goal =
             written
             ∙ ap (plusTimes p (take n block) x)

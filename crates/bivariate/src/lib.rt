@@ -1,17 +1,19 @@
 // Polynomials in two variables: rows and columns, written into a lent part.
 ghost use mathlib.Core.Path.{_≡_};
 ghost use lib.Dec.{eqb};
-ghost use lib.ListN.{length};
-ghost use Prim.Native.Nat.{_*_};
-ghost use Rattle.field.specs.Modulus.{modulus};
-ghost use Rattle.bivariate.specs.Bivariate.{plusTimes, rowIn, columnIn};
+ghost use lib.ListN.{length, getD};
+ghost use Prim.Native.Nat.{_*_, _≤_, _<_};
+ghost use Rattle.field.specs.Modulus.{primeOf};
+ghost use Rattle.polynomial.specs.Polynomial.{Residues, value};
+ghost use Rattle.bivariate.specs.Bivariate.{plusTimes, column, rowIn, columnIn};
+use field::Width;
 
-// Whether a list of len numbers is n by n: tested by division, since the product might not fit.
+// Whether a list of len numbers is n by n: of larger n tested by division, since the product might not fit.
 fn is_square(len: usize, n: usize) -> bool
     ensures { λ r. ⌜ r ≡ eqb len (n * n) ⌝ }
 {
-    if n == 0 {
-        return len == 0;
+    if n < 65536 {
+        return len == n * n;
     }
     if len % n != 0 {
         return false;
@@ -19,9 +21,21 @@ fn is_square(len: usize, n: usize) -> bool
     len / n == n
 }
 
+// The value of a part at y. That of two coefficients is one product and one sum, which are reduced quicker than a cubic's.
+fn part_value(w: Width, part: &[u32], y: u32) -> u32
+    requires { ⌜ Residues (primeOf w) (now part) × (y < primeOf w) × (length (now part) ≤ 4) ⌝ }
+    ensures { λ r. ⌜ r ≡ value (primeOf w) (now (part .entry)) y ⌝ }
+{
+    if part.len() == 2 {
+        return field::mul_add(w, y, part[1], part[0]);
+    }
+    polynomial::value(w, part, y)
+}
+
 // The coefficients of F(X, y), written into a lent part as long as the row. F of another size leaves it alone.
-pub fn row(f: &[u16], y: u16, out: &mut [u16])
-    ensures { λ r. ⌜ now (out .exit) ≡ rowIn modulus (now (f .entry)) y (now (out .entry)) ⌝ }
+pub fn row(w: Width, f: &[u32], y: u32, out: &mut [u32])
+    requires { ⌜ Residues (primeOf w) (now f) × (y < primeOf w) × (length (now out) ≤ 4) ⌝ }
+    ensures { λ r. ⌜ now (out .exit) ≡ rowIn (primeOf w) (now (f .entry)) y (now (out .entry)) ⌝ }
 {
     let n = out.len();
     if !is_square(f.len(), n) {
@@ -30,38 +44,94 @@ pub fn row(f: &[u16], y: u16, out: &mut [u16])
     let mut u = 0;
     let mut at = 0;
     while u < n {
-        out[u] = polynomial::value(&f[at..at + n], y);
+        out[u] = part_value(w, &f[at..at + n], y);
         at += n;
         u += 1;
     }
 }
 
 // part + x out, in the place of out.
-fn plus_times(part: &[u16], x: u16, out: &mut [u16])
-    requires { ⌜ length (now part) ≡ length (now out) ⌝ }
-    ensures { λ r. ⌜ now (out .exit) ≡ plusTimes modulus (now (part .entry)) x (now (out .entry)) ⌝ }
+fn plus_times(w: Width, part: &[u32], x: u32, out: &mut [u32])
+    requires { ⌜ (length (now part) ≡ length (now out)) × Residues (primeOf w) (now part) × Residues (primeOf w) (now out) ⌝ }
+    requires { ⌜ x < primeOf w ⌝ }
+    ensures { λ r. ⌜ now (out .exit) ≡ plusTimes (primeOf w) (now (part .entry)) x (now (out .entry)) ⌝ }
 {
     let mut i = 0;
     while i < part.len() {
-        out[i] = field::mul_add(x, out[i], part[i]);
+        out[i] = field::mul_add(w, x, out[i], part[i]);
         i += 1;
     }
 }
 
+// The numbers of the part, in the place of out.
+fn copy(part: &[u32], out: &mut [u32])
+    requires { ⌜ length (now part) ≡ length (now out) ⌝ }
+    ensures { λ r. ⌜ now (out .exit) ≡ now (part .entry) ⌝ }
+{
+    let mut i = 0;
+    while i < part.len() {
+        out[i] = part[i];
+        i += 1;
+    }
+}
+
+// The coefficients of F(x, Y), by Horner's rule in X for all of them at once. The top part comes first.
+fn by_parts(w: Width, f: &[u32], x: u32, out: &mut [u32])
+    requires { ⌜ length (now f) ≡ length (now out) * length (now out) ⌝ }
+    requires { ⌜ Residues (primeOf w) (now f) × (x < primeOf w) ⌝ }
+    ensures { λ r. ⌜ now (out .exit) ≡ column (primeOf w) (length (now (out .entry))) (length (now (out .entry))) (now (f .entry)) x ⌝ }
+{
+    let n = out.len();
+    let mut end = f.len() - n;
+    copy(&f[end..], out);
+    while 0 < end {
+        let start = end - n;
+        plus_times(w, &f[start..end], x, out);
+        end = start;
+    }
+}
+
+// The coefficient of Y^v in F(x, Y) of few by few: the value at x of those that stand n apart from place v on, by one reduction.
+fn column_value(w: Width, f: &[u32], n: usize, v: usize, x: u32) -> u32
+    requires { ⌜ (1 < n) × (n ≤ 4) × (length (now f) ≡ n * n) × (v < n) ⌝ }
+    requires { ⌜ Residues (primeOf w) (now f) × (x < primeOf w) ⌝ }
+    ensures { λ r. ⌜ r ≡ getD (column (primeOf w) n n (now (f .entry)) x) v 0 ⌝ }
+{
+    if n == 4 {
+        return field::cubic_value(w, f[v], f[v + 4], f[v + 8], f[v + 12], x);
+    }
+    if n == 2 {
+        return field::mul_add(w, x, f[v + 2], f[v]);
+    }
+    field::cubic_value(w, f[v], f[v + 3], f[v + 6], 0, x)
+}
+
+// The coefficients of F(x, Y) of few by few, value by value.
+fn by_values(w: Width, f: &[u32], x: u32, out: &mut [u32])
+    requires { ⌜ (1 < length (now out)) × (length (now out) ≤ 4) × (length (now f) ≡ length (now out) * length (now out)) ⌝ }
+    requires { ⌜ Residues (primeOf w) (now f) × (x < primeOf w) ⌝ }
+    ensures { λ r. ⌜ now (out .exit) ≡ column (primeOf w) (length (now (out .entry))) (length (now (out .entry))) (now (f .entry)) x ⌝ }
+{
+    let n = out.len();
+    let mut v = 0;
+    while v < n {
+        out[v] = column_value(w, f, n, v, x);
+        v += 1;
+    }
+}
+
 // The coefficients of F(x, Y), written into a lent part as long as the column. F of another size leaves it alone.
-// The top part comes first, plus 0 times what the lent part held.
-pub fn column(f: &[u16], x: u16, out: &mut [u16])
-    ensures { λ r. ⌜ now (out .exit) ≡ columnIn modulus (now (f .entry)) x (now (out .entry)) ⌝ }
+pub fn column(w: Width, f: &[u32], x: u32, out: &mut [u32])
+    requires { ⌜ Residues (primeOf w) (now f) × (x < primeOf w) ⌝ }
+    ensures { λ r. ⌜ now (out .exit) ≡ columnIn (primeOf w) (now (f .entry)) x (now (out .entry)) ⌝ }
 {
     let n = out.len();
     if !is_square(f.len(), n) {
         return;
     }
-    let mut end = f.len() - n;
-    plus_times(&f[end..], 0, out);
-    while 0 < end {
-        let start = end - n;
-        plus_times(&f[start..end], x, out);
-        end = start;
+    if 1 < n && n <= 4 {
+        by_values(w, f, x, out);
+        return;
     }
+    by_parts(w, f, x, out);
 }

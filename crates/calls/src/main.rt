@@ -3,8 +3,11 @@
 // A call is a byte for its kind, a count, and as many numbers as it counts, all but the kind in 16 bits, high byte first:
 // 0 makes a lamp for n, t and its number; 1 takes a deal, 2 says the pair for the lamp named, 3 hears pairs, 4 settles, 5 opens;
 // 6 is the desk's: n, t, the room for the deals, and the dealer's list. 7 makes a lamp with a table, which stands behind the number; 8 is
-// the desk with a table: behind the room stand how many numbers the table has, these, and the dealer's list. An unknown kind, a count that
-// its kind does not take, more than 200 numbers or as much room, and a call cut short end the input.
+// the desk with a table: behind the room stand how many numbers the table has, these, and the dealer's list. A wide call, of those that are
+// lent numbers of the field, has 128 added to its kind, and its numbers have 32 bits. An unknown kind, a count that its kind does not take,
+// more than 200 numbers or as much room, and a call cut short end the input.
+mod wide;
+
 ghost use Prim.Native.Nat.{_≤_};
 use lamp::Lamp;
 use lamp::Reply;
@@ -16,16 +19,20 @@ pub struct Turn {
     called: bool,
 }
 
-// The number at the place as a byte, the largest byte for a larger number, which is no size and no lamp either; 0 where there is none.
-fn small(list: &[u16], place: usize) -> u8 {
-    if list.len() <= place {
-        return 0;
-    }
-    let x = list[place];
+// A number as a byte, the largest byte for a larger number, which is no size and no lamp either.
+pub(crate) fn byte_of(x: u32) -> u8 {
     if 255 < x {
         return 255;
     }
     x as u8
+}
+
+// The number at the place as a byte; 0 where there is none.
+fn small(list: &[u16], place: usize) -> u8 {
+    if list.len() <= place {
+        return 0;
+    }
+    byte_of(arrays::wide(list[place]))
 }
 
 fn made(list: &[u16]) -> Reply {
@@ -117,7 +124,7 @@ fn desk_with(list: &[u16]) -> bool {
 }
 
 // Whether a call of this kind has so many numbers.
-fn takes(kind: u8, count: usize) -> bool {
+pub(crate) fn takes(kind: u8, count: usize) -> bool {
     if kind == 0 {
         return count == 3;
     }
@@ -146,7 +153,7 @@ fn lent(count: usize, list: &mut [u16]) -> bool
     take(&mut bytes[..end], list)
 }
 
-fn over(lamp: Lamp) -> Turn {
+pub(crate) fn over(lamp: Lamp) -> Turn {
     Turn {
         lamp: lamp,
         called: false,
@@ -167,33 +174,38 @@ fn ended(lamp: Lamp) -> Turn {
     }
 }
 
-// Makes a call or a dealing with the numbers lent, and writes its line.
-fn answered(lamp: Lamp, kind: u8, list: &[u16]) -> Turn {
-    if kind == 6 {
-        if !desk(list) {
-            return over(lamp);
-        }
-        return ended(lamp);
-    }
-    if kind == 8 {
-        if !desk_with(list) {
-            return over(lamp);
-        }
-        return ended(lamp);
-    }
-    let reply = call(lamp, kind, list);
+// The line of a lamp's reply.
+pub(crate) fn replied(reply: Reply) -> Turn {
     let answer = reply.answer;
     let after = reply.lamp;
     replies::answer(answer);
     ended(after)
 }
 
-// A call of the kind, with as many numbers as it counts from the input.
-fn asked(lamp: Lamp, kind: u8, count: usize) -> Turn {
-    if !takes(kind, count) {
+// The line of a dealing, where there was one.
+pub(crate) fn desk_line(lamp: Lamp, dealt: bool) -> Turn {
+    if !dealt {
         return over(lamp);
     }
-    if 200 < count {
+    ended(lamp)
+}
+
+// Makes a call or a dealing with the numbers lent, and writes its line.
+fn answered(lamp: Lamp, kind: u8, list: &[u16]) -> Turn {
+    if kind == 6 {
+        return desk_line(lamp, desk(list));
+    }
+    if kind == 8 {
+        return desk_line(lamp, desk_with(list));
+    }
+    replied(call(lamp, kind, list))
+}
+
+// A call of the kind, with as many numbers as it counts from the input.
+fn narrow(lamp: Lamp, kind: u8, count: usize) -> Turn
+    requires { ⌜ count ≤ 200 ⌝ }
+{
+    if !takes(kind, count) {
         return over(lamp);
     }
     let mut list = [0u16; 200];
@@ -201,6 +213,17 @@ fn asked(lamp: Lamp, kind: u8, count: usize) -> Turn {
         return over(lamp);
     }
     answered(lamp, kind, &list[..count])
+}
+
+// The same, of numbers of 16 bits or of 32.
+fn asked(lamp: Lamp, kind: u8, count: usize) -> Turn {
+    if 200 < count {
+        return over(lamp);
+    }
+    if kind < 128 {
+        return narrow(lamp, kind, count);
+    }
+    wide::asked(lamp, kind - 128, count)
 }
 
 // The next call of the input, if there is one.

@@ -4,9 +4,10 @@
 --   sound p T i row column          the deal is sound (docs/PROTOCOL.md, "A lamp"), by party i's point in the table T
 --   pairFor p T i row column j      party i's pair for j
 --   said q                          a pair as the code answers it
---   confirms p T i row column hs j  party i has a one for j
+--   confirmsBy p T i row column j a b  party i has a one for j, which said a and b; confirms p T i row column hs j: by the pairs heard
 --   reportOf p n T i row column hs  party i's report
---   reportIn p n T i row column hs  the same for every input: noReport, which no party reports, where it cannot be made
+--   reportBy p n T i row column fs ss  the same by the first numbers heard and the second ones, two lists
+--   reportIn p n T i row column fs ss  the same for every input: noReport, which no party reports, where it cannot be made
 -- Laws: proofs/Reports.
 use mathlib.Core.Bool.{Bool, cond, not, _&&_}
 use mathlib.Core.List.{List}
@@ -47,21 +48,27 @@ abbrev pub said : ℕ × ℕ → Pair
 said q = record { first = q .0; second = q .1 }
 
 -- "j is another lamp, its deal is sound, j's first number equals its column at j, and j's second equals its row at j"
+abbrev pub confirmsBy : ℕ → List ℕ → ℕ → List ℕ → List ℕ → ℕ → ℕ → ℕ → Bool
+confirmsBy p T i row column j a b =
+    not (eqb i j) && sound p T i row column && eqb a (value p column (pointAt T j)) && eqb b (value p row (pointAt T j))
+
 unfoldable pub confirms : ℕ → List ℕ → ℕ → List ℕ → List ℕ → List ℕ → ℕ → Bool
-confirms p T i row column hs j =
-    not (eqb i j) && sound p T i row column
-    && eqb (firstFrom hs j) (value p column (pointAt T j)) && eqb (secondFrom hs j) (value p row (pointAt T j))
+confirms p T i row column hs j = confirmsBy p T i row column j (firstFrom hs j) (secondFrom hs j)
 
 -- Bit j − 1 for party j.
 unfoldable pub reportOf : ℕ → ℕ → List ℕ → ℕ → List ℕ → List ℕ → List ℕ → ℕ
 reportOf p n T i row column hs = mask (λ k. confirms p T i row column hs (suc k)) n
 
+-- The same where the first numbers heard and the second ones are two lists.
+unfoldable pub reportBy : ℕ → ℕ → List ℕ → ℕ → List ℕ → List ℕ → List ℕ → List ℕ → ℕ
+reportBy p n T i row column fs ss = mask (λ k. confirmsBy p T i row column (suc k) (getD fs k 0) (getD ss k 0)) n
+
 -- All sixteen ones, so one for the party itself: no report of a party.
 abbrev pub noReport : ℕ
 noReport = 65535
 
--- A report has sixteen bits, and its party is one of n; a list that does not hold n pairs is not reported on.
-unfoldable pub reportIn : ℕ → ℕ → List ℕ → ℕ → List ℕ → List ℕ → List ℕ → ℕ
-reportIn p n T i row column hs =
-    let given = reportOf p n T i row column hs in
-    cond (leb n 16 && isParty n i && eqb (length hs) (2 * n)) given noReport
+-- A report has sixteen bits, and its party is one of n; lists that do not hold n numbers each are not reported on.
+unfoldable pub reportIn : ℕ → ℕ → List ℕ → ℕ → List ℕ → List ℕ → List ℕ → List ℕ → ℕ
+reportIn p n T i row column fs ss =
+    let given = reportBy p n T i row column fs ss in
+    cond (leb n 16 && isParty n i && eqb (length fs) n && eqb (length ss) n) given noReport

@@ -1,15 +1,18 @@
 -- Laws of the dealing desk: the sizes of the deals, each party's own part, when the desk writes and what the list holds afterwards.
 use mathlib.Core.Path.{_≡_, refl, sym, ap, ap₂, _∙_}
 use mathlib.Core.Logic.{⊎-elim}
-use mathlib.Core.Bool.{true}
+use mathlib.Core.Bool.{true, false}
 use mathlib.Core.Option.{none}
 use mathlib.Core.List.{List, [], _∷_, _++_}
 use Prim.Native.Nat.{ℕ, zero, suc, _+_, _*_, _-_, _<_, _≤_}
-use native.Mathlib.Nat.{mul-le-mul-right, eq-or-lt-of-le, le-of-suc-le-suc}
+use native.Mathlib.Nat.{mul-le-mul, mul-le-mul-right, eq-or-lt-of-le, le-of-suc-le-suc}
+use native.Mathlib.Numerals.{add-one}
 use native.Mathlib.Omega.{arith}
+use lib.Dec.{eqb}
 use lib.ListN.{length, take, drop, length-append}
 use lib.Seq.{take-at, drop-at, take-all}
 use borrow.Author.Tests.{eqb-true, eq-eqb}
+use Rattle.lists.proofs.Cases.{true-or-false}
 use Rattle.lists.proofs.InPlace.{part-in-front}
 use Rattle.polynomial.specs.Polynomial.{Residues, residues}
 use Rattle.polynomial.proofs.Below.{residues-facts, residues-true}
@@ -17,15 +20,16 @@ use Rattle.bivariate.specs.Bivariate.{row, column}
 use Rattle.bivariate.proofs.Crossing.{length-row, length-column}
 use Rattle.parties.specs.Parties.{sizes}
 use Rattle.parties.proofs.Parties.{sizes-facts}
-use Rattle.tables.specs.Tables.{pointAt, oneTo, IsTable, tableTests}
-use Rattle.tables.proofs.Tables.{table-facts, table-true, tests-pass, one-to-table}
+use Rattle.tables.specs.Tables.{pointAt, IsTable, isTable}
+use Rattle.tables.proofs.Tables.{table-facts, table-true}
 use Rattle.answers.specs.declared.Refusal.{Refusal}
-use Rattle.answers.specs.declared.Refusal.the-variants.{NotResidue}
+use Rattle.answers.specs.declared.Refusal.the-variants.{WrongSize, WrongLength, NotResidue, WrongTable}
 use Rattle.answers.specs.declared.Admission.{Admission}
 use Rattle.answers.specs.declared.Admission.the-variants.{Pass, Fail}
-use Rattle.answers.specs.Refusals.{Test, lowest, also}
+use Rattle.answers.specs.Refusals.{lowest, also}
 use Rattle.answers.proofs.Tests.{lowest-pass, lowest-first, lowest-then, lowest-also}
-use Rattle.dealer.specs.Desk.{deal, deals, stretch, sizeTests, deskTests, dealingNumber, dealtBy, deskWith}
+use Rattle.dealer.specs.Desk.{deal, deals, stretch, dealingNumber, dealtBy, deskWith}
+use Rattle.dealer.specs.Desk.{sizeTests, lengthTests, contentTests, deskTests}
 use Rattle.dealer.specs.declared.Dealing.{Dealing}
 use Rattle.dealer.specs.declared.Dealing.the-variants.{Written, Refused}
 
@@ -110,30 +114,52 @@ desk-passed p n t T F room e =
     }
 
 -- ---- The tests, list by list
+module _ (n t size room points : ℕ) where
+  -- That of the table's length comes behind those of the sizes.
+  pub also-length : lowest (lengthTests n t size room points) ≡ also (lowest (sizeTests n t size room)) (eqb points n) WrongLength
+  also-length = lowest-also (sizeTests n t size room) (eqb points n) WrongLength
+
+-- The table, then the list.
+pub also-residues : (p n : ℕ) (T F : List ℕ)
+    → lowest (contentTests p n T F) ≡ also (also Pass (isTable p n T) WrongTable) (residues p F) NotResidue
+also-residues p n T F =
+    lowest-also ((isTable p n T, WrongTable) ∷ []) (residues p F) NotResidue
+    ∙ ap (λ a. also a (residues p F) NotResidue) (lowest-also [] (isTable p n T) WrongTable)
+
 module _ (p n t : ℕ) (T F : List ℕ) (room : ℕ) where
-  abbrev last : List Test
-  last = (residues p F, NotResidue) ∷ []
+  -- The lengths pass, and what the table and the list hold settles it.
+  pub lengths-pass : lowest (lengthTests n t (length F) room (length T)) ≡ Pass
+      → lowest (deskTests p n t T F room) ≡ lowest (contentTests p n T F)
+  lengths-pass e = lowest-then (lengthTests n t (length F) room (length T)) (contentTests p n T F) e
 
-  -- The first tests settle it.
-  pub sizes-fail : {why : Refusal} → lowest (sizeTests n t (length F) room) ≡ Fail why → Fail why ≡ lowest (deskTests p n t T F room)
-  sizes-fail e = sym (lowest-first (sizeTests n t (length F) room) (tableTests p n T ++ last) e)
+  -- A table of n numbers is long enough.
+  pub length-pass : lowest (sizeTests n t (length F) room) ≡ Pass → length T ≡ n
+      → lowest (lengthTests n t (length F) room (length T)) ≡ Pass
+  length-pass e l =
+      also-length n t (length F) room (length T)
+      ∙ ap₂ (λ a b. also a b WrongLength) e (eq-eqb (length T) n l)
 
-  -- Or those of the table and of the list do.
-  pub sizes-pass : lowest (sizeTests n t (length F) room) ≡ Pass
-      → also (lowest (tableTests p n T)) (residues p F) NotResidue ≡ lowest (deskTests p n t T F room)
-  sizes-pass e =
-      sym (lowest-also (tableTests p n T) (residues p F) NotResidue)
-      ∙ sym (lowest-then (sizeTests n t (length F) room) (tableTests p n T ++ last) e)
+-- The lengths where they are right: all that is dealt fits sixteen places.
+pub lengths-fit : (n t size room points : ℕ) → lowest (lengthTests n t size room points) ≡ Pass
+    → (n ≤ 16) × (t + 1 ≤ 4) × (size ≤ 16) × (points ≡ n)
+lengths-fit n t size room points e =
+    let all = lowest-pass (lengthTests n t size room points) e in
+    let s = sizes-facts n t (all .0) in
+    let square : size ≡ suc t * suc t = eqb-true _ _ (all .1 .0) in (
+      s .3,
+      omega arith,
+      omega (arith, mul-le-mul {n₁ = suc t} {m₁ = suc t} {n₂ = 4} {m₂ = 4} (omega arith) (omega arith)),
+      eqb-true _ _ (all .1 .1 .1 .0),
+    )
 
--- 1 to n passes.
-pub plain-pass : (p n t : ℕ) (F : List ℕ) (room : ℕ) → 16 < p → lowest (sizeTests n t (length F) room) ≡ Pass
-    → also Pass (residues p F) NotResidue ≡ lowest (deskTests p n t (oneTo n) F room)
-plain-pass p n t F room big e =
-    let size = sizes-facts n t (lowest-pass (sizeTests n t (length F) room) e .0) in
-    let table = one-to-table p n (omega arith) in
-    ap (λ a. also a (residues p F) NotResidue)
-    (sym (tests-pass p n (oneTo n) table))
-    ∙ sizes-pass p n t (oneTo n) F room e
+-- What the code that writes the deals asks for, where all tests pass.
+pub to-write : (p n t : ℕ) (T F : List ℕ) (room : ℕ) → lowest (lengthTests n t (length F) room (length T)) ≡ Pass
+    → lowest (contentTests p n T F) ≡ Pass
+    → ((n ≤ 16) × (t + 1 ≤ 4) × (length F ≡ (t + 1) * (t + 1)) × (room ≡ n * (2 * (t + 1)))) × (Residues p T × Residues p F)
+to-write p n t T F room e h =
+    let fit = lengths-fit n t (length F) room (length T) e in
+    let d = desk-passed p n t T F room (lengths-pass p n t T F room e ∙ h) in
+    ((fit .0, fit .1, rw add-one (d .square), rw add-one (d .long)), (d .table .below, d .below))
 
 -- ---- The desk
 
@@ -171,3 +197,32 @@ module _ (p n t : ℕ) (T F out : List ℕ) where
   pub desk-by-fail : (why : Refusal) → lowest (deskTests p n t T F (length out)) ≡ Fail why → (out, Refused why) ≡ deskWith p n t T F out
   unfolding deskWith
   desk-by-fail why e = dealt-refused (deals p (suc t) T F n) out e
+
+  -- The lengths settle it, and of those the first three alone; more than sixteen parties are refused first.
+  pub desk-by-lengths : (why : Refusal) → lowest (lengthTests n t (length F) (length out) (length T)) ≡ Fail why
+      → (out, Refused why) ≡ deskWith p n t T F out
+  desk-by-lengths why e =
+      desk-by-fail why (lowest-first (lengthTests n t (length F) (length out) (length T)) (contentTests p n T F) e)
+
+  pub desk-by-sizes : (why : Refusal) → lowest (sizeTests n t (length F) (length out)) ≡ Fail why
+      → (out, Refused why) ≡ deskWith p n t T F out
+  desk-by-sizes why e =
+      desk-by-fail why
+      (lowest-first (sizeTests n t (length F) (length out)) ((eqb (length T) n, WrongLength) ∷ contentTests p n T F) e)
+
+  pub desk-by-many : 16 < n → (out, Refused WrongSize) ≡ deskWith p n t T F out
+  desk-by-many h =
+      let wrong : sizes n t ≡ false =
+      ⊎-elim (λ e. let s = sizes-facts n t e in absurd (omega arith)) (λ e. e) (true-or-false (sizes n t)) in
+      desk-by-fail WrongSize (rw wrong)
+
+  -- The lengths are right: what the code that deals then answers.
+  module _ (fit : lowest (lengthTests n t (length F) (length out) (length T)) ≡ Pass) where
+    pub desk-by-content : (new : List ℕ) → lowest (contentTests p n T F) ≡ Pass → new ≡ deals p (t + 1) T F n
+        → (new, Written) ≡ deskWith p n t T F out
+    desk-by-content new h e =
+        ap (λ l. (l, Written)) (e ∙ ap (λ w. deals p w T F n) (add-one t))
+        ∙ desk-by-pass (lengths-pass p n t T F (length out) fit ∙ h)
+
+    pub desk-by-bad-content : (why : Refusal) → lowest (contentTests p n T F) ≡ Fail why → (out, Refused why) ≡ deskWith p n t T F out
+    desk-by-bad-content why h = desk-by-fail why (lengths-pass p n t T F (length out) fit ∙ h)

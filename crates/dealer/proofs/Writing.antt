@@ -1,6 +1,6 @@
 -- One turn of each loop of the desk's code, as a law over plain lists, and a deal written through its two lent parts.
 --   DealsLoop   the deals of the first i parties are written, and the next part begins at start
-use mathlib.Core.Path.{_≡_, refl, sym, ap, ap₂, _∙_}
+use mathlib.Core.Path.{_≡_, refl, sym, ap, ap₂, subst, _∙_}
 use mathlib.Core.List.{List, _++_, append-assoc}
 use Prim.Native.Nat.{ℕ, suc, _+_, _*_, _-_, _<_, _≤_}
 use native.Mathlib.Nat.{mul-le-mul-right}
@@ -9,13 +9,23 @@ use native.Mathlib.Omega.{arith}
 use lib.ListN.{length, take, drop, length-append, length-drop}
 use lib.Seq.{take-at, drop-at, take-all, length-take-le}
 use borrow.Rule.Slice.PartMut.{putMid, same-len-mid, mid-len}
+use Rattle.lists.specs.All.{All}
+use Rattle.lists.proofs.All.{all-of, all-at, all-append}
 use Rattle.lists.proofs.InPlace.{lent-rest, put-rest}
 use Rattle.bivariate.specs.Bivariate.{row, column, rowIn, columnIn}
 use Rattle.bivariate.proofs.Lent.{row-in, column-in}
-use Rattle.bivariate.proofs.Crossing.{length-row}
+use Rattle.bivariate.proofs.Crossing.{length-row, row-poly, column-poly}
 use Rattle.tables.specs.Tables.{pointAt}
 use Rattle.dealer.specs.Desk.{deal, deals}
 use Rattle.dealer.proofs.Desk.{length-deal}
+
+-- A list copied into the front of an array.
+module _ (list part rest : List ℕ) (e : part ≡ list) where
+  pub copied-front : take (length list) (part ++ rest) ≡ list
+  copied-front = take-at part rest (length list) (ap length e) ∙ e
+
+  pub copied-within : length list ≤ length (part ++ rest)
+  copied-within = omega (arith, length-append part rest, ap length e)
 
 module _ (p : ℕ) where
   module _ (w : ℕ) (T F : List ℕ) where
@@ -41,7 +51,28 @@ module _ (p : ℕ) where
         ∙ ap₂ _++_ (take-at f (drop w out) w wide ∙ first) second
         ∙ ap (λ z. row p w w F z ++ column p w w F z) at
 
-    -- ---- `write_deals`
+    -- ---- `write_narrow_deal`: a deal in the front of an array
+    module _ (i : ℕ) (part rest : List ℕ) (square : length F ≡ w * w) (e : part ≡ deal p w T F i) where
+      pub front-deal : take (2 * w) (part ++ rest) ≡ deal p w T F i
+      front-deal = take-at part rest (2 * w) (ap length e ∙ length-deal p w T F square i) ∙ e
+
+      pub front-size : length (take (2 * w) (part ++ rest)) ≡ 2 * w
+      front-size = ap length front-deal ∙ length-deal p w T F square i
+
+      pub front-within : 2 * w ≤ length (part ++ rest)
+      front-within = omega (arith, length-append part rest, ap length e, length-deal p w T F square i)
+
+      -- Its numbers are residues, and those of a prime of 16 bits have no more.
+      pub front-narrow : 0 < p → p ≤ 65536 → All (λ x. x < 65536) (take (2 * w) (part ++ rest))
+      unfolding deal
+      front-narrow positive few =
+          let x : ℕ = pointAt T i in
+          let residues = all-append (λ c. c < p) (row p w w F x) (column p w w F x) (row-poly p w w F x positive .residues)
+          (column-poly p w w F x positive square .residues) in
+          subst (All (λ x. x < 65536)) (sym front-deal)
+          (all-of (deal p w T F i) (λ c m. let small : c < p = all-at (λ c. c < p) (deal p w T F i) residues c m in omega arith))
+
+    -- ---- `write_narrow_deals`, `write_wide_deals`
     pub record DealsLoop (n : ℕ) (out : List ℕ) (i start : ℕ) : Type 0 where
       pub square : length F ≡ w * w
       pub within : i ≤ n

@@ -2,7 +2,7 @@
 --   deal p w T F i            party i's deal, with w = t + 1: row and column at its point in the table T, constants first
 --   deals p w T F n           the deals of parties 1 to n, in order
 --   stretch w out i           party i's own part of a list of deals
---   deskTests p n t T F room  what the desk looks at, in the order of the refusals; sizeTests: what it looks at first
+--   deskTests p n t T F room  what the desk looks at, in the order of the refusals: sizeTests, then lengthTests, then contentTests
 --   dealingNumber             the protocol's number of an answer
 --   deskWith p n t T F out    the list afterwards, and the answer, with the table T; desk p n t F out: without one
 -- Laws: proofs/Desk.
@@ -14,8 +14,8 @@ use lib.ListN.{length, take, drop}
 use Rattle.polynomial.specs.Polynomial.{residues}
 use Rattle.bivariate.specs.Bivariate.{row, column}
 use Rattle.parties.specs.Parties.{sizes}
-use Rattle.tables.specs.Tables.{pointAt, oneTo, tableTests}
-use Rattle.answers.specs.declared.Refusal.the-variants.{WrongSize, WrongLength, NotResidue}
+use Rattle.tables.specs.Tables.{pointAt, oneTo, isTable}
+use Rattle.answers.specs.declared.Refusal.the-variants.{WrongSize, WrongLength, NotResidue, WrongTable}
 use Rattle.answers.specs.declared.Admission.{Admission}
 use Rattle.answers.specs.declared.Admission.the-variants.{Pass, Fail}
 use Rattle.answers.specs.Refusals.{Test, refusalNumber, lowest}
@@ -40,9 +40,17 @@ abbrev pub sizeTests : ℕ → ℕ → ℕ → ℕ → List Test
 sizeTests n t size room =
     (sizes n t, WrongSize) ∷ (eqb size (suc t * suc t), WrongLength) ∷ (eqb room (n * (2 * suc t)), WrongLength) ∷ []
 
--- Then 3 and 14 for the table, and 5 for a number that is no residue.
+-- Then 3 for the length of the table.
+abbrev pub lengthTests : ℕ → ℕ → ℕ → ℕ → ℕ → List Test
+lengthTests n t size room points = sizeTests n t size room ++ (eqb points n, WrongLength) ∷ []
+
+-- Then 14 for its entries, and 5 for a number that is no residue.
+abbrev pub contentTests : ℕ → ℕ → List ℕ → List ℕ → List Test
+contentTests p n T F = (isTable p n T, WrongTable) ∷ (residues p F, NotResidue) ∷ []
+
+-- All of them, in order.
 abbrev pub deskTests : ℕ → ℕ → ℕ → List ℕ → List ℕ → ℕ → List Test
-deskTests p n t T F room = sizeTests n t (length F) room ++ tableTests p n T ++ (residues p F, NotResidue) ∷ []
+deskTests p n t T F room = lengthTests n t (length F) room (length T) ++ contentTests p n T F
 
 -- The number of an answer; none where the deals are written.
 abbrev pub dealingNumber : Dealing → Option ℕ

@@ -1,6 +1,6 @@
 // Five lamps of which one may be faulty: the desk deals 7 + 3X + 2Y + 4XY, and lamp 1 goes from its making to an opening in which
-// lamp 3 publishes a wrong share; first at the points 1 to 5, then at the station numbers of a harbour. Each step writes a line: what it
-// answered.
+// lamp 3 publishes a wrong share; first at the points 1 to 5, then at the station numbers of a harbour, then with another secret and
+// numbers of 32 bits. Each step writes a line: what it answered.
 use dealer::Dealing;
 use lamp::Lamp;
 use lamp::Reply;
@@ -16,6 +16,13 @@ fn dealt_line(desk: Dealing, deals: &[u16]) {
     replies::word(b"deal ");
     replies::dealing(desk);
     replies::numbers(deals);
+    replies::word(b"\n");
+}
+
+fn wide_dealt_line(desk: Dealing, deals: &[u32]) {
+    replies::word(b"deal ");
+    replies::dealing(desk);
+    replies::wide_numbers(deals);
     replies::word(b"\n");
 }
 
@@ -85,7 +92,33 @@ fn stations() {
     line(b"make ", bad);
 }
 
+// With numbers of 32 bits: the secret is the largest that there is, one below the prime 2,147,483,647.
+fn wide() {
+    let mut deals = [0u32; 20];
+    let desk = dealer::deal_wide(5, 1, &[2147483646, 2, 3, 4], &mut deals);
+    wide_dealt_line(desk, &deals);
+
+    // A lamp is made wide; what lends numbers of the field has a form for them, saying a pair and settling have one form for both.
+    let made = Lamp::make_wide(5, 1, 1);
+    let dealt = made.lamp.take_deal_wide(&deals[0..4]);
+    line(b"take ", dealt);
+    let said = dealt.lamp.say_pair(2);
+    line(b"say ", said);
+    let pairs = [4294967295, 4294967295, 14, 15, 20, 22, 26, 29, 32, 36];
+    let heard = said.lamp.hear_pairs_wide(&pairs);
+    line(b"hear ", heard);
+    let settled = heard.lamp.settle(&[30, 29, 27, 23, 15]);
+    line(b"settle ", settled);
+    let opened = settled.lamp.open_wide(&[2, 5, 999, 11, 14]);
+    line(b"open ", opened);
+
+    // A call of the other prime's numbers answers 18, and changes nothing.
+    let other = opened.lamp.open(&[2, 5, 999, 11, 14]);
+    line(b"open ", other);
+}
+
 fn main() {
     plain();
     stations();
+    wide();
 }

@@ -1,7 +1,11 @@
 -- Horner's rule without a reduction on the way.
---   cubic-reduced   the sum for four coefficients, reduced once, is a cubic's value
+--   cubic-by   the sum for four coefficients has the residue of a cubic's value, also where another number of the same residue stands for
+--              what is found so far
+--   next-le    how large a step's number gets
 use mathlib.Core.Path.{_≡_, refl, sym, ap, _∙_}
-use Prim.Native.Nat.{ℕ, _+_, _*_, _%_}
+use Prim.Native.Nat.{ℕ, _+_, _*_, _%_, _≤_}
+use native.Mathlib.Nat.{mul-le-mul}
+use native.Mathlib.Omega.{arith}
 use Rattle.field.specs.Arithmetic.{add, mul, cubicValue}
 use Rattle.field.proofs.Ring.{add-residue, mul-mod, one-reduction}
 
@@ -10,8 +14,11 @@ step : (p x w v c : ℕ) → w % p ≡ v % p → (x * w + c) % p ≡ add p c (mu
 step p x w v c e =
     one-reduction p x w c ∙ ap (add p c) (sym (mul-mod p x w) ∙ ap (mul p x) e ∙ mul-mod p x v)
 
-pub cubic-reduced : (p a b c d x : ℕ) → (x * (x * (x * d + c) + b) + a) % p ≡ cubicValue p a b c d x
-cubic-reduced p a b c d x =
+pub cubic-by : (p a b c d x h m : ℕ) → h % p ≡ (x * d + c) % p → m % p ≡ (x * h + b) % p → (x * m + a) % p ≡ cubicValue p a b c d x
+cubic-by p a b c d x h m eh em =
     let again : (w v : ℕ) (k : ℕ) → w % p ≡ v % p → (x * w + k) % p ≡ add p k (mul p x v) % p =
     λ w v k e. step p x w v k e ∙ sym (add-residue p k (mul p x v)) in
-    step p x _ _ a (again _ _ b (again d d c refl))
+    step p x m _ a (em ∙ again h _ b (eh ∙ again d d c refl))
+
+pub next-le : (x w c k l m : ℕ) → x ≤ k → c ≤ l → w ≤ m → x * w + c ≤ k * m + l
+next-le x w c k l m hx hc hw = omega (arith, mul-le-mul {n₁ = x} {m₁ = w} {n₂ = k} {m₂ = m} hx hw)

@@ -4,5 +4,6 @@ pub mod Primality
 pub mod Primes
 pub mod Inverse
 pub mod Quotients
-mod Slopes
+mod Residues
+pub mod Slopes
 mod Horner

@@ -1,22 +1,17 @@
--- Slopes depend on residues alone, and a run of 1 divides nothing; Newton's coefficients by rises, slope by slope and by one inverse.
+-- A run of 1 divides nothing; Newton's coefficients are residues, and are found by rises, slope by slope or by one inverse.
 use mathlib.Core.Path.{_≡_, refl, sym, ap, ap₂, _∙_}
 use mathlib.Core.List.{List, [], _∷_, map, zipWith}
 use Prim.Native.Nat.{ℕ, _%_, _≤_, _<_}
 use native.Mathlib.Nat.{mod-eq-of-lt}
 use native.Mathlib.Omega.{arith}
+use Rattle.lists.specs.All.{All}
 use Rattle.field.specs.Arithmetic.{Prime, sub, mul, inv}
 use Rattle.field.specs.Differences.{slope, slopes, newton, fromRises, runs}
-use Rattle.field.proofs.Ring.{sub-mod, sub-none, sub-residue, sub-lt, mul-one, mul-comm, mul-residue}
+use Rattle.field.proofs.Ring.{sub-none, sub-residue, sub-lt, mul-one, mul-comm, mul-lt, mul-residue}
 use Rattle.field.proofs.Inverse.{inv-one}
 use Rattle.field.proofs.Quotients.{unit-left, unit-right, inv-factor, over-factor, one-quotient, one-quotient-common}
 
 module _ (p : ℕ) where
-  slope-at : (x y z w : ℕ) → slope p (x % p) y (z % p) w ≡ slope p x y z w
-  slope-at x y z w = ap (λ (u : ℕ). mul p (sub p w y) (inv p u)) (sub-mod p z x)
-
-  pub slope-mod : (x y z w : ℕ) → slope p (x % p) (y % p) (z % p) (w % p) ≡ slope p x y z w
-  slope-mod x y z w = slope-at x (y % p) z (w % p) ∙ ap (λ (u : ℕ). mul p u (inv p (sub p z x))) (sub-mod p w y)
-
   pub over-one : (w y u : ℕ) → 2 ≤ p → u ≡ 1 → sub p w y ≡ mul p (sub p w y) (inv p u)
   over-one w y u h e =
       sym (ap (λ (z : ℕ). mul p (sub p w y) (inv p z)) e
@@ -24,18 +19,7 @@ module _ (p : ℕ) where
       ∙ mul-one p (sub p w y)
       ∙ mod-eq-of-lt (sub-lt p w y (omega arith)))
 
-  -- ---- the points may be reduced, and the first value taken from the others
-  slopes-at : (x y : ℕ) (xs ys : List ℕ) → slopes p (x % p) y (map (λ z. z % p) xs) ys ≡ slopes p x y xs ys
-  unfolding zipWith
-  slopes-at x y [] ys = refl
-  slopes-at x y (z ∷ xs) [] = refl
-  slopes-at x y (z ∷ xs) (w ∷ ys) = ap₂ _∷_ (slope-at x y z w) (slopes-at x y xs ys)
-
-  newton-at : (xs ys : List ℕ) → newton p (map (λ z. z % p) xs) ys ≡ newton p xs ys
-  newton-at [] ys = refl
-  newton-at (x ∷ xs) [] = refl
-  newton-at (x ∷ xs) (y ∷ ys) = ap (λ l. y ∷ newton p (map (λ z. z % p) xs) l) (slopes-at x y xs ys) ∙ ap (λ l. y ∷ l) (newton-at xs _)
-
+  -- The first value may be taken from the others.
   slopes-rises : (x y : ℕ) (xs ys : List ℕ) → slopes p x 0 xs (map (λ w. sub p w y) ys) ≡ slopes p x y xs ys
   unfolding zipWith
   slopes-rises x y [] ys = refl
@@ -43,11 +27,21 @@ module _ (p : ℕ) where
   slopes-rises x y (z ∷ xs) (w ∷ ys) =
       ap₂ _∷_ (ap (λ (u : ℕ). mul p u (inv p (sub p z x))) (sub-none p (sub p w y) ∙ sub-residue p w y)) (slopes-rises x y xs ys)
 
-  pub newton-rises : (x y : ℕ) (xs ys : List ℕ)
-      → fromRises p y (x % p) (map (λ z. z % p) xs) (map (λ w. sub p w y) ys) ≡ newton p (x ∷ xs) (y ∷ ys)
-  newton-rises x y xs ys =
-      ap (λ l. y ∷ newton p (map (λ z. z % p) xs) l) (slopes-at x 0 xs (map (λ w. sub p w y) ys) ∙ slopes-rises x y xs ys)
-      ∙ ap (λ l. y ∷ l) (newton-at xs _)
+  pub newton-rises : (x y : ℕ) (xs ys : List ℕ) → fromRises p y x xs (map (λ w. sub p w y) ys) ≡ newton p (x ∷ xs) (y ∷ ys)
+  newton-rises x y xs ys = ap (λ l. y ∷ newton p xs l) (slopes-rises x y xs ys)
+
+-- ---- Newton's coefficients of residues are residues
+module _ (p : ℕ) (positive : 0 < p) where
+  pub slopes-residues : (x y : ℕ) (xs ys : List ℕ) → All (λ c. c < p) (slopes p x y xs ys)
+  unfolding zipWith
+  slopes-residues x y [] ys = tt
+  slopes-residues x y (z ∷ xs) [] = tt
+  slopes-residues x y (z ∷ xs) (w ∷ ys) = (mul-lt p _ _ positive, slopes-residues x y xs ys)
+
+  pub newton-residues : (xs ys : List ℕ) → All (λ c. c < p) ys → All (λ c. c < p) (newton p xs ys)
+  newton-residues [] ys h = tt
+  newton-residues (x ∷ xs) [] h = tt
+  newton-residues (x ∷ xs) (y ∷ ys) h = (h .0, newton-residues xs (slopes p x y xs ys) (slopes-residues x y xs ys))
 
 -- ---- four points
 module _ (p y x₀ x₁ x₂ x₃ e₁ e₂ e₃ : ℕ) where

@@ -1,195 +1,257 @@
-// Arithmetic modulo the prime 65,521. Every public function takes any numbers. Private ones take numbers that are reduced already, 32
-// bits wide, which a processor handles best: in a row of steps each number is reduced once.
+// Arithmetic modulo either of two primes, on residues of 32 bits, which a processor handles best. Which prime is meant stands in front of
+// the numbers. Four functions choose, `modulus`, `reduced`, `mul_add` and `cubic_sum`, each between constants; all others are written
+// once. That the numbers are residues is the caller's to show: nothing reduces what is reduced already.
 ghost use mathlib.Core.Path.{_≡_};
 ghost use mathlib.Core.List.{[], _∷_};
-ghost use Prim.Native.Nat.{_+_, _*_, _%_, _<_};
+ghost use Prim.Native.Nat.{_%_, _≤_, _<_, _/_, _+_};
 ghost use lib.Dec.{eqb};
+ghost use Rattle.lists.specs.All.{All};
 ghost use Rattle.field.specs.Arithmetic.{add, sub, mul, inv, cubicValue};
 ghost use Rattle.field.specs.Differences.{slope, newton, fromRises, runs};
-ghost use Rattle.field.specs.Modulus.{modulus};
+ghost use Rattle.field.specs.Modulus.{primeOf, wideModulus, widthNumber, sameWidth};
 
-pub const MODULUS: u16 = 65521;
+// Numbers of 16 bits modulo 65,521, or of 32 bits modulo 2,147,483,647.
+pub enum Width {
+    Narrow,
+    Wide,
+}
 
 // Runs below this, forth or back, are small: each has its inverse in a few turns.
 const NEAR: u32 = 128;
 
-// The difference of two residues.
-fn difference(a: u32, b: u32) -> u32
-    requires { ⌜ (a < modulus) × (b < modulus) ⌝ }
-    ensures { λ r. ⌜ (r ≡ sub modulus a b) × (r < modulus) ⌝ }
+// The widths as numbers.
+pub fn width_number(w: Width) -> u8
+    ensures { λ r. ⌜ r ≡ widthNumber w ⌝ }
 {
-    if b <= a {
-        a - b
-    } else {
-        a + (MODULUS as u32 - b)
+    match w {
+        Width::Narrow => 0,
+        Width::Wide => 1,
     }
 }
 
-// The product of two numbers of 16 bits, which fits 32 before it is reduced.
-fn product(a: u32, b: u32) -> u32
-    requires { ⌜ (a < 65536) × (b < 65536) ⌝ }
-    ensures { λ r. ⌜ (r ≡ mul modulus a b) × (r < modulus) ⌝ }
+// Whether two widths are one.
+pub fn same_width(v: Width, w: Width) -> bool
+    ensures { λ r. ⌜ r ≡ sameWidth v w ⌝ }
 {
-    a * b % MODULUS as u32
+    width_number(v) == width_number(w)
 }
 
-// The residue of a number.
-pub fn reduced(a: u16) -> u16
-    ensures { λ r. ⌜ r ≡ a % modulus ⌝ }
+// The prime.
+pub fn modulus(w: Width) -> u32
+    ensures { λ r. ⌜ r ≡ primeOf w ⌝ }
 {
-    a % MODULUS
+    match w {
+        Width::Narrow => 65521,
+        Width::Wide => 2147483647,
+    }
 }
 
-// c + a b by one reduction: a product of two numbers of 16 bits and a third number still fit 32.
-pub fn mul_add(a: u16, b: u16, c: u16) -> u16
-    ensures { λ r. ⌜ r ≡ add modulus c (mul modulus a b) ⌝ }
+// A number with the residue of v modulo 2³¹ − 1, of half as many bits: 2³¹ is 1 there.
+fn folded(v: u64) -> u64
+    ensures { λ r. ⌜ (r % wideModulus ≡ v % wideModulus) × (r ≤ v / 2147483648 + 2147483647) ⌝ }
 {
-    ((a as u32 * b as u32 + c as u32) % MODULUS as u32) as u16
+    v % 2147483648 + v / 2147483648
 }
 
-// c − a b, likewise.
-pub fn mul_sub(a: u16, b: u16, c: u16) -> u16
-    ensures { λ r. ⌜ r ≡ sub modulus c (mul modulus a b) ⌝ }
+// The residue of a number below twice the wide prime.
+fn less_once(v: u64) -> u32
+    requires { ⌜ v < 4294967294 ⌝ }
+    ensures { λ r. ⌜ (r ≡ v % wideModulus) × (r < wideModulus) ⌝ }
 {
-    mul_add(MODULUS - a % MODULUS, b, c)
+    if v < 2147483647 {
+        return v as u32;
+    }
+    (v - 2147483647) as u32
+}
+
+// The residue of a number: the narrow divisor is a constant, so nothing is divided; for the wide one a number is folded.
+fn reduced(w: Width, v: u64) -> u32
+    ensures { λ r. ⌜ (r ≡ v % primeOf w) × (r < primeOf w) ⌝ }
+{
+    match w {
+        Width::Narrow => (v % 65521) as u32,
+        Width::Wide => less_once(folded(folded(v))),
+    }
+}
+
+// c + a b by one reduction: a product of two residues and a third still fit 32 bits where the prime has 16, and 64 where it has 31.
+pub fn mul_add(w: Width, a: u32, b: u32, c: u32) -> u32
+    requires { ⌜ (a ≤ primeOf w) × (b < primeOf w) × (c < primeOf w) ⌝ }
+    ensures { λ r. ⌜ (r ≡ add (primeOf w) c (mul (primeOf w) a b)) × (r < primeOf w) ⌝ }
+{
+    match w {
+        Width::Narrow => (a * b + c) % 65521,
+        Width::Wide => less_once(folded(a as u64 * b as u64 + c as u64)),
+    }
+}
+
+// The difference of two residues.
+fn difference(w: Width, a: u32, b: u32) -> u32
+    requires { ⌜ (a < primeOf w) × (b < primeOf w) ⌝ }
+    ensures { λ r. ⌜ (r ≡ sub (primeOf w) a b) × (r < primeOf w) ⌝ }
+{
+    if b <= a {
+        return a - b;
+    }
+    a + (modulus(w) - b)
+}
+
+// The product of two residues.
+fn product(w: Width, a: u32, b: u32) -> u32
+    requires { ⌜ (a < primeOf w) × (b < primeOf w) ⌝ }
+    ensures { λ r. ⌜ (r ≡ mul (primeOf w) a b) × (r < primeOf w) ⌝ }
+{
+    mul_add(w, a, b, 0)
+}
+
+// c − a b, by one reduction too.
+pub fn mul_sub(w: Width, a: u32, b: u32, c: u32) -> u32
+    requires { ⌜ (a < primeOf w) × (b < primeOf w) × (c < primeOf w) ⌝ }
+    ensures { λ r. ⌜ (r ≡ sub (primeOf w) c (mul (primeOf w) a b)) × (r < primeOf w) ⌝ }
+{
+    mul_add(w, modulus(w) - a, b, c)
 }
 
 // Whether y is the residue of v. A compiler asks by one product whether a difference is a multiple; a remainder takes two.
-fn reduces_to(v: u64, y: u16) -> bool
-    ensures { λ r. ⌜ r ≡ eqb (v % modulus) y ⌝ }
+fn reduces_to(w: Width, v: u64, y: u32) -> bool
+    ensures { λ r. ⌜ r ≡ eqb (v % primeOf w) y ⌝ }
 {
-    if MODULUS <= y {
+    let p = modulus(w);
+    if p <= y {
         return false;
     }
     if v < y as u64 {
         return false;
     }
-    (v - y as u64) % MODULUS as u64 == 0
+    reduced(w, v - y as u64) == 0
 }
 
-// a + b x + c x² + d x³, unreduced: Horner's rule for four coefficients, without a loop. Products of four numbers of 16 bits, and what is
-// added to them, still fit 64.
-fn cubic_sum(a: u16, b: u16, c: u16, d: u16, x: u16) -> u64
-    ensures { λ r. ⌜ r ≡ x * (x * (x * d + c) + b) + a ⌝ }
+// A number with the residue of a + b x + c x² + d x³: Horner's rule for four coefficients, without a loop. Products of four numbers of 16
+// bits, and what is added to them, fit 64; those of 31 bits are folded on the way.
+fn cubic_sum(w: Width, a: u32, b: u32, c: u32, d: u32, x: u32) -> u64
+    requires { ⌜ (a < primeOf w) × (b < primeOf w) × (c < primeOf w) × (d < primeOf w) × (x < primeOf w) ⌝ }
+    ensures { λ r. ⌜ r % primeOf w ≡ cubicValue (primeOf w) a b c d x ⌝ }
 {
     let by = x as u64;
     let high = by * d as u64 + c as u64;
-    let middle = by * high + b as u64;
-    by * middle + a as u64
+    match w {
+        Width::Narrow => {
+            let middle = by * high + b as u64;
+            by * middle + a as u64
+        }
+        Width::Wide => {
+            let middle = by * folded(high) + b as u64;
+            by * folded(middle) + a as u64
+        }
+    }
 }
 
-// Its residue, by one reduction.
-pub fn cubic_value(a: u16, b: u16, c: u16, d: u16, x: u16) -> u16
-    ensures { λ r. ⌜ r ≡ cubicValue modulus a b c d x ⌝ }
+// a + b x + c x² + d x³, by one reduction.
+pub fn cubic_value(w: Width, a: u32, b: u32, c: u32, d: u32, x: u32) -> u32
+    requires { ⌜ (a < primeOf w) × (b < primeOf w) × (c < primeOf w) × (d < primeOf w) × (x < primeOf w) ⌝ }
+    ensures { λ r. ⌜ (r ≡ cubicValue (primeOf w) a b c d x) × (r < primeOf w) ⌝ }
 {
-    (cubic_sum(a, b, c, d, x) % MODULUS as u64) as u16
+    reduced(w, cubic_sum(w, a, b, c, d, x))
 }
 
-// Whether that is y.
-pub fn is_cubic_value(a: u16, b: u16, c: u16, d: u16, x: u16, y: u16) -> bool
-    ensures { λ r. ⌜ r ≡ eqb (cubicValue modulus a b c d x) y ⌝ }
+// Whether that is y, which may be any number.
+pub fn is_cubic_value(w: Width, a: u32, b: u32, c: u32, d: u32, x: u32, y: u32) -> bool
+    requires { ⌜ (a < primeOf w) × (b < primeOf w) × (c < primeOf w) × (d < primeOf w) × (x < primeOf w) ⌝ }
+    ensures { λ r. ⌜ r ≡ eqb (cubicValue (primeOf w) a b c d x) y ⌝ }
 {
-    reduces_to(cubic_sum(a, b, c, d, x), y)
+    reduces_to(w, cubic_sum(w, a, b, c, d, x), y)
 }
 
 // The inverse of a residue that is not 0, turn by turn. Throughout the loop a * t is d: each turn puts what the prime is above or below
 // the nearest multiple of d, which is smaller, in the place of d.
-fn inverse_by_turns(a: u32) -> u32
-    requires { ⌜ (0 < a) × (a < modulus) ⌝ }
-    ensures { λ r. ⌜ (r ≡ inv modulus a) × (r < modulus) ⌝ }
+fn inverse_by_turns(w: Width, a: u32) -> u32
+    requires { ⌜ (0 < a) × (a < primeOf w) ⌝ }
+    ensures { λ r. ⌜ (r ≡ inv (primeOf w) a) × (r < primeOf w) ⌝ }
 {
+    let p = modulus(w);
     let mut d = a;
     let mut t: u32 = 1;
     while 1 < d {
-        let q = MODULUS as u32 / d;
-        let above = MODULUS as u32 % d;
+        let q = p / d;
+        let above = p % d;
         let below = d - above;
         if below < above {
-            t = product(t, q + 1);
+            t = product(w, t, q + 1);
             d = below;
         } else {
-            t = product(t, MODULUS as u32 - q);
+            t = product(w, t, p - q);
             d = above;
         }
     }
     t
 }
 
-// The inverse of a residue, and 0 of 0. The prime is 1 above a multiple of each number up to 16 but 11: these need no turn.
-fn inverse_of(a: u32) -> u32
-    requires { ⌜ a < modulus ⌝ }
-    ensures { λ r. ⌜ (r ≡ inv modulus a) × (r < modulus) ⌝ }
+// The inverse of a residue, and 0 of 0. A number that the prime is 1 above a multiple of needs no turn: 65,521 is that of each up to 16 but
+// 11, and 2,147,483,647 of half of them.
+fn inverse_of(w: Width, a: u32) -> u32
+    requires { ⌜ a < primeOf w ⌝ }
+    ensures { λ r. ⌜ (r ≡ inv (primeOf w) a) × (r < primeOf w) ⌝ }
 {
     if a <= 1 {
         return a;
     }
-    if MODULUS as u32 % a == 1 {
-        return MODULUS as u32 - MODULUS as u32 / a;
+    let p = modulus(w);
+    if p % a == 1 {
+        return p - p / a;
     }
-    inverse_by_turns(a)
+    inverse_by_turns(w, a)
 }
 
-// The slope from (x, y) to (z, w). One step on, nothing is divided.
-fn slope_of(x: u32, y: u32, z: u32, w: u32) -> u32
-    requires { ⌜ (x < modulus) × (y < modulus) × (z < modulus) × (w < modulus) ⌝ }
-    ensures { λ r. ⌜ (r ≡ slope modulus x y z w) × (r < modulus) ⌝ }
+// The slope from (x, y) to (z, v); 0 where x and z are one point. One step on, nothing is divided.
+pub fn slope(w: Width, x: u32, y: u32, z: u32, v: u32) -> u32
+    requires { ⌜ (x < primeOf w) × (y < primeOf w) × (z < primeOf w) × (v < primeOf w) ⌝ }
+    ensures { λ r. ⌜ (r ≡ slope (primeOf w) x y z v) × (r < primeOf w) ⌝ }
 {
-    let run = difference(z, x);
-    let rise = difference(w, y);
+    let run = difference(w, z, x);
+    let rise = difference(w, v, y);
     if run == 1 {
         return rise;
     }
-    product(rise, inverse_of(run))
-}
-
-// The slope from (x, y) to (z, w); 0 where x and z are one point.
-pub fn slope(x: u16, y: u16, z: u16, w: u16) -> u16
-    ensures { λ r. ⌜ r ≡ slope modulus x y z w ⌝ }
-{
-    slope_of(
-        (x % MODULUS) as u32,
-        (y % MODULUS) as u32,
-        (z % MODULUS) as u32,
-        (w % MODULUS) as u32,
-    ) as u16
+    product(w, rise, inverse_of(w, run))
 }
 
 // k (z − x): a product with one run more.
-fn times_run(k: u32, x: u32, z: u32) -> u32
-    requires { ⌜ (k < modulus) × (x < modulus) × (z < modulus) ⌝ }
-    ensures { λ r. ⌜ (r ≡ mul modulus k (sub modulus z x)) × (r < modulus) ⌝ }
+fn times_run(w: Width, k: u32, x: u32, z: u32) -> u32
+    requires { ⌜ (k < primeOf w) × (x < primeOf w) × (z < primeOf w) ⌝ }
+    ensures { λ r. ⌜ (r ≡ mul (primeOf w) k (sub (primeOf w) z x)) × (r < primeOf w) ⌝ }
 {
-    product(k, difference(z, x))
+    product(w, k, difference(w, z, x))
 }
 
 // a b − c d.
-fn determinant(a: u32, b: u32, c: u32, d: u32) -> u32
-    requires { ⌜ (a < modulus) × (b < modulus) × (c < modulus) × (d < modulus) ⌝ }
-    ensures { λ r. ⌜ (r ≡ sub modulus (mul modulus a b) (mul modulus c d)) × (r < modulus) ⌝ }
+fn determinant(w: Width, a: u32, b: u32, c: u32, d: u32) -> u32
+    requires { ⌜ (a < primeOf w) × (b < primeOf w) × (c < primeOf w) × (d < primeOf w) ⌝ }
+    ensures { λ r. ⌜ (r ≡ sub (primeOf w) (mul (primeOf w) a b) (mul (primeOf w) c d)) × (r < primeOf w) ⌝ }
 {
-    difference(product(a, b), product(c, d))
+    difference(w, product(w, a, b), product(w, c, d))
 }
 
 // The product of the six runs between four points; 0 also where they are near, and slope by slope is quicker.
-fn all_runs(x0: u32, x1: u32, x2: u32, x3: u32) -> u32
-    requires { ⌜ (x0 < modulus) × (x1 < modulus) × (x2 < modulus) × (x3 < modulus) ⌝ }
-    ensures { λ r. ⌜ ((0 < r) → r ≡ runs modulus x0 x1 x2 x3) × (r < modulus) ⌝ }
+fn all_runs(w: Width, x0: u32, x1: u32, x2: u32, x3: u32) -> u32
+    requires { ⌜ (x0 < primeOf w) × (x1 < primeOf w) × (x2 < primeOf w) × (x3 < primeOf w) ⌝ }
+    ensures { λ r. ⌜ ((0 < r) → r ≡ runs (primeOf w) x0 x1 x2 x3) × (r < primeOf w) ⌝ }
 {
-    let far = difference(x3, x0);
+    let far = difference(w, x3, x0);
     if far < NEAR {
         return 0;
     }
-    if MODULUS as u32 - far < NEAR {
+    if modulus(w) - far < NEAR {
         return 0;
     }
-    let low = times_run(times_run(difference(x2, x0), x1, x2), x0, x1);
-    product(low, times_run(times_run(far, x1, x3), x2, x3))
+    let low = times_run(w, times_run(w, difference(w, x2, x0), x1, x2), x0, x1);
+    product(w, low, times_run(w, times_run(w, far, x1, x3), x2, x3))
 }
 
 // Newton's coefficients by one inverse, that of the product of all runs: each coefficient is a quotient of products.
 fn by_one_inverse(
+    w: Width,
     all: u32,
-    first: u16,
+    first: u32,
     x0: u32,
     x1: u32,
     x2: u32,
@@ -197,67 +259,82 @@ fn by_one_inverse(
     e1: u32,
     e2: u32,
     e3: u32,
-) -> [u16; 4]
-    requires { ⌜ (x0 < modulus) × (x1 < modulus) × (x2 < modulus) × (x3 < modulus) ⌝ }
-    requires { ⌜ (e1 < modulus) × (e2 < modulus) × (e3 < modulus) ⌝ }
-    requires { ⌜ (all ≡ runs modulus x0 x1 x2 x3) × (0 < all) × (all < modulus) ⌝ }
-    ensures { λ r. ⌜ r ≡ fromRises modulus first x0 (x1 ∷ x2 ∷ x3 ∷ []) (e1 ∷ e2 ∷ e3 ∷ []) ⌝ }
+) -> [u32; 4]
+    requires { ⌜ (x0 < primeOf w) × (x1 < primeOf w) × (x2 < primeOf w) × (x3 < primeOf w) ⌝ }
+    requires { ⌜ (e1 < primeOf w) × (e2 < primeOf w) × (e3 < primeOf w) ⌝ }
+    requires { ⌜ (all ≡ runs (primeOf w) x0 x1 x2 x3) × (0 < all) × (all < primeOf w) ⌝ }
+    ensures { λ r. ⌜ r ≡ fromRises (primeOf w) first x0 (x1 ∷ x2 ∷ x3 ∷ []) (e1 ∷ e2 ∷ e3 ∷ []) ⌝ }
 {
-    let r1 = difference(x1, x0);
-    let r2 = difference(x2, x0);
-    let r3 = difference(x3, x0);
-    let second = times_run(r2, x1, x2);
-    let third = times_run(r3, x1, x3);
-    let c = determinant(e2, r1, e1, r2);
-    let e = determinant(e3, r1, e1, r3);
-    let d = determinant(e, second, c, third);
-    let over_all = inverse_of(all);
-    let over_low = product(over_all, times_run(third, x2, x3));
+    let r1 = difference(w, x1, x0);
+    let r2 = difference(w, x2, x0);
+    let r3 = difference(w, x3, x0);
+    let second = times_run(w, r2, x1, x2);
+    let third = times_run(w, r3, x1, x3);
+    let c = determinant(w, e2, r1, e1, r2);
+    let e = determinant(w, e3, r1, e1, r3);
+    let d = determinant(w, e, second, c, third);
+    let over_all = inverse_of(w, all);
+    let over_low = product(w, over_all, times_run(w, third, x2, x3));
     [
         first,
-        product(product(e1, second), over_low) as u16,
-        product(c, over_low) as u16,
-        product(d, over_all) as u16,
+        product(w, product(w, e1, second), over_low),
+        product(w, c, over_low),
+        product(w, d, over_all),
     ]
 }
 
 // Newton's coefficients from the first value and the rises from it to the others: by one inverse, or slope by slope, which is quick
 // where runs are small, since their inverses are found at once.
-fn from_rises(first: u16, x0: u32, x1: u32, x2: u32, x3: u32, e1: u32, e2: u32, e3: u32) -> [u16; 4]
-    requires { ⌜ (x0 < modulus) × (x1 < modulus) × (x2 < modulus) × (x3 < modulus) ⌝ }
-    requires { ⌜ (e1 < modulus) × (e2 < modulus) × (e3 < modulus) ⌝ }
-    ensures { λ r. ⌜ r ≡ fromRises modulus first x0 (x1 ∷ x2 ∷ x3 ∷ []) (e1 ∷ e2 ∷ e3 ∷ []) ⌝ }
+fn from_rises(
+    w: Width,
+    first: u32,
+    x0: u32,
+    x1: u32,
+    x2: u32,
+    x3: u32,
+    e1: u32,
+    e2: u32,
+    e3: u32,
+) -> [u32; 4]
+    requires { ⌜ (x0 < primeOf w) × (x1 < primeOf w) × (x2 < primeOf w) × (x3 < primeOf w) ⌝ }
+    requires { ⌜ (e1 < primeOf w) × (e2 < primeOf w) × (e3 < primeOf w) ⌝ }
+    ensures { λ r. ⌜ r ≡ fromRises (primeOf w) first x0 (x1 ∷ x2 ∷ x3 ∷ []) (e1 ∷ e2 ∷ e3 ∷ []) ⌝ }
 {
-    let all = all_runs(x0, x1, x2, x3);
+    let all = all_runs(w, x0, x1, x2, x3);
     if 0 < all {
-        return by_one_inverse(all, first, x0, x1, x2, x3, e1, e2, e3);
+        return by_one_inverse(w, all, first, x0, x1, x2, x3, e1, e2, e3);
     }
-    let b = slope_of(x0, 0, x1, e1);
-    let c = slope_of(x1, b, x2, slope_of(x0, 0, x2, e2));
-    let d = slope_of(x2, c, x3, slope_of(x1, b, x3, slope_of(x0, 0, x3, e3)));
-    [first, b as u16, c as u16, d as u16]
+    let b = slope(w, x0, 0, x1, e1);
+    let c = slope(w, x1, b, x2, slope(w, x0, 0, x2, e2));
+    let d = slope(w, x2, c, x3, slope(w, x1, b, x3, slope(w, x0, 0, x3, e3)));
+    [first, b, c, d]
 }
 
-// Newton's coefficients of four points: each number is reduced once.
-fn of_numbers(x0: u16, x1: u16, x2: u16, x3: u16, y0: u16, y1: u16, y2: u16, y3: u16) -> [u16; 4]
-    ensures { λ r. ⌜ r ≡ newton modulus (x0 ∷ x1 ∷ x2 ∷ x3 ∷ []) (y0 ∷ y1 ∷ y2 ∷ y3 ∷ []) ⌝ }
+// Newton's coefficients of four points: no list is written and read again.
+pub fn divided_differences(
+    w: Width,
+    x0: u32,
+    x1: u32,
+    x2: u32,
+    x3: u32,
+    y0: u32,
+    y1: u32,
+    y2: u32,
+    y3: u32,
+) -> [u32; 4]
+    requires { ⌜ (x0 < primeOf w) × (x1 < primeOf w) × (x2 < primeOf w) × (x3 < primeOf w) ⌝ }
+    requires { ⌜ (y0 < primeOf w) × (y1 < primeOf w) × (y2 < primeOf w) × (y3 < primeOf w) ⌝ }
+    ensures { λ r. ⌜ (r ≡ newton (primeOf w) (x0 ∷ x1 ∷ x2 ∷ x3 ∷ []) (y0 ∷ y1 ∷ y2 ∷ y3 ∷ [])) × All (λ c. c < primeOf w) r ⌝ }
 {
-    let start = (y0 % MODULUS) as u32;
     from_rises(
+        w,
         y0,
-        (x0 % MODULUS) as u32,
-        (x1 % MODULUS) as u32,
-        (x2 % MODULUS) as u32,
-        (x3 % MODULUS) as u32,
-        difference((y1 % MODULUS) as u32, start),
-        difference((y2 % MODULUS) as u32, start),
-        difference((y3 % MODULUS) as u32, start),
+        x0,
+        x1,
+        x2,
+        x3,
+        difference(w, y1, y0),
+        difference(w, y2, y0),
+        difference(w, y3, y0),
     )
-}
-
-// Newton's coefficients for four points: no list is written and read again.
-pub fn divided_differences(xs: [u16; 4], ys: [u16; 4]) -> [u16; 4]
-    ensures { λ r. ⌜ r ≡ newton modulus xs ys ⌝ }
-{
-    of_numbers(xs[0], xs[1], xs[2], xs[3], ys[0], ys[1], ys[2], ys[3])
 }

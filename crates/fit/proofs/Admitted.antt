@@ -16,8 +16,7 @@ use Rattle.answers.specs.declared.Refusal.the-variants.{WrongSize, WrongLength}
 use Rattle.answers.specs.declared.Decoding.the-variants.{Found, Nothing}
 use Rattle.answers.specs.Fits.{decoded, refusedFit}
 use Rattle.answers.proofs.Fits.{found-is, nothing-is}
-use Rattle.field.specs.Modulus.{modulus}
-use Rattle.field.proofs.Primes.{prime}
+use Rattle.field.specs.Arithmetic.{Prime}
 use Rattle.polynomial.specs.Polynomial.{Points}
 use Rattle.trial.specs.declared.Tried.{Tried}
 use Rattle.trial.specs.Results.{resultOf}
@@ -32,29 +31,29 @@ fitted-result r o e = ap fittedOf e ∙ cases o
     cases none = refl
     cases (some f) = refl
 
-module _ (t need : ℕ) (xs ys : List ℕ) where
+module _ (p t need : ℕ) (xs ys : List ℕ) where
   -- ---- refused
-  pub fit-degree : 3 < t → refusedFit WrongSize ≡ fitIn t need xs ys
+  pub fit-degree : 3 < t → refusedFit WrongSize ≡ fitIn p t need xs ys
   unfolding fitIn
   fit-degree h = rw (lt-leb t 3 h)
 
   module _ (degree : t ≤ 3) where
-    pub fit-lengths : (length xs ≡ length ys → ⊥) → refusedFit WrongLength ≡ fitIn t need xs ys
+    pub fit-lengths : (length xs ≡ length ys → ⊥) → refusedFit WrongLength ≡ fitIn p t need xs ys
     unfolding fitIn
     fit-lengths l = rw (le-leb t 3 degree, ne-eqb (length xs) (length ys) l)
 
-    pub fit-many : length xs ≡ length ys → 16 < length xs → refusedFit WrongLength ≡ fitIn t need xs ys
+    pub fit-many : length xs ≡ length ys → 16 < length xs → refusedFit WrongLength ≡ fitIn p t need xs ys
     unfolding fitIn
     fit-many l m = rw (le-leb t 3 degree, eq-eqb (length xs) (length ys) l, lt-leb (length xs) 16 m)
 
-    pub fit-few : length xs ≡ length ys → length xs ≤ 16 → need ≤ t → refusedFit WrongLength ≡ fitIn t need xs ys
+    pub fit-few : length xs ≡ length ys → length xs ≤ 16 → need ≤ t → refusedFit WrongLength ≡ fitIn p t need xs ys
     unfolding fitIn
     fit-few l m n =
         rw (le-leb t 3 degree, eq-eqb (length xs) (length ys) l, le-leb (length xs) 16 m, le-ltb t need n)
 
   -- ---- admitted
   module _ (a : Admitted t need xs ys) where
-    pub fit-admitted : fitIn t need xs ys ≡ decoded (fit modulus t need xs ys)
+    pub fit-admitted : fitIn p t need xs ys ≡ decoded (fit p t need xs ys)
     unfolding fitIn
     fit-admitted =
         let lengths = eq-eqb (length xs) (length ys) (a .bounded .lengths) in
@@ -62,20 +61,20 @@ module _ (t need : ℕ) (xs ys : List ℕ) where
         rw (le-leb t 3 (a .degree), lengths, most, lt-ltb t need (a .above))
 
     -- Nothing exactly if nothing fits.
-    pub fit-nothing-iff : Points modulus xs → (fitIn t need xs ys .outcome ≡ Nothing) ↔ ((f : List ℕ) → Fits modulus t need xs ys f → ⊥)
-    fit-nothing-iff ps =
-        let iff = fit-none-iff modulus prime t need xs ys ps (a .above) in
+    pub fit-nothing-iff : Prime p → Points p xs → (fitIn p t need xs ys .outcome ≡ Nothing) ↔ ((f : List ℕ) → Fits p t need xs ys f → ⊥)
+    fit-nothing-iff P ps =
+        let iff = fit-none-iff p P t need xs ys ps (a .above) in
         let same = ap (λ w. w .outcome) fit-admitted in (
-          λ e. iff .0 (nothing-is (fit modulus t need xs ys) (sym same ∙ e)),
+          λ e. iff .0 (nothing-is (fit p t need xs ys) (sym same ∙ e)),
           λ h. same ∙ ap (λ o. decoded o .outcome) (iff .1 h),
         )
 
     -- What is found fits.
-    pub fit-found-fits : fitIn t need xs ys .outcome ≡ Found
-        → (f : List ℕ) × Fits modulus t need xs ys f × (fitIn t need xs ys .coefficients ≡ pad 4 f)
-    fit-found-fits e =
-        let found = found-is (fit modulus t need xs ys) (sym (ap (λ w. w .outcome) fit-admitted) ∙ e) in (
+    pub fit-found-fits : Prime p → fitIn p t need xs ys .outcome ≡ Found
+        → (f : List ℕ) × Fits p t need xs ys f × (fitIn p t need xs ys .coefficients ≡ pad 4 f)
+    fit-found-fits P e =
+        let found = found-is (fit p t need xs ys) (sym (ap (λ w. w .outcome) fit-admitted) ∙ e) in (
           found .found,
-          fit-sound modulus prime t need xs ys (found .found) (found .is),
+          fit-sound p P t need xs ys (found .found) (found .is),
           ap (λ w. w .coefficients) (fit-admitted ∙ ap decoded (found .is)),
         )

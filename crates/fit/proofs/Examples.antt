@@ -6,7 +6,7 @@ use mathlib.Core.List.{List, [], _∷_, zipWith}
 use Prim.Native.Nat.{ℕ, _+_, _-_}
 use lib.ListN.{take}
 use Rattle.field.specs.Arithmetic.{add, sub, mul, inv, invWithin}
-use Rattle.field.specs.Modulus.{modulus}
+use Rattle.field.specs.Modulus.{modulus, wideModulus}
 use Rattle.interpolation.specs.Interpolation.{interpolate}
 use Rattle.lists.specs.Choices.{hide}
 use Rattle.trial.specs.Trial.{hits, pointsSent, through}
@@ -53,16 +53,19 @@ pub examples :
     -- n = 16, t = 3: four wrong among the first seven, so that all 35 choices fail; and three, so that only the last of them is right.
     × (fit modulus 3 13 (upTo 16) (37 ∷ 167 ∷ 479 ∷ 1041 ∷ 1945 ∷ 3251 ∷ 5059 ∷ 7421 ∷ right) ≡ none)
     × (fit modulus 3 13 (upTo 16) (37 ∷ 169 ∷ 477 ∷ 1041 ∷ 1940 ∷ 3251 ∷ 5052 ∷ 7421 ∷ right) ≡ some (5 ∷ 7 ∷ 11 ∷ 13 ∷ []))
+    -- Modulo the wide prime: the same line, −1 among the points; and 65,535 is a number like others.
+    × (fit wideModulus 1 3 ((wideModulus - 1) ∷ 100 ∷ 0 ∷ 5 ∷ []) (4 ∷ 307 ∷ 8 ∷ 22 ∷ []) ≡ some (7 ∷ 3 ∷ []))
+    × (fit wideModulus 1 4 (upTo 5) (65535 ∷ 65538 ∷ 999 ∷ 65544 ∷ 65547 ∷ []) ≡ some (65532 ∷ 3 ∷ []))
 unfolding zipWith fit hits sent pointsSent through interpolate add sub mul inv invWithin
-examples = (refl, refl, refl, refl, refl, refl, refl, refl, refl, refl, refl, refl, refl, refl)
+examples = (refl, refl, refl, refl, refl, refl, refl, refl, refl, refl, refl, refl, refl, refl, refl, refl)
 
 -- What the code answers: four coefficients; a refusal for a degree above 3, for lists of two lengths, for 17 points and for a need of t.
 pub answers :
-    (fitIn 1 4 (upTo 5) (10 ∷ 13 ∷ 999 ∷ 19 ∷ 22 ∷ []) ≡ decoded (some (7 ∷ 3 ∷ 0 ∷ 0 ∷ [])))
-    × (fitIn 1 4 (upTo 5) (10 ∷ 13 ∷ 999 ∷ 998 ∷ 22 ∷ []) ≡ decoded none)
-    × (fitIn 4 4 (upTo 4) (0 ∷ 0 ∷ 0 ∷ 0 ∷ 0 ∷ []) ≡ refusedFit WrongSize)
-    × (fitIn 1 4 (upTo 4) (0 ∷ 0 ∷ 0 ∷ 0 ∷ 0 ∷ []) ≡ refusedFit WrongLength)
-    × (fitIn 1 4 (0 ∷ upTo 16) (0 ∷ upTo 16) ≡ refusedFit WrongLength)
-    × (fitIn 1 1 (upTo 5) (0 ∷ 0 ∷ 0 ∷ 0 ∷ 0 ∷ []) ≡ refusedFit WrongLength)
+    (fitIn modulus 1 4 (upTo 5) (10 ∷ 13 ∷ 999 ∷ 19 ∷ 22 ∷ []) ≡ decoded (some (7 ∷ 3 ∷ 0 ∷ 0 ∷ [])))
+    × (fitIn modulus 1 4 (upTo 5) (10 ∷ 13 ∷ 999 ∷ 998 ∷ 22 ∷ []) ≡ decoded none)
+    × (fitIn modulus 4 4 (upTo 4) (0 ∷ 0 ∷ 0 ∷ 0 ∷ 0 ∷ []) ≡ refusedFit WrongSize)
+    × (fitIn modulus 1 4 (upTo 4) (0 ∷ 0 ∷ 0 ∷ 0 ∷ 0 ∷ []) ≡ refusedFit WrongLength)
+    × (fitIn modulus 1 4 (0 ∷ upTo 16) (0 ∷ upTo 16) ≡ refusedFit WrongLength)
+    × (fitIn modulus 1 1 (upTo 5) (0 ∷ 0 ∷ 0 ∷ 0 ∷ 0 ∷ []) ≡ refusedFit WrongLength)
 unfolding zipWith fitIn fit hits sent pointsSent through interpolate add sub mul inv invWithin
 answers = (refl, refl, refl, refl, refl, refl)

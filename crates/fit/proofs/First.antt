@@ -11,7 +11,6 @@ use lib.ListN.{take, drop}
 use Rattle.lists.specs.Choices.{choices}
 use Rattle.lists.proofs.Choices.{first-append, choices-front}
 use Rattle.lists.proofs.Sublists.{take-take}
-use Rattle.field.specs.Modulus.{modulus}
 use Rattle.trial.specs.declared.Tried.{Tried}
 use Rattle.trial.specs.Trial.{hits, pointsSent, through, firstFitting, tried}
 use Rattle.trial.specs.Results.{resultOf}
@@ -36,33 +35,33 @@ tried-front p need xs ys i k s f e =
     ∙ first-append test (polynomials (choices k (take (k + 0) qs))) (polynomials others)
     ∙ ap (λ o. orElse o (firstFitting p need xs ys (polynomials others))) e
 
-module _ (t need : ℕ) (xs ys : List ℕ) where
+module _ (p t need : ℕ) (xs ys : List ℕ) where
   -- All choices are tried from the first point on.
-  all-choices : (n e : ℕ) → n ≡ sent modulus ys → e ≡ n - need → tried modulus need xs ys 0 (t + 1) e ≡ fit modulus t need xs ys
+  all-choices : (n e : ℕ) → n ≡ sent p ys → e ≡ n - need → tried p need xs ys 0 (t + 1) e ≡ fit p t need xs ys
   unfolding fit tried
   all-choices n e counted spare = rw (add-one t, spare, counted) refl
 
-  pub fit-search : (r : Tried) (n e : ℕ) → n ≡ sent modulus ys → e ≡ n - need → r ≡ resultOf (tried modulus need xs ys 0 (t + 1) e)
-      → fittedOf r ≡ decoded (fit modulus t need xs ys)
-  fit-search r n e counted spare told = fitted-result r (fit modulus t need xs ys) (told ∙ ap resultOf (all-choices n e counted spare))
+  pub fit-search : (r : Tried) (n e : ℕ) → n ≡ sent p ys → e ≡ n - need → r ≡ resultOf (tried p need xs ys 0 (t + 1) e)
+      → fittedOf r ≡ decoded (fit p t need xs ys)
+  fit-search r n e counted spare told = fitted-result r (fit p t need xs ys) (told ∙ ap resultOf (all-choices n e counted spare))
 
   abbrev spare : ℕ
-  spare = sent modulus ys - need
+  spare = sent p ys - need
 
-  whole : tried modulus need xs ys 0 (t + 1) spare ≡ fit modulus t need xs ys
-  whole = all-choices (sent modulus ys) spare refl refl
+  whole : tried p need xs ys 0 (t + 1) spare ≡ fit p t need xs ys
+  whole = all-choices (sent p ys) spare refl refl
 
   -- What the first points sent give is what fits.
-  pub fit-first : (r : Tried) → r ≡ resultOf (tried modulus need xs ys 0 (t + 1) 0) → r .found ≡ true
-      → fittedOf r ≡ decoded (fit modulus t need xs ys)
+  pub fit-first : (r : Tried) → r ≡ resultOf (tried p need xs ys 0 (t + 1) 0) → r .found ≡ true
+      → fittedOf r ≡ decoded (fit p t need xs ys)
   fit-first r e told =
       let (f, some-f) = result-found _ (sym (ap (λ w. w .found) e) ∙ told) in
-      fitted-result r (fit modulus t need xs ys)
-      (e ∙ ap resultOf (some-f ∙ sym (tried-front modulus need xs ys 0 (t + 1) spare f some-f) ∙ whole))
+      fitted-result r (fit p t need xs ys)
+      (e ∙ ap resultOf (some-f ∙ sym (tried-front p need xs ys 0 (t + 1) spare f some-f) ∙ whole))
 
   -- Where they give nothing, and none may be wrong, nothing does.
-  pub fit-first-none : (n : ℕ) → n ≡ sent modulus ys → n ≤ need → tried modulus need xs ys 0 (t + 1) 0 ≡ none
-      → decoded none ≡ decoded (fit modulus t need xs ys)
+  pub fit-first-none : (n : ℕ) → n ≡ sent p ys → n ≤ need → tried p need xs ys 0 (t + 1) 0 ≡ none
+      → decoded none ≡ decoded (fit p t need xs ys)
   fit-first-none n counted few lost =
       let none-spare : 0 ≡ spare = omega arith in
-      ap decoded (sym lost ∙ ap (tried modulus need xs ys 0 (t + 1)) none-spare ∙ whole)
+      ap decoded (sym lost ∙ ap (tried p need xs ys 0 (t + 1)) none-spare ∙ whole)

@@ -2,7 +2,7 @@
 --   Admitted t need xs ys   what is decoded; fitTests t need xs ys are the tests for it, in the order of their numbers
 --   decodedIf a o           what is answered where the tests gave a: the refusal, or else what was decoded
 --   fittedOf r              what is answered for what was found by trial
---   fitIn t need xs ys      what `fit` answers
+--   fitIn p t need xs ys    what `fit` answers
 -- Laws: proofs/Admitted.
 use mathlib.Core.Bool.{cond}
 use mathlib.Core.Option.{Option}
@@ -17,7 +17,6 @@ use Rattle.answers.specs.declared.Decoding.the-variants.{Found, Nothing}
 use Rattle.answers.specs.declared.Fitted.{Fitted}
 use Rattle.answers.specs.Refusals.{Test, lowest}
 use Rattle.answers.specs.Fits.{decoded, refusedFit}
-use Rattle.field.specs.Modulus.{modulus}
 use Rattle.trial.specs.declared.Tried.{Tried}
 use Rattle.trial.specs.Results.{Bounded}
 use Rattle.fit.specs.Fit.{fit}
@@ -48,5 +47,5 @@ abbrev pub fittedOf : Tried → Fitted
 fittedOf r = record { outcome = cond (r .found) Found Nothing; coefficients = r .coefficients }
 
 -- Refused, or what fits.
-unfoldable pub fitIn : ℕ → ℕ → List ℕ → List ℕ → Fitted
-fitIn t need xs ys = decodedIf (lowest (fitTests t need xs ys)) (fit modulus t need xs ys)
+unfoldable pub fitIn : ℕ → ℕ → ℕ → List ℕ → List ℕ → Fitted
+fitIn p t need xs ys = decodedIf (lowest (fitTests t need xs ys)) (fit p t need xs ys)

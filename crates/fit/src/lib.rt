@@ -6,8 +6,8 @@ ghost use Prim.Native.Nat.{_+_, _≤_, _<_};
 ghost use lib.Dec.{ltb, eqb};
 ghost use lib.ListN.{length, take};
 ghost use Rattle.answers.specs.Fits.{decoded};
-ghost use Rattle.field.specs.Modulus.{modulus};
-ghost use Rattle.polynomial.specs.Polynomial.{Points};
+ghost use Rattle.field.specs.Modulus.{primeOf};
+ghost use Rattle.polynomial.specs.Polynomial.{Residues, Points};
 ghost use Rattle.trial.specs.Trial.{pointsOf, pointsSent, fittingThrough, tried};
 ghost use Rattle.trial.specs.Results.{Bounded, resultOf};
 ghost use Rattle.fit.specs.Fit.{sent, fit};
@@ -17,6 +17,7 @@ ghost use Rattle.fit.specs.Pairs.{fourAt};
 use answers::Decoding;
 use answers::Fitted;
 use answers::Refusal;
+use field::Width;
 use trial::Tried;
 
 // What is answered for what was found by trial.
@@ -58,15 +59,15 @@ fn copied(fitted: Fitted) -> Fitted
     }
 }
 
-// How many values were sent. The loop goes from the end: n is always the count of the values from i on.
-fn sent(ys: &[u16]) -> usize
-    ensures { λ r. ⌜ r ≡ sent modulus (now (ys .entry)) ⌝ }
+// How many values were sent, p being the prime. The loop goes from the end: n is always the count of the values from i on.
+fn sent(p: u32, ys: &[u32]) -> usize
+    ensures { λ r. ⌜ r ≡ sent p (now (ys .entry)) ⌝ }
 {
     let mut n = 0;
     let mut i = ys.len();
     while 0 < i {
         i -= 1;
-        if ys[i] < field::MODULUS {
+        if ys[i] < p {
             n += 1;
         }
     }
@@ -74,9 +75,9 @@ fn sent(ys: &[u16]) -> usize
 }
 
 // The place behind the next k values sent from place i on.
-fn behind(ys: &[u16], i: usize, k: usize) -> usize
+fn behind(p: u32, ys: &[u32], i: usize, k: usize) -> usize
     requires { ⌜ i ≤ length (now ys) ⌝ }
-    ensures { λ r. ⌜ Behind modulus k (now (ys .entry)) i r ⌝ }
+    ensures { λ r. ⌜ Behind p k (now (ys .entry)) i r ⌝ }
 {
     let mut j = i;
     let mut more = k;
@@ -86,7 +87,7 @@ fn behind(ys: &[u16], i: usize, k: usize) -> usize
         }
         let y = ys[j];
         j += 1;
-        if y < field::MODULUS {
+        if y < p {
             more -= 1;
         }
     }
@@ -95,18 +96,27 @@ fn behind(ys: &[u16], i: usize, k: usize) -> usize
 
 // The search where at most one polynomial can fit, and none goes through the first t + 1 points sent. So one of them is wrong, and
 // behind them one fewer: the next t + 1 are tried alone, and so on while enough points are left, and only then those that are left.
-fn groups(t: usize, need: usize, xs: &[u16], ys: &[u16], sent: usize, spare: usize) -> Fitted
-    requires { ⌜ Grouping modulus t need (now xs) (now ys) 0 sent spare × (0 < spare) ⌝ }
-    ensures { λ r. ⌜ r ≡ decoded (fit modulus t need (now (xs .entry)) (now (ys .entry))) ⌝ }
+fn groups(
+    w: Width,
+    t: usize,
+    need: usize,
+    xs: &[u32],
+    ys: &[u32],
+    sent: usize,
+    spare: usize,
+) -> Fitted
+    requires { ⌜ Grouping (primeOf w) t need (now xs) (now ys) 0 sent spare × (0 < spare) ⌝ }
+    ensures { λ r. ⌜ r ≡ decoded (fit (primeOf w) t need (now (xs .entry)) (now (ys .entry))) ⌝ }
 {
+    let p = field::modulus(w);
     let mut i = 0;
     let mut left = sent;
     let mut wrong = spare;
     while 2 * t + 1 + wrong <= left {
-        i = behind(ys, i, t + 1);
+        i = behind(p, ys, i, t + 1);
         left -= t + 1;
         wrong -= 1;
-        let group = trial::next(xs, ys, need, i, t + 1);
+        let group = trial::next(w, xs, ys, need, i, t + 1);
         if group.found {
             return decoded(group);
         }
@@ -114,14 +124,14 @@ fn groups(t: usize, need: usize, xs: &[u16], ys: &[u16], sent: usize, spare: usi
             return nothing();
         }
     }
-    decoded(trial::choices(xs, ys, need, i, t + 1, wrong))
+    decoded(trial::choices(w, xs, ys, need, i, t + 1, wrong))
 }
 
 // The first ten points sent.
-fn first_ten(xs: &[u16], ys: &[u16], px: &mut [u16], py: &mut [u16])
-    requires { ⌜ (length (now xs) ≡ length (now ys)) × (10 ≤ length (pointsSent modulus (now xs) (now ys))) ⌝ }
+fn first_ten(p: u32, xs: &[u32], ys: &[u32], px: &mut [u32], py: &mut [u32])
+    requires { ⌜ (length (now xs) ≡ length (now ys)) × (10 ≤ length (pointsSent p (now xs) (now ys))) ⌝ }
     requires { ⌜ (length (now px) ≡ 10) × (length (now py) ≡ 10) ⌝ }
-    ensures { λ r. ⌜ pointsOf (now (px .exit)) (now (py .exit)) ≡ take 10 (pointsSent modulus (now (xs .entry)) (now (ys .entry))) ⌝ }
+    ensures { λ r. ⌜ pointsOf (now (px .exit)) (now (py .exit)) ≡ take 10 (pointsSent p (now (xs .entry)) (now (ys .entry))) ⌝ }
 {
     let mut d = 0;
     let mut i = 0;
@@ -132,7 +142,7 @@ fn first_ten(xs: &[u16], ys: &[u16], px: &mut [u16], py: &mut [u16])
         let x = xs[i];
         let y = ys[i];
         i += 1;
-        if y < field::MODULUS {
+        if y < p {
             px[d] = x;
             py[d] = y;
             d += 1;
@@ -141,7 +151,7 @@ fn first_ten(xs: &[u16], ys: &[u16], px: &mut [u16], py: &mut [u16])
 }
 
 // The numbers at places a and a + 1, b and b + 1.
-fn four_at(list: &[u16; 10], a: usize, b: usize) -> [u16; 4]
+fn four_at(list: &[u32; 10], a: usize, b: usize) -> [u32; 4]
     requires { ⌜ (a ≤ 8) × (b ≤ 8) ⌝ }
     ensures { λ r. ⌜ r ≡ fourAt a b (now (list .entry)) ⌝ }
 {
@@ -150,19 +160,22 @@ fn four_at(list: &[u16; 10], a: usize, b: usize) -> [u16; 4]
 
 // The polynomial through two of five pairs of points, those at places a and a + 1, b and b + 1, if it agrees with enough of all points.
 fn test_pairs(
-    xs: &[u16],
-    ys: &[u16],
+    w: Width,
+    xs: &[u32],
+    ys: &[u32],
     need: usize,
-    px: &[u16; 10],
-    py: &[u16; 10],
+    px: &[u32; 10],
+    py: &[u32; 10],
     a: usize,
     b: usize,
 ) -> Tried
     requires { ⌜ Bounded (now xs) (now ys) × (a ≤ 8) × (b ≤ 8) ⌝ }
-    ensures { λ r. ⌜ r ≡ resultOf (fittingThrough modulus need (now (xs .entry)) (now (ys .entry))
+    requires { ⌜ Residues (primeOf w) (now xs)
+        × Residues (primeOf w) (fourAt a b (now px)) × Residues (primeOf w) (fourAt a b (now py)) ⌝ }
+    ensures { λ r. ⌜ r ≡ resultOf (fittingThrough (primeOf w) need (now (xs .entry)) (now (ys .entry))
         (fourAt a b (now (px .entry))) (fourAt a b (now (py .entry)))) ⌝ }
 {
-    trial::four(xs, ys, need, four_at(px, a, b), four_at(py, a, b))
+    trial::four(w, xs, ys, need, four_at(px, a, b), four_at(py, a, b))
 }
 
 // Two of five pairs of points, each by the place of its first point: every choice but that of the first two.
@@ -172,13 +185,13 @@ const SECOND_PAIRS: [usize; 9] = [6, 4, 6, 4, 6, 8, 8, 8, 8];
 
 // The search for a cubic where at most one fits, at most three of the points sent are wrong, and one of the first four is. Of five
 // pairs of points two have no wrong point, so ten choices are enough where points one by one would take 35.
-fn by_pairs(xs: &[u16], ys: &[u16], need: usize, sent: usize) -> Fitted
-    requires { ⌜ Grouping modulus 3 need (now xs) (now ys) 0 sent 3 × (10 ≤ sent) ⌝ }
-    ensures { λ r. ⌜ r ≡ decoded (fit modulus 3 need (now (xs .entry)) (now (ys .entry))) ⌝ }
+fn by_pairs(w: Width, xs: &[u32], ys: &[u32], need: usize, sent: usize) -> Fitted
+    requires { ⌜ Grouping (primeOf w) 3 need (now xs) (now ys) 0 sent 3 × (10 ≤ sent) ⌝ }
+    ensures { λ r. ⌜ r ≡ decoded (fit (primeOf w) 3 need (now (xs .entry)) (now (ys .entry))) ⌝ }
 {
-    let mut px = [0u16; 10];
-    let mut py = [0u16; 10];
-    first_ten(xs, ys, &mut px, &mut py);
+    let mut px = [0u32; 10];
+    let mut py = [0u32; 10];
+    first_ten(field::modulus(w), xs, ys, &mut px, &mut py);
     // A constant would be written to memory anew wherever it is named.
     let firsts = FIRST_PAIRS;
     let seconds = SECOND_PAIRS;
@@ -186,7 +199,7 @@ fn by_pairs(xs: &[u16], ys: &[u16], need: usize, sent: usize) -> Fitted
     while k < 9 {
         let a = firsts[k];
         let b = seconds[k];
-        let tested = test_pairs(xs, ys, need, &px, &py, a, b);
+        let tested = test_pairs(w, xs, ys, need, &px, &py, a, b);
         if tested.found {
             return decoded(tested);
         }
@@ -209,32 +222,32 @@ fn short_of_groups(t: usize, wrong: usize, n: usize) -> bool
 }
 
 // The search where nothing that fits goes through the first t + 1 points sent.
-fn later(t: usize, need: usize, xs: &[u16], ys: &[u16]) -> Fitted
+fn later(w: Width, t: usize, need: usize, xs: &[u32], ys: &[u32]) -> Fitted
     requires { ⌜ (t ≤ 3) × Bounded (now xs) (now ys)
-        × (tried modulus need (now xs) (now ys) 0 (t + 1) 0 ≡ none) × Points modulus (now xs) ⌝ }
-    ensures { λ r. ⌜ r ≡ decoded (fit modulus t need (now (xs .entry)) (now (ys .entry))) ⌝ }
+        × (tried (primeOf w) need (now xs) (now ys) 0 (t + 1) 0 ≡ none) × Points (primeOf w) (now xs) ⌝ }
+    ensures { λ r. ⌜ r ≡ decoded (fit (primeOf w) t need (now (xs .entry)) (now (ys .entry))) ⌝ }
 {
-    let n = sent(ys);
+    let n = sent(field::modulus(w), ys);
     if n <= need {
         return nothing();
     }
     let spare = n - need;
     if spare + t < need {
         if short_of_groups(t, spare, n) {
-            return copied(by_pairs(xs, ys, need, n));
+            return copied(by_pairs(w, xs, ys, need, n));
         }
-        return copied(groups(t, need, xs, ys, n, spare));
+        return copied(groups(w, t, need, xs, ys, n, spare));
     }
-    decoded(trial::choices(xs, ys, need, 0, t + 1, spare))
+    decoded(trial::choices(w, xs, ys, need, 0, t + 1, spare))
 }
 
 // The polynomial of degree at most t that agrees with at least `need` of the points (xs[i], ys[i]), if one does. A degree above 3 is
 // refused as a wrong size; lists of two lengths, more than 16 points, or a need of t or less, as a wrong length. That the points are
 // distinct residues is the caller's to show: only then is none found only where there is none.
 // The first t + 1 points sent come first in any case, and mostly none of them is wrong: they are tried before anything is asked.
-pub fn fit(t: usize, need: usize, xs: &[u16], ys: &[u16]) -> Fitted
-    requires { ⌜ Points modulus (now xs) ⌝ }
-    ensures { λ r. ⌜ r ≡ fitIn t need (now (xs .entry)) (now (ys .entry)) ⌝ }
+pub fn fit(w: Width, t: usize, need: usize, xs: &[u32], ys: &[u32]) -> Fitted
+    requires { ⌜ Points (primeOf w) (now xs) ⌝ }
+    ensures { λ r. ⌜ r ≡ fitIn (primeOf w) t need (now (xs .entry)) (now (ys .entry)) ⌝ }
 {
     if 3 < t {
         return answers::refused_fit(Refusal::WrongSize);
@@ -248,9 +261,9 @@ pub fn fit(t: usize, need: usize, xs: &[u16], ys: &[u16]) -> Fitted
     if need <= t {
         return answers::refused_fit(Refusal::WrongLength);
     }
-    let first = trial::next(xs, ys, need, 0, t + 1);
+    let first = trial::next(w, xs, ys, need, 0, t + 1);
     if first.found {
         return decoded(first);
     }
-    copied(later(t, need, xs, ys))
+    copied(later(w, t, need, xs, ys))
 }

@@ -1,14 +1,15 @@
 -- The lamp (docs/PROTOCOL.md, "A lamp"): one party's state and its calls, refused or not, at every state.
---   madeWith n t i T  the lamp as made with the table T; made n t i: without one
---   waiting n t i a   a lamp that nothing was done with, with its table in the array a
---   tableOf a         the points of the parties, as the party a has them
---   Valid p a         the party's size, number and table are the protocol's
---   Call, tests p l c a call, and what it is looked at for, in the order of the refusals; lentTests, sayingTests: of its kinds
---   makingTests p a T what a making is looked at for; partyTests a: what is asked of the party alone
---   settled p l S     what settling with the happy set S gives
---   outcome p l c     the reply to a call that no test refuses; step p l c: the reply to any call
---   after p l cs      the lamp after a list of calls
---   makeWith, make    the reply to a making, with a table and without
+--   madeWith w n t i T   the lamp as made with the table T, for numbers of the width w; made w n t i: without one
+--   waiting w n t i a    a lamp that nothing was done with, with its table in the array a
+--   itsPrime a           the prime that the party a computes with; tableOf a: the points of the parties, as it has them
+--   Valid a              the party's size, number and table are the protocol's
+--   Call, tests l c      a call, and what it is looked at for, in the order of the refusals; partyTests, widthTests, stateTests, lentTests:
+--                        parts of that
+--   makingTests a T      what a making is looked at for; keptTests: the same by the table that is kept
+--   settled l S          what settling with the happy set S gives
+--   outcome l c          the reply to a call that no test refuses; step l c: the reply to any call
+--   after l cs           the lamp after a list of calls
+--   makeWith, make       the reply to a making, with a table and without
 -- Laws: proofs/Calls, proofs/Checks, proofs/Outcomes.
 use mathlib.Core.Path.{_≡_}
 use mathlib.Core.Bool.{Bool, true, cond, not}
@@ -19,6 +20,8 @@ use lib.Count.{ones}
 use lib.Dec.{eqb, leb}
 use lib.ListN.{length, take, replicate}
 use Rattle.lists.specs.Tabulate.{tabulate, pad}
+use Rattle.field.specs.declared.Width.{Width}
+use Rattle.field.specs.Modulus.{primeOf, sameWidth}
 use Rattle.happy.specs.Happy.{happySet}
 use Rattle.parties.specs.Parties.{sizes, isParty, member, entry}
 use Rattle.tables.specs.Tables.{oneTo, isTable, tableTests, inArray}
@@ -28,7 +31,7 @@ use Rattle.answers.specs.declared.Stage.{Stage}
 use Rattle.answers.specs.declared.Stage.the-variants.{Waiting, Dealt, Reported, Holding, Closed}
 use Rattle.answers.specs.declared.Refusal.{Refusal}
 use Rattle.answers.specs.declared.Refusal.the-variants.{WrongSize, WrongNumber, WrongLength, WrongStage, AlteredReport, DealerRejected}
-use Rattle.answers.specs.declared.Refusal.the-variants.{NoColumn, NoOpening, WrongTable}
+use Rattle.answers.specs.declared.Refusal.the-variants.{NoColumn, NoOpening, WrongTable, WrongWidth}
 use Rattle.answers.specs.declared.Answer.{Answer}
 use Rattle.answers.specs.declared.Answer.the-variants.{Done, Pair, Report, Accepted, Opened, Refused}
 use Rattle.answers.specs.declared.Admission.{Admission}
@@ -44,9 +47,9 @@ use Rattle.lamp.specs.declared.Lamp.{Lamp}
 use Rattle.lamp.specs.declared.Reply.{Reply}
 
 -- A lamp that nothing was done with, with its table in an array.
-abbrev pub waiting : ℕ → ℕ → ℕ → List ℕ → Lamp
-waiting n t i array = record {
-  party = record { n = n; t = t; number = i; table = array };
+abbrev pub waiting : Width → ℕ → ℕ → ℕ → List ℕ → Lamp
+waiting w n t i array = record {
+  party = record { n = n; t = t; number = i; width = w; table = array };
   sharing = record {
     stage = Waiting;
     row = replicate 4 0;
@@ -58,23 +61,27 @@ waiting n t i array = record {
   };
 }
 
--- The lamp as made for n, t and its number, with the table T.
-abbrev pub madeWith : ℕ → ℕ → ℕ → List ℕ → Lamp
-madeWith n t i T = waiting n t i (inArray n T)
+-- The lamp as made for a width, n, t and its number, with the table T.
+abbrev pub madeWith : Width → ℕ → ℕ → ℕ → List ℕ → Lamp
+madeWith w n t i T = waiting w n t i (inArray n T)
 
 -- Without a table the points are 1 to n.
-abbrev pub made : ℕ → ℕ → ℕ → Lamp
-made n t i = madeWith n t i (oneTo n)
+abbrev pub made : Width → ℕ → ℕ → ℕ → Lamp
+made w n t i = madeWith w n t i (oneTo n)
+
+-- A party computes with the prime of its width.
+abbrev pub itsPrime : Party → ℕ
+itsPrime a = primeOf (a .width)
 
 -- The first n numbers of the array count.
 abbrev pub tableOf : Party → List ℕ
 tableOf a = take (a .n) (a .table)
 
 -- The party's size, number and table are the protocol's.
-pub record Valid (p : ℕ) (a : Party) : Type 0 where
+pub record Valid (a : Party) : Type 0 where
   pub size : sizes (a .n) (a .t) ≡ true
   pub party : isParty (a .n) (a .number) ≡ true
-  pub table : isTable p (a .n) (tableOf a) ≡ true
+  pub table : isTable (itsPrime a) (a .n) (tableOf a) ≡ true
 
 -- ---- replies
 
@@ -96,19 +103,25 @@ guard l (Fail why) r = refuse l why
 abbrev pub partyTests : Party → List Test
 partyTests a = (sizes (a .n) (a .t), WrongSize) ∷ (isParty (a .n) (a .number), WrongNumber) ∷ []
 
--- Then 3, whether the lent list fits; 14, right after it, whether the points are a table; and 4, whether the stage takes the call.
-abbrev pub lentTests : ℕ → Party → Bool → Bool → List Test
-lentTests p a fits takes =
-    partyTests a ++ (fits, WrongLength) ∷ (isTable p (a .n) (tableOf a), WrongTable) ∷ (takes, WrongStage) ∷ []
+-- 18, right after 2: whether the call is of the party's own width.
+abbrev pub widthTests : Width → Party → List Test
+widthTests w a = (sameWidth w (a .width), WrongWidth) ∷ []
 
--- A saying is lent no list, and names a party.
-abbrev pub sayingTests : ℕ → Party → Bool → Bool → List Test
-sayingTests p a named takes =
-    partyTests a ++ (named, WrongNumber) ∷ (isTable p (a .n) (tableOf a), WrongTable) ∷ (takes, WrongStage) ∷ []
+-- 14, whether the points are a table; and 4, whether the stage takes the call.
+abbrev pub stateTests : Party → Bool → List Test
+stateTests a takes = (isTable (itsPrime a) (a .n) (tableOf a), WrongTable) ∷ (takes, WrongStage) ∷ []
+
+-- Before these, of a call that is lent a list: 3, whether it fits.
+abbrev pub lentTests : Party → Bool → Bool → List Test
+lentTests a fits takes = (fits, WrongLength) ∷ stateTests a takes
 
 -- A making is lent the table.
-abbrev pub makingTests : ℕ → Party → List ℕ → List Test
-makingTests p a T = partyTests a ++ tableTests p (a .n) T
+abbrev pub makingTests : Party → List ℕ → List Test
+makingTests a T = partyTests a ++ tableTests (itsPrime a) (a .n) T
+
+-- The same, asked of the table that the party keeps, which was lent in the right length or not.
+abbrev pub keptTests : Party → Bool → List Test
+keptTests a fits = partyTests a ++ (fits, WrongLength) ∷ (isTable (itsPrime a) (a .n) (tableOf a), WrongTable) ∷ []
 
 -- The sharing is at this stage.
 abbrev pub isAt : Stage → Sharing → Bool
@@ -124,13 +137,14 @@ columnOfLamp l = take (suc (l .party .t)) (l .sharing .column)
 
 -- ---- 1. taking a deal
 
-unfoldable pub withDeal : Lamp → List ℕ → Lamp
-withDeal l d = record {
+-- The lamp with this row and column, each in an array.
+abbrev pub withRowAndColumn : Lamp → List ℕ → List ℕ → Lamp
+withRowAndColumn l row column = record {
   party = l .party;
   sharing = record {
     stage = Dealt;
-    row = pad 4 (rowOf (l .party .t) d);
-    column = pad 4 (columnOf (l .party .t) d);
+    row = row;
+    column = column;
     heard = l .sharing .heard;
     report = l .sharing .report;
     happy = l .sharing .happy;
@@ -138,10 +152,13 @@ withDeal l d = record {
   };
 }
 
+unfoldable pub withDeal : Lamp → List ℕ → Lamp
+withDeal l d = withRowAndColumn l (pad 4 (rowOf (l .party .t) d)) (pad 4 (columnOf (l .party .t) d))
+
 -- ---- 2. saying the pair for party j
 
-unfoldable pub saidPair : ℕ → Lamp → ℕ → ℕ × ℕ
-saidPair p l j = pairFor p (tableOf (l .party)) (l .party .number) (rowOfLamp l) (columnOfLamp l) j
+unfoldable pub saidPair : Lamp → ℕ → ℕ × ℕ
+saidPair l j = pairFor (itsPrime (l .party)) (tableOf (l .party)) (l .party .number) (rowOfLamp l) (columnOfLamp l) j
 
 -- ---- 3. hearing n pairs
 
@@ -149,22 +166,27 @@ saidPair p l j = pairFor p (tableOf (l .party)) (l .party .number) (rowOfLamp l)
 abbrev pub firsts : ℕ → List ℕ → List ℕ
 firsts n hs = tabulate (λ k. firstFrom hs (suc k)) n
 
-unfoldable pub reportFrom : ℕ → Lamp → List ℕ → ℕ
-reportFrom p l hs = reportOf p (l .party .n) (tableOf (l .party)) (l .party .number) (rowOfLamp l) (columnOfLamp l) hs
+unfoldable pub reportFrom : Lamp → List ℕ → ℕ
+reportFrom l hs =
+    reportOf (itsPrime (l .party)) (l .party .n) (tableOf (l .party)) (l .party .number) (rowOfLamp l) (columnOfLamp l) hs
 
-unfoldable pub withPairs : ℕ → Lamp → List ℕ → Lamp
-withPairs p l hs = record {
+-- The lamp with the first numbers heard, in an array, and its report.
+abbrev pub withReport : Lamp → List ℕ → ℕ → Lamp
+withReport l heard bits = record {
   party = l .party;
   sharing = record {
     stage = Reported;
     row = l .sharing .row;
     column = l .sharing .column;
-    heard = pad 16 (firsts (l .party .n) hs);
-    report = reportFrom p l hs;
+    heard = heard;
+    report = bits;
     happy = l .sharing .happy;
     share = l .sharing .share;
   };
 }
+
+unfoldable pub withPairs : Lamp → List ℕ → Lamp
+withPairs l hs = withReport l (pad 16 (firsts (l .party .n) hs)) (reportFrom l hs)
 
 -- ---- 4. settling
 
@@ -195,9 +217,10 @@ repairedBy l S decoding.Nothing v = reply (atEnd l Closed S 0) (Refused NoColumn
 repairedBy l S (decoding.Refused why) v = refuse l why
 
 -- Below n − t ones the dealer is rejected; a happy party's share is its column's constant.
-unfoldable pub settled : ℕ → Lamp → ℕ → Reply
-settled p l S =
-    let mended = repaired l S (repair p (l .party .n) (l .party .t) (tableOf (l .party)) S (l .sharing .heard)) in
+unfoldable pub settled : Lamp → ℕ → Reply
+settled l S =
+    let column = repair (itsPrime (l .party)) (l .party .n) (l .party .t) (tableOf (l .party)) S (l .sharing .heard) in
+    let mended = repaired l S column in
     cond (leb (l .party .n - l .party .t) (ones S))
     (cond (member S (l .party .number)) (reply (atEnd l Holding S (constant (columnOfLamp l))) Accepted) mended)
     (reply (atEnd l Closed 0 0) (Refused DealerRejected))
@@ -205,8 +228,10 @@ settled p l S =
 -- ---- 5. opening
 
 -- The polynomial that fits the published shares, the lamp's own share in its own place: at most t of them differ.
-unfoldable pub opening : ℕ → Lamp → List ℕ → Option (List ℕ)
-opening p l xs = openingWith p (l .party .n) (l .party .t) (tableOf (l .party)) (l .party .number) (l .sharing .share) xs
+unfoldable pub opening : Lamp → List ℕ → Option (List ℕ)
+opening l xs =
+    let a = l .party in
+    openingWith (itsPrime a) (a .n) (a .t) (tableOf a) (a .number) (l .sharing .share) xs
 
 abbrev pub opened : Lamp → Option (List ℕ) → Reply
 opened l none = refuse l NoOpening
@@ -220,45 +245,60 @@ openedBy l (decoding.Refused why) v = refuse l why
 
 -- ---- the calls
 
--- A call, with the list that is lent or the party that a pair is asked for.
+-- A call, with the list that is lent or the party that a pair is asked for. One that is lent numbers of the field is of a width: 16-bit
+-- numbers, or 32-bit ones.
 pub data Call : Type 0 where
-  takeDeal : List ℕ → Call
+  takeDeal : Width → List ℕ → Call
   sayPair : ℕ → Call
-  hearPairs : List ℕ → Call
+  hearPairs : Width → List ℕ → Call
   settle : List ℕ → Call
-  openShares : List ℕ → Call
+  openShares : Width → List ℕ → Call
 
 -- What a call is looked at for.
-abbrev pub tests : ℕ → Lamp → Call → List Test
-tests p l (takeDeal d) = lentTests p (l .party) (eqb (length d) (2 * suc (l .party .t))) (isAt Waiting (l .sharing))
-tests p l (sayPair j) = sayingTests p (l .party) (isParty (l .party .n) j) (not (isAt Waiting (l .sharing)))
-tests p l (hearPairs hs) = lentTests p (l .party) (eqb (length hs) (2 * l .party .n)) (isAt Dealt (l .sharing))
-tests p l (settle rs) = lentTests p (l .party) (eqb (length rs) (l .party .n)) (isAt Reported (l .sharing))
-tests p l (openShares xs) = lentTests p (l .party) (eqb (length xs) (l .party .n)) (isAt Holding (l .sharing))
+abbrev pub tests : Lamp → Call → List Test
+tests l (takeDeal w d) =
+    let a = l .party in
+    partyTests a ++ widthTests w a ++ lentTests a (eqb (length d) (2 * suc (a .t))) (isAt Waiting (l .sharing))
+tests l (sayPair j) =
+    let a = l .party in
+    partyTests a ++ (isParty (a .n) j, WrongNumber) ∷ stateTests a (not (isAt Waiting (l .sharing)))
+tests l (hearPairs w hs) =
+    let a = l .party in
+    partyTests a ++ widthTests w a ++ lentTests a (eqb (length hs) (2 * a .n)) (isAt Dealt (l .sharing))
+tests l (settle rs) =
+    let a = l .party in
+    partyTests a ++ lentTests a (eqb (length rs) (a .n)) (isAt Reported (l .sharing))
+tests l (openShares w xs) =
+    let a = l .party in
+    partyTests a ++ widthTests w a ++ lentTests a (eqb (length xs) (a .n)) (isAt Holding (l .sharing))
 
 -- The reply where every test passes.
-abbrev pub outcome : ℕ → Lamp → Call → Reply
-outcome p l (takeDeal d) = reply (withDeal l d) Done
-outcome p l (sayPair j) = reply l (Pair (saidPair p l j .0) (saidPair p l j .1))
-outcome p l (hearPairs hs) = reply (withPairs p l hs) (Report (reportFrom p l hs))
-outcome p l (settle rs) =
-    let done = settled p l (happySet rs) in
+abbrev pub outcome : Lamp → Call → Reply
+outcome l (takeDeal w d) = reply (withDeal l d) Done
+outcome l (sayPair j) = reply l (Pair (saidPair l j .0) (saidPair l j .1))
+outcome l (hearPairs w hs) = reply (withPairs l hs) (Report (reportFrom l hs))
+outcome l (settle rs) =
+    let done = settled l (happySet rs) in
     cond (eqb (entry rs (l .party .number)) (l .sharing .report)) done (refuse l AlteredReport)
-outcome p l (openShares xs) = opened l (opening p l xs)
+outcome l (openShares w xs) = opened l (opening l xs)
 
 -- One call.
-unfoldable pub step : ℕ → Lamp → Call → Reply
-step p l c = let r = outcome p l c in guard l (lowest (tests p l c)) r
+unfoldable pub step : Lamp → Call → Reply
+step l c = let r = outcome l c in guard l (lowest (tests l c)) r
+
+-- The lamp as made, unless it is refused, with a state all the same.
+abbrev pub madeBy : Lamp → Admission → Reply
+madeBy l a = guard l a (reply l Done)
 
 -- Making: 1 or 2 for a bad size or number, 3 or 14 for a bad table, with a state all the same.
-unfoldable pub makeWith : ℕ → ℕ → ℕ → ℕ → List ℕ → Reply
-makeWith p n t i T = let l = madeWith n t i T in guard l (lowest (makingTests p (l .party) T)) (reply l Done)
+unfoldable pub makeWith : Width → ℕ → ℕ → ℕ → List ℕ → Reply
+makeWith w n t i T = let l = madeWith w n t i T in madeBy l (lowest (makingTests (l .party) T))
 
 -- Without a table.
-abbrev pub make : ℕ → ℕ → ℕ → ℕ → Reply
-make p n t i = makeWith p n t i (oneTo n)
+abbrev pub make : Width → ℕ → ℕ → ℕ → Reply
+make w n t i = makeWith w n t i (oneTo n)
 
 -- The lamp after a list of calls.
-abbrev pub after : ℕ → Lamp → List Call → Lamp
-after p l [] = l
-after p l (c ∷ cs) = after p (step p l c .lamp) cs
+abbrev pub after : Lamp → List Call → Lamp
+after l [] = l
+after l (c ∷ cs) = after (step l c .lamp) cs

@@ -1,46 +1,56 @@
 // A lamp, one party's end of the protocol: its state goes into each call by value and comes back with the answer.
 mod admission;
 mod dealing;
+mod made;
 mod opening;
 mod reporting;
 mod settling;
 
 ghost use mathlib.Core.Path.{_≡_};
-ghost use Rattle.field.specs.Modulus.{modulus};
-ghost use Rattle.lamp.specs.Lamp.{waiting, make, makeWith, refuse, step, takeDeal, sayPair, hearPairs, settle, openShares};
+ghost use Rattle.field.specs.declared.Width.the-variants.{Narrow, Wide};
+ghost use Rattle.lamp.specs.Lamp.{make, makeWith, refuse, step};
+ghost use Rattle.lamp.specs.Lamp.{takeDeal, sayPair, hearPairs, settle, openShares};
+use admission::hearing;
 use admission::is_stage;
-use admission::legal;
 use admission::lent;
-use admission::making;
+use admission::revealing;
 use admission::saying;
+use admission::taking;
 use answers::Admission;
 use answers::Answer;
 use answers::Refusal;
 use answers::Stage;
+use dealing::dealt;
+use dealing::dealt_wide;
 use dealing::said_pair;
-use dealing::with_deal;
+use field::Width;
+use made::made_plain;
+use made::made_with;
 use opening::opened;
+use opening::opened_wide;
 use reporting::heard;
+use reporting::heard_wide;
 use settling::settled;
 
-// Who a lamp is. The first n numbers of the table are the parties' points.
+// Who a lamp is: its numbers have 16 bits or 32, and the first n of the table are the parties' points.
 pub struct Party {
+    pub table: [u32; 16],
     pub n: u8,
     pub t: u8,
     pub number: u8,
-    pub table: [u16; 16],
+    pub width: Width,
 }
 
 // What it has of one sharing: row and column as dealt, with zeros behind them; the first number heard from each party; the report
 // given out.
 pub struct Sharing {
-    pub stage: Stage,
-    pub row: [u16; 4],
-    pub column: [u16; 4],
-    pub heard: [u16; 16],
+    pub row: [u32; 4],
+    pub column: [u32; 4],
+    pub heard: [u32; 16],
+    pub share: u32,
     pub report: u16,
     pub happy: u16,
-    pub share: u16,
+    pub stage: Stage,
 }
 
 pub struct Lamp {
@@ -62,86 +72,69 @@ fn refuse(lamp: Lamp, why: Refusal) -> Reply
     }
 }
 
-// A lamp that nothing was done with.
-fn waiting(n: u8, t: u8, number: u8, table: [u16; 16]) -> Lamp
-    ensures { λ r. ⌜ r ≡ waiting n t number table ⌝ }
-{
-    let party = Party {
-        n: n,
-        t: t,
-        number: number,
-        table: table,
-    };
-    let sharing = Sharing {
-        stage: Stage::Waiting,
-        row: [0; 4],
-        column: [0; 4],
-        heard: [0; 16],
-        report: 0,
-        happy: 0,
-        share: 0,
-    };
-    Lamp {
-        party: party,
-        sharing: sharing,
-    }
-}
-
 impl Lamp {
     // A lamp for n, t and its number, waiting, with the parties' points in a table. A bad size, number or table is answered, and refused
     // again at every call.
     pub fn make_with(n: u8, t: u8, number: u8, table: &[u16]) -> Reply
-        ensures { λ r. ⌜ r ≡ makeWith modulus n t number (now (table .entry)) ⌝ }
+        ensures { λ r. ⌜ r ≡ makeWith Narrow n t number (now (table .entry)) ⌝ }
     {
-        let lamp = waiting(n, t, number, tables::in_array(n, table));
-        let admitted = making(lamp.party, table);
-        match admitted {
-            Admission::Fail(why) => refuse(lamp, why),
-            Admission::Pass => Reply {
-                lamp: lamp,
-                answer: Answer::Done,
-            },
-        }
+        let kept = tables::in_array(n, table);
+        made_with(Width::Narrow, n, t, number, kept, table.len() == n as usize)
     }
 
-    // The same at the points 1 to n, which are not looked at.
+    // The same for numbers of 32 bits.
+    pub fn make_wide_with(n: u8, t: u8, number: u8, table: &[u32]) -> Reply
+        ensures { λ r. ⌜ r ≡ makeWith Wide n t number (now (table .entry)) ⌝ }
+    {
+        let kept = tables::in_array_wide(n, table);
+        made_with(Width::Wide, n, t, number, kept, table.len() == n as usize)
+    }
+
+    // The same at the points 1 to n.
     pub fn make(n: u8, t: u8, number: u8) -> Reply
-        ensures { λ r. ⌜ r ≡ make modulus n t number ⌝ }
+        ensures { λ r. ⌜ r ≡ make Narrow n t number ⌝ }
     {
-        let lamp = waiting(n, t, number, tables::one_to(n));
-        let admitted = legal(lamp.party);
-        match admitted {
-            Admission::Fail(why) => refuse(lamp, why),
-            Admission::Pass => Reply {
-                lamp: lamp,
-                answer: Answer::Done,
-            },
-        }
+        made_plain(Width::Narrow, n, t, number)
     }
 
+    // The same for numbers of 32 bits.
+    pub fn make_wide(n: u8, t: u8, number: u8) -> Reply
+        ensures { λ r. ⌜ r ≡ make Wide n t number ⌝ }
+    {
+        made_plain(Width::Wide, n, t, number)
+    }
+
+    // Takes a deal of numbers of 16 bits.
     pub fn take_deal(self, deal: &[u16]) -> Reply
-        ensures { λ r. ⌜ r ≡ step modulus self (takeDeal (now (deal .entry))) ⌝ }
+        ensures { λ r. ⌜ r ≡ step self (takeDeal Narrow (now (deal .entry))) ⌝ }
     {
         let party = self.party;
         let sharing = self.sharing;
         let stage = sharing.stage;
-        let fits = deal.len() == 2 * (party.t as usize + 1);
-        let admitted = lent(party, fits, is_stage(stage, Stage::Waiting));
+        let admitted = taking(Width::Narrow, party, stage, deal.len());
         match admitted {
             Admission::Fail(why) => refuse(self, why),
-            Admission::Pass => {
-                let dealt = with_deal(self, deal);
-                Reply {
-                    lamp: dealt,
-                    answer: Answer::Done,
-                }
-            }
+            Admission::Pass => dealt(self, deal),
+        }
+    }
+
+    // The same of numbers of 32 bits.
+    pub fn take_deal_wide(self, deal: &[u32]) -> Reply
+        ensures { λ r. ⌜ r ≡ step self (takeDeal Wide (now (deal .entry))) ⌝ }
+    {
+        let party = self.party;
+        let sharing = self.sharing;
+        let stage = sharing.stage;
+        let admitted = taking(Width::Wide, party, stage, deal.len());
+        match admitted {
+            Admission::Fail(why) => refuse(self, why),
+            Admission::Pass => dealt_wide(self, deal),
         }
     }
 
     // The lamp's pair for party j, from the deal on at every stage; the lamp is not changed.
     pub fn say_pair(self, j: u8) -> Reply
-        ensures { λ r. ⌜ r ≡ step modulus self (sayPair j) ⌝ }
+        ensures { λ r. ⌜ r ≡ step self (sayPair j) ⌝ }
     {
         let party = self.party;
         let sharing = self.sharing;
@@ -154,7 +147,8 @@ impl Lamp {
                 let row = sharing.row;
                 let column = sharing.column;
                 let table = party.table;
-                let pair = said_pair(party.n, party.t, table, party.number, row, column, j);
+                let width = party.width;
+                let pair = said_pair(width, party.n, party.t, table, party.number, row, column, j);
                 Reply {
                     lamp: self,
                     answer: pair,
@@ -165,22 +159,35 @@ impl Lamp {
 
     // Hears n pairs in party order and answers the report, which the lamp keeps.
     pub fn hear_pairs(self, pairs: &[u16]) -> Reply
-        ensures { λ r. ⌜ r ≡ step modulus self (hearPairs (now (pairs .entry))) ⌝ }
+        ensures { λ r. ⌜ r ≡ step self (hearPairs Narrow (now (pairs .entry))) ⌝ }
     {
         let party = self.party;
         let sharing = self.sharing;
         let stage = sharing.stage;
-        let fits = pairs.len() == 2 * party.n as usize;
-        let admitted = lent(party, fits, is_stage(stage, Stage::Dealt));
+        let admitted = hearing(Width::Narrow, party, stage, pairs.len());
         match admitted {
             Admission::Fail(why) => refuse(self, why),
             Admission::Pass => heard(self, pairs),
         }
     }
 
+    // The same of numbers of 32 bits.
+    pub fn hear_pairs_wide(self, pairs: &[u32]) -> Reply
+        ensures { λ r. ⌜ r ≡ step self (hearPairs Wide (now (pairs .entry))) ⌝ }
+    {
+        let party = self.party;
+        let sharing = self.sharing;
+        let stage = sharing.stage;
+        let admitted = hearing(Width::Wide, party, stage, pairs.len());
+        match admitted {
+            Admission::Fail(why) => refuse(self, why),
+            Admission::Pass => heard_wide(self, pairs),
+        }
+    }
+
     // Settles on n reports: rejects the dealer, or holds a share.
     pub fn settle(self, reports: &[u16]) -> Reply
-        ensures { λ r. ⌜ r ≡ step modulus self (settle (now (reports .entry))) ⌝ }
+        ensures { λ r. ⌜ r ≡ step self (settle (now (reports .entry))) ⌝ }
     {
         let party = self.party;
         let sharing = self.sharing;
@@ -201,16 +208,29 @@ impl Lamp {
 
     // Opens n published shares; the lamp is not changed.
     pub fn open(self, shares: &[u16]) -> Reply
-        ensures { λ r. ⌜ r ≡ step modulus self (openShares (now (shares .entry))) ⌝ }
+        ensures { λ r. ⌜ r ≡ step self (openShares Narrow (now (shares .entry))) ⌝ }
     {
         let party = self.party;
         let sharing = self.sharing;
         let stage = sharing.stage;
-        let fits = shares.len() == party.n as usize;
-        let admitted = lent(party, fits, is_stage(stage, Stage::Holding));
+        let admitted = revealing(Width::Narrow, party, stage, shares.len());
         match admitted {
             Admission::Fail(why) => refuse(self, why),
             Admission::Pass => opened(self, shares),
+        }
+    }
+
+    // The same of numbers of 32 bits.
+    pub fn open_wide(self, shares: &[u32]) -> Reply
+        ensures { λ r. ⌜ r ≡ step self (openShares Wide (now (shares .entry))) ⌝ }
+    {
+        let party = self.party;
+        let sharing = self.sharing;
+        let stage = sharing.stage;
+        let admitted = revealing(Width::Wide, party, stage, shares.len());
+        match admitted {
+            Admission::Fail(why) => refuse(self, why),
+            Admission::Pass => opened_wide(self, shares),
         }
     }
 }

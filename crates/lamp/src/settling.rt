@@ -1,7 +1,6 @@
 // Settling with the happy set: rejection, share or repair.
 ghost use mathlib.Core.Path.{_≡_};
 ghost use Prim.Native.Nat.{_≤_, _<_, _^_};
-ghost use Rattle.field.specs.Modulus.{modulus};
 ghost use Rattle.parties.specs.Parties.{member};
 ghost use Rattle.lamp.specs.Lamp.{atEnd, settled, repairedBy, Valid};
 use crate::Lamp;
@@ -13,7 +12,7 @@ use answers::Decoding;
 use answers::Refusal;
 use answers::Stage;
 
-pub(crate) fn at_end(lamp: Lamp, stage: Stage, happy: u16, share: u16) -> Lamp
+pub(crate) fn at_end(lamp: Lamp, stage: Stage, happy: u16, share: u32) -> Lamp
     ensures { λ r. ⌜ r ≡ atEnd lamp stage happy share ⌝ }
 {
     let row = lamp.sharing.row;
@@ -44,7 +43,7 @@ pub(crate) fn member(set: u16, i: u8) -> bool
 }
 
 // The constant of the repaired column is the share of a party outside the set; where no column fits it is closed.
-fn repaired_by(lamp: Lamp, set: u16, outcome: Decoding, constant: u16) -> Reply
+fn repaired_by(lamp: Lamp, set: u16, outcome: Decoding, constant: u32) -> Reply
     ensures { λ r. ⌜ r ≡ repairedBy lamp set outcome constant ⌝ }
 {
     match outcome {
@@ -62,8 +61,8 @@ fn repaired_by(lamp: Lamp, set: u16, outcome: Decoding, constant: u16) -> Reply
 
 // The outcome of settling with the happy set.
 pub(crate) fn settled(lamp: Lamp, set: u16) -> Reply
-    requires { ⌜ Valid modulus (lamp .party) × (set < 2 ^ lamp .party .n) ⌝ }
-    ensures { λ r. ⌜ r ≡ settled modulus lamp set ⌝ }
+    requires { ⌜ Valid (lamp .party) × (set < 2 ^ lamp .party .n) ⌝ }
+    ensures { λ r. ⌜ r ≡ settled lamp set ⌝ }
 {
     let party = lamp.party;
     let enough = (party.n - party.t) as u32;
@@ -82,7 +81,8 @@ pub(crate) fn settled(lamp: Lamp, set: u16) -> Reply
     }
     let heard = lamp.sharing.heard;
     let table = party.table;
-    let fitted = recovery::repair(party.n, party.t, table, set, heard);
+    let width = party.width;
+    let fitted = recovery::repair(width, party.n, party.t, table, set, heard);
     let outcome = fitted.outcome;
     let mended = fitted.coefficients;
     repaired_by(lamp, set, outcome, mended[0])

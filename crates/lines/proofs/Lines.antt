@@ -12,7 +12,8 @@ use lib.ListN.{length, length-append}
 use Rattle.lists.specs.Masks.{bit}
 use Rattle.lists.proofs.Masks.{bit-none}
 use Rattle.text.specs.Letters.{letters, decimal, joined}
-use Rattle.text.proofs.Letters.{decimal-short, decimal-two, joined-append}
+use Rattle.text.proofs.Letters.{joined-append}
+use Rattle.text.proofs.Spelling.{spell-within, decimal-short, decimal-two}
 use Rattle.lines.specs.Lines.{name, names, happyWords, verdictWords, outcomeWords}
 use Rattle.lines.specs.Lines.{sizeLine, verdictLines, lampLine, openedLine, refusedLine}
 
@@ -53,18 +54,22 @@ outcome-value word k v e = rw (eq-eqb k 0 e)
 pub outcome-refused : (word : List ℕ) (k v : ℕ) → (k ≡ 0 → ⊥) → letters " refused " ∷ decimal k ∷ letters "\n" ∷ [] ≡ outcomeWords word k v
 outcome-refused word k v d = rw (ne-eqb k 0 d)
 
--- ---- lengths; a lamp's number has at most two digits, any other at most five
+-- ---- lengths; a number below ten has one digit, a lamp's number or a refusal at most two, any other at most ten
 
-number-short : (x : ℕ) (rest : List ℕ) → length (decimal x ++ rest) ≤ 5 + length rest
+number-short : (x : ℕ) (rest : List ℕ) → length (decimal x ++ rest) ≤ 10 + length rest
 number-short x rest = rw length-append (omega (arith, decimal-short x))
 
 place-short : (x : ℕ) (rest : List ℕ) → x < 100 → length (decimal x ++ rest) ≤ 2 + length rest
 place-short x rest h = rw length-append (omega (arith, decimal-two x h))
 
-pub size-short : (n t : ℕ) → length (sizeLine n t) ≤ 17
-size-short n t = omega (arith, number-short n (joined (letters " " ∷ decimal t ∷ letters "\n" ∷ [])), number-short t (letters "\n"))
+digit-short : (x : ℕ) (rest : List ℕ) → x < 10 → length (decimal x ++ rest) ≤ 1 + length rest
+digit-short x rest h = rw length-append (omega (arith, spell-within 10 0 x h))
 
-pub refused-short : (k : ℕ) → length (refusedLine k) ≤ 21
+pub size-short : (n t : ℕ) → n < 100 → t < 10 → length (sizeLine n t) ≤ 10
+size-short n t h k =
+    omega (arith, place-short n (joined (letters " " ∷ decimal t ∷ letters "\n" ∷ [])) h, digit-short t (letters "\n") k)
+
+pub refused-short : (k : ℕ) → length (refusedLine k) ≤ 26
 refused-short k = omega (arith, number-short k (letters "\n"))
 
 either-short : (b : Bool) (vs ws : List (List ℕ)) (m : ℕ) → length (joined vs) ≤ m → length (joined ws) ≤ m
@@ -72,18 +77,20 @@ either-short : (b : Bool) (vs ws : List (List ℕ)) (m : ℕ) → length (joined
 either-short true vs ws m h k = h
 either-short false vs ws m h k = k
 
-outcome-short : (word : List ℕ) (k v : ℕ) → length word ≤ 9 → length (joined (outcomeWords word k v)) ≤ 15
-outcome-short word k v h =
-    either-short (eqb k 0) (word ∷ decimal v ∷ letters "\n" ∷ []) (letters " refused " ∷ decimal k ∷ letters "\n" ∷ []) 15
+-- A value behind a word w, or a refusal.
+outcome-short : (w : List ℕ) (k v : ℕ) → k < 100 → 1 ≤ length w → length (joined (outcomeWords w k v)) ≤ length w + 11
+outcome-short w k v h l =
+    either-short (eqb k 0) (w ∷ decimal v ∷ letters "\n" ∷ []) (letters " refused " ∷ decimal k ∷ letters "\n" ∷ []) (length w + 11)
     (rw length-append (omega (arith, number-short v (letters "\n"))))
-    (omega (arith, number-short k (letters "\n")))
+    (omega (arith, place-short k (letters "\n") h))
 
-pub lamp-short : (i k v : ℕ) → i < 100 → length (lampLine i k v) ≤ 22
-lamp-short i k v h =
-    omega (arith, place-short i (joined (outcomeWords (letters " share ") k v)) h, outcome-short (letters " share ") k v (lit≤ tt))
+-- So sixteen lamps have at most 400 bytes.
+pub lamp-short : (i k v : ℕ) → i < 100 → k < 100 → length (lampLine i k v) ≤ 25
+lamp-short i k v h l =
+    omega (arith, place-short i (joined (outcomeWords (letters " share ") k v)) h, outcome-short (letters " share ") k v l (lit≤ tt))
 
-pub opened-short : (k v : ℕ) → length (openedLine k v) ≤ 21
-opened-short k v = omega (arith, outcome-short (letters " ") k v (lit≤ tt))
+pub opened-short : (k v : ℕ) → k < 100 → length (openedLine k v) ≤ 18
+opened-short k v h = omega (arith, outcome-short (letters " ") k v h (lit≤ tt))
 
 name-short : (set k : ℕ) → k < 99 → length (joined (name set k)) ≤ 3
 unfolding name

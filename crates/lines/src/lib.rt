@@ -10,8 +10,8 @@ ghost use Rattle.lines.specs.Lines.{outcomeWords, lampWords, openedWords
 pub fn put_size(out: &mut [u8], at: usize, n: u8, t: u8) -> usize
     ensures { λ r. ⌜ (now (out .exit), r) ≡ puts (now (out .entry)) at (sizeWords n t) ⌝ }
 {
-    let next = text::put_field(out, at, b"size ", n as u16);
-    text::put_line(out, next, b" ", t as u16)
+    let next = text::put_field(out, at, b"size ", n as u32);
+    text::put_line(out, next, b" ", t as u32)
 }
 
 // Puts the number of the lamp at place k, if it is in the set.
@@ -23,7 +23,7 @@ fn put_name(out: &mut [u8], at: usize, set: u16, k: u8) -> usize
         return at;
     }
     if (set >> k) % 2 == 1 {
-        return text::put_field(out, at, b" ", k as u16 + 1);
+        return text::put_field(out, at, b" ", k as u32 + 1);
     }
     at
 }
@@ -60,25 +60,25 @@ pub fn put_verdict(out: &mut [u8], at: usize, accepted: bool, set: u16, n: u8) -
 }
 
 // Puts the word and the value, or the refusal where there is one.
-fn put_outcome(out: &mut [u8], at: usize, word: &[u8], refusal: u8, value: u16) -> usize
+fn put_outcome(out: &mut [u8], at: usize, word: &[u8], refusal: u8, value: u32) -> usize
     ensures { λ r. ⌜ (now (out .exit), r) ≡ puts (now (out .entry)) at (outcomeWords (now (word .entry)) refusal value) ⌝ }
 {
     if refusal == 0 {
         return text::put_line(out, at, word, value);
     }
-    text::put_line(out, at, b" refused ", refusal as u16)
+    text::put_line(out, at, b" refused ", refusal as u32)
 }
 
 // Puts the line of lamp i: its share, or its refusal where there is one.
-pub fn put_lamp(out: &mut [u8], at: usize, i: u8, refusal: u8, share: u16) -> usize
+pub fn put_lamp(out: &mut [u8], at: usize, i: u8, refusal: u8, share: u32) -> usize
     ensures { λ r. ⌜ (now (out .exit), r) ≡ puts (now (out .entry)) at (lampWords i refusal share) ⌝ }
 {
-    let next = text::put_field(out, at, b"lamp ", i as u16);
+    let next = text::put_field(out, at, b"lamp ", i as u32);
     put_outcome(out, next, b" share ", refusal, share)
 }
 
 // Puts what is opened, or the refusal where there is one.
-pub fn put_opened(out: &mut [u8], at: usize, refusal: u8, value: u16) -> usize
+pub fn put_opened(out: &mut [u8], at: usize, refusal: u8, value: u32) -> usize
     ensures { λ r. ⌜ (now (out .exit), r) ≡ puts (now (out .entry)) at (openedWords refusal value) ⌝ }
 {
     let next = text::put(out, at, b"opened");
@@ -89,5 +89,5 @@ pub fn put_opened(out: &mut [u8], at: usize, refusal: u8, value: u16) -> usize
 pub fn put_refused(out: &mut [u8], at: usize, k: u8) -> usize
     ensures { λ r. ⌜ (now (out .exit), r) ≡ puts (now (out .entry)) at (refusedWords k) ⌝ }
 {
-    text::put_line(out, at, b"record refused ", k as u16)
+    text::put_line(out, at, b"record refused ", k as u32)
 }

@@ -1,9 +1,18 @@
 // The parties of a sharing: how many there may be, and their numbers.
 ghost use mathlib.Core.Path.{_≡_};
-ghost use Rattle.parties.specs.Parties.{sizes, isParty};
+ghost use Rattle.field.specs.Modulus.{primeOf};
+ghost use Rattle.parties.specs.Parties.{sizes, isParty, notSent};
+use field::Width;
 
 // What a sender writes for a number that it does not send.
-pub const NOT_SENT: u16 = 65535;
+pub fn not_sent(w: Width) -> u32
+    ensures { λ r. ⌜ r ≡ notSent (primeOf w) ⌝ }
+{
+    match w {
+        Width::Narrow => 65535,
+        Width::Wide => 4294967295,
+    }
+}
 
 // Whether t faulty ones among n parties are within the sizes.
 pub fn sizes(n: u8, t: u8) -> bool

@@ -1,4 +1,4 @@
 pub mod Below
 pub mod Division
 pub mod Uniqueness
-mod Loops
+mod Few

@@ -1,50 +1,53 @@
-// Polynomials modulo the field's prime: lists of coefficients, the constant first.
+// Polynomials modulo either prime of the field: lists of coefficients, the constant first.
 ghost use mathlib.Core.Path.{_≡_};
-ghost use Rattle.field.specs.Modulus.{modulus};
-ghost use Rattle.polynomial.specs.Polynomial.{residues, value};
+ghost use Prim.Native.Nat.{_≤_, _<_};
+ghost use lib.ListN.{length, getD};
+ghost use Rattle.field.specs.Modulus.{primeOf};
+ghost use Rattle.polynomial.specs.Polynomial.{Residues, residues, value};
+use field::Width;
 
-// Whether every number of the list is below the modulus.
-pub fn residues(list: &[u16]) -> bool
-    ensures { λ r. ⌜ r ≡ residues modulus (now (list .entry)) ⌝ }
+// Whether every number of the list is below p.
+fn all_below(p: u32, list: &[u32]) -> bool
+    ensures { λ r. ⌜ r ≡ residues p (now (list .entry)) ⌝ }
 {
     let mut i = list.len();
     while 0 < i {
         i -= 1;
-        if field::MODULUS <= list[i] {
+        if p <= list[i] {
             return false;
         }
     }
     true
 }
 
-// The value of f at x, by Horner's rule from the top coefficient on.
-fn by_steps(f: &[u16], x: u16) -> u16
-    ensures { λ r. ⌜ r ≡ value modulus (now (f .entry)) x ⌝ }
+// Whether every number of the list is a residue.
+pub fn residues(w: Width, list: &[u32]) -> bool
+    ensures { λ r. ⌜ r ≡ residues (primeOf w) (now (list .entry)) ⌝ }
 {
-    if f.len() == 0 {
-        return 0;
-    }
-    let mut i = f.len() - 1;
-    let mut v = field::reduced(f[i]);
-    while 0 < i {
-        i -= 1;
-        v = field::mul_add(x, v, f[i]);
-    }
-    v
+    all_below(field::modulus(w), list)
 }
 
-// The same. Up to four coefficients, which rows and columns have, need one reduction.
-pub fn value(f: &[u16], x: u16) -> u16
-    ensures { λ r. ⌜ r ≡ value modulus (now (f .entry)) x ⌝ }
+// The coefficient at a place, 0 behind the last.
+fn coefficient(f: &[u32], k: usize) -> u32
+    ensures { λ r. ⌜ r ≡ getD (now (f .entry)) k 0 ⌝ }
 {
-    if f.len() == 4 {
-        return field::cubic_value(f[0], f[1], f[2], f[3], x);
+    if f.len() <= k {
+        return 0;
     }
-    if f.len() == 2 {
-        return field::cubic_value(f[0], f[1], 0, 0, x);
-    }
-    if f.len() == 3 {
-        return field::cubic_value(f[0], f[1], f[2], 0, x);
-    }
-    by_steps(f, x)
+    f[k]
+}
+
+// The value of f at x. Rows and columns have at most four coefficients: their value needs no loop, and one reduction.
+pub fn value(w: Width, f: &[u32], x: u32) -> u32
+    requires { ⌜ Residues (primeOf w) (now f) × (x < primeOf w) × (length (now f) ≤ 4) ⌝ }
+    ensures { λ r. ⌜ (r ≡ value (primeOf w) (now (f .entry)) x) × (r < primeOf w) ⌝ }
+{
+    field::cubic_value(
+        w,
+        coefficient(f, 0),
+        coefficient(f, 1),
+        coefficient(f, 2),
+        coefficient(f, 3),
+        x,
+    )
 }

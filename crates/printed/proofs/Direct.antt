@@ -16,12 +16,11 @@ use Rattle.lists.specs.Options.{orZero}
 use Rattle.lists.specs.Tabulate.{tabulate, pad}
 use Rattle.lists.specs.Choices.{select}
 use Rattle.lists.proofs.Tabulate.{length-tabulate}
-use Rattle.field.specs.Modulus.{modulus}
+use Rattle.field.specs.declared.Width.{Width}
 use Rattle.fit.specs.Fit.{fit}
 use Rattle.parties.specs.Parties.{member, entry}
 use Rattle.parties.proofs.Parties.{party-true}
 use Rattle.tables.specs.Tables.{oneTo}
-use Rattle.tables.proofs.Tables.{one-to-table}
 use Rattle.dealer.specs.Desk.{stretch}
 use Rattle.answers.specs.declared.Refusal.the-variants.{AlteredReport, DealerRejected, NoColumn}
 use Rattle.answers.specs.declared.Answer.the-variants.{Done}
@@ -32,21 +31,22 @@ use Rattle.answers.specs.Answers.{numberOf}
 use Rattle.answers.specs.Fits.{constant}
 use Rattle.consistency.specs.Deal.{rowOf, columnOf, firstFrom, reportOf}
 use Rattle.recovery.specs.Recovery.{repair}
-use Rattle.lamp.specs.Lamp.{Valid, made, tableOf, reply, rowOfLamp, columnOfLamp, withDeal, firsts, withPairs, reportFrom, repaired}
-use Rattle.lamp.specs.Lamp.{refuse, atEnd, settled, takeDeal, hearPairs, settle, step}
+use Rattle.lamp.specs.Lamp.{Valid, made, itsPrime, tableOf, reply, rowOfLamp, columnOfLamp, withDeal, firsts, withPairs, reportFrom}
+use Rattle.lamp.specs.Lamp.{repaired, refuse, atEnd, settled, takeDeal, hearPairs, settle, step}
 use Rattle.record.specs.declared.Reading.the-variants.{Fine}
-use Rattle.record.specs.Record.{nOf, tOf, reading, IsRecord, numbersOf}
+use Rattle.record.specs.Record.{widthOf, nOf, tOf, reading, IsRecord, numbersOf}
 use Rattle.record.proofs.Answers.{record-fine}
 use Rattle.text.specs.Letters.{letters, field, line, joined}
 use Rattle.lines.specs.Lines.{sizeLine, verdictLines, outcomeWords}
 use Rattle.transcript.specs.Outcomes.{replyLine, lastLine}
 use Rattle.transcript.specs.Transcript.{run, lampLines, textOf, textBy, text}
-use Rattle.transcript.proofs.Runs.{fine-legal, fine-facts, deals-count, pairs-count, reports-count, part-room}
+use Rattle.transcript.proofs.Runs.{fine-legal, fine-facts, deals-count, pairs-count, reports-count, plain-table, part-room}
 use Rattle.agreement.specs.Plain.{plain}
 use Rattle.agreement.proofs.Runs.{by-cond}
-use Rattle.agreement.proofs.Steps.{takes, hears, looks}
+use Rattle.agreement.proofs.Steps.{fits, takes, hears, looks}
 use Rattle.agreement.proofs.Collapse.{Ready, made-table, made-valid}
-use Rattle.printed.specs.Direct.{itsDeal, itsPairs, itsReport, happy, isAcceptedIn, refuses, mended, lampSays, lampsSay, direct}
+use Rattle.printed.specs.Direct.{thePrime, itsDeal, itsPairs, itsReport, happy, isAcceptedIn, refuses, mended}
+use Rattle.printed.specs.Direct.{lampSays, lampsSay, direct}
 
 -- What a reply prints behind "lamp i".
 abbrev shown : Reply → List ℕ
@@ -60,10 +60,10 @@ repair-padded p n t T S xs e =
     (take-at xs (replicate (16 - length xs) 0) n e ∙ sym (take-all n xs (omega arith)))
 
 -- A lamp's own part is as long as it must be.
-own-part : (xs : List ℕ) (n w i : ℕ) → length xs ≡ n * (2 * w) → n ≤ 16 → w ≤ 16 → 1 ≤ i → i ≤ n → length (stretch w xs i) ≡ 2 * w
-own-part xs n w i e a b c d =
-    let room = part-room n w i a b c d in
-    length-take-le (2 * w) (drop ((i - 1) * (2 * w)) xs) (omega (arith, length-drop ((i - 1) * (2 * w)) xs))
+own-part : (xs : List ℕ) (n m i : ℕ) → length xs ≡ n * (2 * m) → n ≤ 16 → m ≤ 16 → 1 ≤ i → i ≤ n → length (stretch m xs i) ≡ 2 * m
+own-part xs n m i e a b c d =
+    let room = part-room n m i a b c d in
+    length-take-le (2 * m) (drop ((i - 1) * (2 * m)) xs) (omega (arith, length-drop ((i - 1) * (2 * m)) xs))
 
 shown-cond : (b : Bool) (x y : Reply) → shown (cond b x y) ≡ cond b (shown x) (shown y)
 shown-cond true x y = refl
@@ -74,24 +74,30 @@ abbrev Rejecting : Reply → Type 0
 Rejecting r = numberOf (r .answer) ≡ some (refusalNumber DealerRejected)
 
 -- With enough happy lamps nobody says so.
-not-rejecting : (p : ℕ) (l : Lamp) (S : ℕ) → leb (l .party .n - l .party .t) (ones S) ≡ true → Rejecting (settled p l S) → ⊥
+not-rejecting : (l : Lamp) (S : ℕ) → leb (l .party .n - l .party .t) (ones S) ≡ true → Rejecting (settled l S) → ⊥
 unfolding settled
-not-rejecting p l S e =
+not-rejecting l S e =
     rw e (by-cond (λ r. Rejecting r → ⊥) (member S (l .party .number)) _ _ (Option·none-ne-some _)
-    (mended-not (repair p (l .party .n) (l .party .t) (tableOf (l .party)) S (l .sharing .heard))))
+    (mended-not (repair (itsPrime (l .party)) (l .party .n) (l .party .t) (tableOf (l .party)) S (l .sharing .heard))))
   where
     mended-not : (o : Option (List ℕ)) → Rejecting (repaired l S o) → ⊥
     mended-not none q = let z = Option·some-injective (refusalNumber NoColumn) (refusalNumber DealerRejected) q in omega arith
     mended-not (some f) q = Option·none-ne-some _ q
 
 module _ (bytes : List ℕ) (is : IsRecord bytes) where
+  abbrev w : Width
+  w = widthOf bytes
+
+  abbrev p : ℕ
+  p = thePrime bytes
+
   abbrev n : ℕ
   n = nOf bytes
 
   abbrev t : ℕ
   t = tOf bytes
 
-  fine : reading bytes ≡ Fine n t
+  fine : reading bytes ≡ Fine w n t
   fine = record-fine bytes is
 
   -- ---- one lamp
@@ -106,53 +112,53 @@ module _ (bytes : List ℕ) (is : IsRecord bytes) where
     rs = numbersOf bytes 2
 
     abbrev start : Lamp
-    start = made n t i
+    start = made w n t i
 
     abbrev dealt : Lamp
     dealt = withDeal start d
 
     abbrev reported : Lamp
-    reported = withPairs modulus dealt hs
+    reported = withPairs dealt hs
 
     -- It is made with the points 1 to n.
-    ready : Ready (plain modulus n t) i
+    ready : Ready (plain w n t) i
     ready = record {
-      size = fine-legal bytes n t fine;
+      size = fine-legal bytes w n t fine;
       party = party-true n i first last;
-      table = one-to-table modulus n (omega (arith, fine-facts bytes n t fine .3));
+      table = plain-table w n (fine-facts bytes w n t fine .3);
     }
 
-    start-valid : Valid modulus (start .party)
-    start-valid = made-valid (plain modulus n t) i ready
+    start-valid : Valid (start .party)
+    start-valid = made-valid (plain w n t) i ready
 
     pub deal-long : length d ≡ 2 * suc t
     deal-long =
-        let f = fine-facts bytes n t fine in
-        own-part (numbersOf bytes 0) n (t + 1) i (deals-count bytes n t fine) (f .3) (omega arith) first last ∙ omega arith
+        let f = fine-facts bytes w n t fine in
+        own-part (numbersOf bytes 0) n (t + 1) i (deals-count bytes w n t fine) (f .3) (omega arith) first last ∙ omega arith
 
     pub pairs-long : length hs ≡ 2 * n
     pairs-long =
-        let f = fine-facts bytes n t fine in
-        own-part (numbersOf bytes 1) n n i (pairs-count bytes n t fine) (f .3) (f .3) first last
+        let f = fine-facts bytes w n t fine in
+        own-part (numbersOf bytes 1) n n i (pairs-count bytes w n t fine) (f .3) (f .3) first last
 
-    dealt-valid : Valid modulus (dealt .party)
+    dealt-valid : Valid (dealt .party)
     unfolding withDeal
     dealt-valid = start-valid
 
-    reported-valid : Valid modulus (reported .party)
+    reported-valid : Valid (reported .party)
     unfolding withPairs withDeal
     reported-valid = start-valid
 
     table-is : tableOf (reported .party) ≡ oneTo n
     unfolding withPairs withDeal
-    table-is = made-table (plain modulus n t) i ready
+    table-is = made-table (plain w n t) i ready
 
-    taken : step modulus start (takeDeal d) ≡ reply dealt Done
-    taken = takes modulus start start-valid d (ap (λ z. z && true) (eq-eqb (length d) (2 * suc t) deal-long))
+    taken : step start (takeDeal w d) ≡ reply dealt Done
+    taken = takes start start-valid w d (ap (λ z. z && true) (fits w w refl (length d) (2 * suc t) deal-long))
 
-    heard : step modulus dealt (hearPairs hs) .lamp ≡ reported
+    heard : step dealt (hearPairs w hs) .lamp ≡ reported
     unfolding withDeal
-    heard = ap (λ (r : Reply). r .lamp) (hears modulus dealt dealt-valid hs (ap (λ z. z && true) (eq-eqb (length hs) (2 * n) pairs-long)))
+    heard = ap (λ (r : Reply). r .lamp) (hears dealt dealt-valid w hs (ap (λ z. z && true) (fits w w refl (length hs) (2 * n) pairs-long)))
 
     column-is : columnOfLamp reported ≡ columnOf t d
     unfolding withPairs withDeal
@@ -161,42 +167,42 @@ module _ (bytes : List ℕ) (is : IsRecord bytes) where
     report-is : reported .sharing .report ≡ itsReport bytes i
     unfolding withPairs withDeal reportFrom
     report-is =
-        ap (λ T. reportOf modulus n T i (rowOfLamp reported) (columnOfLamp reported) hs) table-is
-        ∙ ap₂ (λ row column. reportOf modulus n (oneTo n) i row column hs)
+        ap (λ T. reportOf p n T i (rowOfLamp reported) (columnOfLamp reported) hs) table-is
+        ∙ ap₂ (λ row column. reportOf p n (oneTo n) i row column hs)
         (take-at (rowOf t d) (replicate (4 - length (rowOf t d)) 0) (suc t) (length-take-le (suc t) d (omega (arith, deal-long))))
         (take-at (columnOf t d) (replicate (4 - length (columnOf t d)) 0) (suc t) (length-drop (suc t) d ∙ omega (arith, deal-long)))
 
-    answered : run bytes n t i
-        ≡ cond (eqb (entry rs i) (itsReport bytes i)) (settled modulus reported (happy bytes)) (refuse reported AlteredReport)
+    answered : run bytes w n t i
+        ≡ cond (eqb (entry rs i) (itsReport bytes i)) (settled reported (happy bytes)) (refuse reported AlteredReport)
     unfolding run withPairs withDeal
     answered =
-        ap (λ (r : Reply). step modulus (step modulus (r .lamp) (hearPairs hs) .lamp) (settle rs)) taken
-        ∙ ap (λ l. step modulus l (settle rs)) heard
-        ∙ looks modulus reported reported-valid rs (ap (λ z. z && true) (eq-eqb (length rs) n (reports-count bytes n t fine)))
-        ∙ ap (λ r. cond (eqb (entry rs i) r) (settled modulus reported (happy bytes)) (refuse reported AlteredReport)) report-is
+        ap (λ (r : Reply). step (step (r .lamp) (hearPairs w hs) .lamp) (settle rs)) taken
+        ∙ ap (λ l. step l (settle rs)) heard
+        ∙ looks reported reported-valid rs (ap (λ z. z && true) (eq-eqb (length rs) n (reports-count bytes w n t fine)))
+        ∙ ap (λ r. cond (eqb (entry rs i) r) (settled reported (happy bytes)) (refuse reported AlteredReport)) report-is
 
     -- The lamp says so exactly if the printed verdict is against the dealer, its own report being in the record.
     module _ (own : entry rs i ≡ itsReport bytes i) where
-      settling : run bytes n t i ≡ settled modulus reported (happy bytes)
+      settling : run bytes w n t i ≡ settled reported (happy bytes)
       settling =
           answered
-          ∙ ap (λ b. cond b (settled modulus reported (happy bytes)) (refuse reported AlteredReport))
+          ∙ ap (λ b. cond b (settled reported (happy bytes)) (refuse reported AlteredReport))
           (eq-eqb (entry rs i) (itsReport bytes i) own)
 
-      pub says-rejected : isAcceptedIn bytes ≡ false → Rejecting (run bytes n t i)
+      pub says-rejected : isAcceptedIn bytes ≡ false → Rejecting (run bytes w n t i)
       unfolding settled withPairs withDeal
       says-rejected e = ap (λ (r : Reply). numberOf (r .answer)) settling ∙ rw e
 
-      pub says-accepted : isAcceptedIn bytes ≡ true → Rejecting (run bytes n t i) → ⊥
+      pub says-accepted : isAcceptedIn bytes ≡ true → Rejecting (run bytes w n t i) → ⊥
       unfolding withPairs withDeal
-      says-accepted e said = not-rejecting modulus reported (happy bytes) e (sym (ap (λ (r : Reply). numberOf (r .answer)) settling) ∙ said)
+      says-accepted e said = not-rejecting reported (happy bytes) e (sym (ap (λ (r : Reply). numberOf (r .answer)) settling) ∙ said)
 
     mended-shown : (o : Option (List ℕ)) → shown (repaired reported (happy bytes) o) ≡ mended o
     unfolding atEnd
     mended-shown none = refl
     mended-shown (some f) = refl
 
-    pub lamp-said : replyLine i (run bytes n t i) ≡ field (letters "lamp ") i ++ lampSays bytes i
+    pub lamp-said : replyLine i (run bytes w n t i) ≡ field (letters "lamp ") i ++ lampSays bytes i
     unfolding replyLine lampSays settled atEnd withPairs withDeal
     lamp-said =
         ap (λ z. field (letters "lamp ") i ++ z)
@@ -208,13 +214,13 @@ module _ (bytes : List ℕ) (is : IsRecord bytes) where
         (shown-cond (member (happy bytes) i) _ _
         ∙ ap₂ (cond (member (happy bytes) i))
         (ap (λ f. line (letters " share ") (constant f)) column-is)
-        (mended-shown (repair modulus n t (tableOf (reported .party)) (happy bytes) (pad 16 (firsts n hs)))
-        ∙ ap (λ T. mended (repair modulus n t T (happy bytes) (pad 16 (firsts n hs)))) table-is
+        (mended-shown (repair p n t (tableOf (reported .party)) (happy bytes) (pad 16 (firsts n hs)))
+        ∙ ap (λ T. mended (repair p n t T (happy bytes) (pad 16 (firsts n hs)))) table-is
         ∙ ap mended
-        (repair-padded modulus n t (oneTo n) (happy bytes) (firsts n hs) (length-tabulate (λ k. firstFrom hs (suc k)) n))))))
+        (repair-padded p n t (oneTo n) (happy bytes) (firsts n hs) (length-tabulate (λ k. firstFrom hs (suc k)) n))))))
 
   -- ---- all of them
-  lines-said : (k : ℕ) → k ≤ n → lampLines bytes n t k ≡ lampsSay bytes k
+  lines-said : (k : ℕ) → k ≤ n → lampLines bytes w n t k ≡ lampsSay bytes k
   unfolding lampLines lampsSay
   lines-said zero h = refl
   lines-said (suc k) h = ap₂ (λ xs ys. xs ++ ys) (lines-said k (omega arith)) (lamp-said (suc k) (omega arith) h)
@@ -223,5 +229,5 @@ module _ (bytes : List ℕ) (is : IsRecord bytes) where
   pub text-direct : text bytes ≡ direct bytes
   unfolding text textBy textOf direct
   text-direct =
-      let last : List ℕ = lastLine (isAcceptedIn bytes) n t (numbersOf bytes 3) in
+      let last : List ℕ = lastLine (isAcceptedIn bytes) w n t (numbersOf bytes 3) in
       rw fine (ap (λ ls. ((sizeLine n t ++ verdictLines (isAcceptedIn bytes) (happy bytes) n) ++ ls) ++ last) (lines-said n (omega arith)))

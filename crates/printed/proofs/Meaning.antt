@@ -1,27 +1,27 @@
 -- What the words of the text mean: numbers are decimal, the happy line names the members of the set, and the published list opens
 -- the constant of the one polynomial that fits it; a refused record gives one line with the number.
-use mathlib.Core.Path.{_≡_, refl, sym, ap, ap₂, _∙_}
+use mathlib.Core.Path.{_≡_, refl, sym, ap, ap₂, subst, _∙_}
 use mathlib.Core.Logic.{⊎-elim}
 use mathlib.Core.Bool.{Bool, true}
 use mathlib.Core.Option.{some}
 use mathlib.Core.List.{List, [], _∷_, _++_, append-assoc}
-use Prim.Native.Nat.{ℕ, zero, suc, _+_, _*_, _-_, _/_, _≤_, _<_}
-use native.Mathlib.Nat.{div-div-eq-div-mul}
+use Prim.Native.Nat.{ℕ, zero, suc, _+_, _*_, _-_, _/_, _^_, _≤_, _<_}
 use native.Mathlib.Omega.{arith}
-use borrow.Author.Tests.{ltb-true, ltb-false}
-use lib.Dec.{ltb}
 use lib.ListN.{length, getD}
 use Rattle.lists.specs.All.{All}
 use Rattle.lists.specs.Masks.{bit}
 use Rattle.lists.specs.Tabulate.{tabulate}
 use Rattle.lists.specs.Choices.{keep}
-use Rattle.lists.proofs.Cases.{true-or-false}
-use Rattle.field.specs.Modulus.{modulus}
-use Rattle.field.proofs.Primes.{prime}
+use Rattle.lists.proofs.All.{all-append}
+use Rattle.lists.proofs.Cases.{true-or-false, le-or-lt}
+use Rattle.field.specs.declared.Width.{Width}
+use Rattle.field.specs.Modulus.{primeOf}
+use Rattle.field.proofs.Primes.{prime-of}
 use Rattle.polynomial.specs.Polynomial.{Points}
 use Rattle.fit.specs.Fit.{Near, fit}
-use Rattle.text.specs.Letters.{letters, digit, decimal, field, line, joined}
+use Rattle.text.specs.Letters.{letters, digit, spell, decimal, field, line, joined}
 use Rattle.text.proofs.Letters.{joined-append}
+use Rattle.text.proofs.Spelling.{spell-last, spell-more}
 use Rattle.answers.specs.declared.Refusal.the-variants.{NoOpening}
 use Rattle.answers.specs.Refusals.{refusalNumber}
 use Rattle.answers.specs.Fits.{constant}
@@ -34,60 +34,72 @@ use Rattle.transcript.specs.Transcript.{textOf, textBy, text}
 use Rattle.parties.specs.Parties.{sizes, parties, member}
 use Rattle.parties.proofs.Parties.{sizes-facts}
 use Rattle.tables.specs.Tables.{oneTo}
-use Rattle.tables.proofs.Tables.{table-points, length-one-to, one-to-table}
+use Rattle.tables.proofs.Tables.{table-points, length-one-to}
+use Rattle.transcript.proofs.Runs.{plain-table}
 use Rattle.fit.proofs.Rule.{near-found, near-none}
 use Rattle.printed.specs.Meaning.{spelt, listed}
 
 -- ---- numbers
-module _ (Q : List ℕ → Type 0) (x : ℕ) where
-  -- The five forms of a number, by its size.
-  forms : (x < 10 → Q (digit x ∷ []))
-      → (10 ≤ x → x < 100 → Q (digit (x / 10) ∷ digit x ∷ []))
-      → (100 ≤ x → x < 1000 → Q (digit (x / 100) ∷ digit (x / 10) ∷ digit x ∷ []))
-      → (1000 ≤ x → x < 10000 → Q (digit (x / 1000) ∷ digit (x / 100) ∷ digit (x / 10) ∷ digit x ∷ []))
-      → (10000 ≤ x → Q (digit (x / 10000) ∷ digit (x / 1000) ∷ digit (x / 100) ∷ digit (x / 10) ∷ digit x ∷ []))
-      → Q (decimal x)
-  unfolding decimal
-  forms a b c d e =
-      ⊎-elim (λ q. rw q (a (ltb-true x 10 q)))
-      (λ q. rw q (⊎-elim (λ r. rw r (b (ltb-false x 10 q) (ltb-true x 100 r)))
-      (λ r. rw r (⊎-elim (λ s. rw s (c (ltb-false x 100 r) (ltb-true x 1000 s)))
-      (λ s. rw s (⊎-elim (λ u. rw u (d (ltb-false x 1000 s) (ltb-true x 10000 u))) (λ u. rw u (e (ltb-false x 10000 u)))
-      (true-or-false (ltb x 10000))))
-      (true-or-false (ltb x 1000))))
-      (true-or-false (ltb x 100))))
-      (true-or-false (ltb x 10))
 
--- One digit more.
-spelt-next : (high x : ℕ) → x / 10 ≡ high → (ds : List ℕ) → spelt high (digit x ∷ ds) ≡ spelt x ds
-spelt-next high x e ds = ap (λ z. spelt z ds) (omega arith)
+-- Digits behind others.
+spelt-append : (high : ℕ) (xs ys : List ℕ) → spelt high (xs ++ ys) ≡ spelt (spelt high xs) ys
+spelt-append high [] ys = refl
+spelt-append high (x ∷ xs) ys = spelt-append (10 * high + (x - 48)) xs ys
 
--- The digits of a number spell it.
-pub decimal-spells : (x : ℕ) → x < 100000 → spelt 0 (decimal x) ≡ x
-decimal-spells x h =
-    let tens = spelt-next (x / 10) x refl [] in
-    let hundreds = spelt-next (x / 100) (x / 10) (div-div-eq-div-mul x 10 10) (digit x ∷ []) ∙ tens in
-    let thousands = spelt-next (x / 1000) (x / 100) (div-div-eq-div-mul x 100 10) (digit (x / 10) ∷ digit x ∷ []) ∙ hundreds in
-    let behind : List ℕ = digit (x / 100) ∷ digit (x / 10) ∷ digit x ∷ [] in
-    let all = spelt-next (x / 10000) (x / 1000) (div-div-eq-div-mul x 1000 10) behind ∙ thousands in
-    forms (λ ds. spelt 0 ds ≡ x) x
-    (λ a. spelt-next 0 x (omega arith) [])
-    (λ a b. spelt-next 0 (x / 10) (omega arith) (digit x ∷ []) ∙ tens)
-    (λ a b. spelt-next 0 (x / 100) (omega arith) (digit (x / 10) ∷ digit x ∷ []) ∙ hundreds)
-    (λ a b. spelt-next 0 (x / 1000) (omega arith) (digit (x / 100) ∷ digit (x / 10) ∷ digit x ∷ []) ∙ thousands)
-    (λ a. spelt-next 0 (x / 10000) (omega arith) (digit (x / 1000) ∷ digit (x / 100) ∷ digit (x / 10) ∷ digit x ∷ []) ∙ all)
+-- The digits of a number of at most k digits spell it.
+spell-spells : (k x : ℕ) → x < 10 ^ k → spelt 0 (spell k x) ≡ x
+unfolding spell
+spell-spells zero x h = omega arith
+spell-spells (suc k) x h =
+    let tens : x / 10 < 10 ^ k = omega arith in
+    let last : spelt (x / 10) (digit x ∷ []) ≡ x = omega arith in
+    let one : x < 10 → spelt 0 (digit x ∷ []) ≡ x = λ l. omega arith in
+    ⊎-elim
+    (λ l. ap (spelt 0) (spell-more k x l) ∙ spelt-append 0 (spell k (x / 10)) (digit x ∷ [])
+    ∙ ap (λ high. spelt high (digit x ∷ [])) (spell-spells k (x / 10) tens) ∙ last)
+    (λ l. ap (spelt 0) (spell-last k x l) ∙ one l)
+    (le-or-lt 10 x)
 
--- They are digits, and the first is 0 only in 0 itself.
-pub decimal-digits : (x : ℕ) → All (λ d. (48 ≤ d) × (d ≤ 57)) (decimal x)
-decimal-digits x =
-    let one : (y : ℕ) → (48 ≤ digit y) × (digit y ≤ 57) = λ y. (omega arith, omega arith) in
-    forms (All (λ d. (48 ≤ d) × (d ≤ 57))) x (λ a. (one x, tt)) (λ a b. (one (x / 10), (one x, tt)))
-    (λ a b. (one (x / 100), (one (x / 10), (one x, tt)))) (λ a b. (one (x / 1000), (one (x / 100), (one (x / 10), (one x, tt)))))
-    (λ a. (one (x / 10000), (one (x / 1000), (one (x / 100), (one (x / 10), (one x, tt))))))
+-- What is printed spells the number; one of 32 bits has at most ten digits.
+pub decimal-spells : (x : ℕ) → x < 10000000000 → spelt 0 (decimal x) ≡ x
+decimal-spells x h = spell-spells 10 x h
 
-pub decimal-first : (x : ℕ) → 10 ≤ x → x < 100000 → 49 ≤ getD (decimal x) 0 0
-decimal-first x h k =
-    forms (λ ds. 49 ≤ getD ds 0 0) x (λ a. omega arith) (λ a b. omega arith) (λ a b. omega arith) (λ a b. omega arith) (λ a. omega arith)
+-- A decimal digit, as a byte.
+abbrev pub IsDigit : ℕ → Type 0
+IsDigit d = (48 ≤ d) × (d ≤ 57)
+
+-- They are digits.
+spell-digits : (k x : ℕ) → All IsDigit (spell k x)
+unfolding spell
+spell-digits zero x = tt
+spell-digits (suc k) x =
+    let one : IsDigit (digit x) = (omega arith, omega arith) in
+    ⊎-elim
+    (λ l. subst (All IsDigit) (sym (spell-more k x l))
+    (all-append IsDigit (spell k (x / 10)) (digit x ∷ []) (spell-digits k (x / 10)) (one, tt)))
+    (λ l. subst (All IsDigit) (sym (spell-last k x l)) (one, tt))
+    (le-or-lt 10 x)
+
+pub decimal-digits : (x : ℕ) → All IsDigit (decimal x)
+decimal-digits x = spell-digits 10 x
+
+-- And the first is 0 only in 0 itself.
+first-kept : (xs ys : List ℕ) → 49 ≤ getD xs 0 0 → 49 ≤ getD (xs ++ ys) 0 0
+first-kept [] ys h = absurd (omega arith)
+first-kept (x ∷ xs) ys h = h
+
+spell-first : (k x : ℕ) → 1 ≤ x → x < 10 ^ k → 49 ≤ getD (spell k x) 0 0
+unfolding spell
+spell-first zero x above h = absurd (omega arith)
+spell-first (suc k) x above h =
+    let tens : x / 10 < 10 ^ k = omega arith in
+    ⊎-elim
+    (λ l. rw (spell-more k x l) (first-kept (spell k (x / 10)) (digit x ∷ []) (spell-first k (x / 10) (omega arith) tens)))
+    (λ l. rw (spell-last k x l) (omega arith))
+    (le-or-lt 10 x)
+
+pub decimal-first : (x : ℕ) → 1 ≤ x → x < 10000000000 → 49 ≤ getD (decimal x) 0 0
+decimal-first x above h = spell-first 10 x above h
 
 -- ---- the happy lamps
 listed-append : (xs ys : List ℕ) → listed (xs ++ ys) ≡ listed xs ++ listed ys
@@ -114,9 +126,12 @@ names-members set (suc n) =
     ∙ ap listed (sym (keep-append (member set) (parties n) (suc n ∷ [])))
 
 -- ---- the opening
-module _ (n t : ℕ) (size : sizes n t ≡ true) (shares : List ℕ) (long : length shares ≡ n) where
-  fine : Points modulus (oneTo n)
-  fine = table-points modulus n (oneTo n) (one-to-table modulus n (omega (arith, sizes-facts n t size .3)))
+module _ (w : Width) (n t : ℕ) (size : sizes n t ≡ true) (shares : List ℕ) (long : length shares ≡ n) where
+  abbrev p : ℕ
+  p = primeOf w
+
+  fine : Points p (oneTo n)
+  fine = table-points p n (oneTo n) (plain-table w n (sizes-facts n t size .3))
 
   same : length (oneTo n) ≡ length shares
   same = length-one-to n ∙ sym long
@@ -124,25 +139,25 @@ module _ (n t : ℕ) (size : sizes n t ≡ true) (shares : List ℕ) (long : len
   enough : 3 * t + 1 ≤ length (oneTo n)
   enough = let f = sizes-facts n t size in omega (arith, length-one-to n)
 
-  needed : fit modulus t (n - t) (oneTo n) shares ≡ fit modulus t (length (oneTo n) - t) (oneTo n) shares
-  needed = ap (λ m. fit modulus t (m - t) (oneTo n) shares) (sym (length-one-to n))
+  needed : fit p t (n - t) (oneTo n) shares ≡ fit p t (length (oneTo n) - t) (oneTo n) shares
+  needed = ap (λ m. fit p t (m - t) (oneTo n) shares) (sym (length-one-to n))
 
   -- The published list opens the constant of the polynomial that differs from it in at most t places.
-  pub opened-near : (f : List ℕ) → Near modulus t (oneTo n) shares f
-      → lastLine true n t shares ≡ line (letters "opened ") (constant f)
+  pub opened-near : (f : List ℕ) → Near p t (oneTo n) shares f
+      → lastLine true w n t shares ≡ line (letters "opened ") (constant f)
   unfolding lastLine
-  opened-near f near = ap openingLine (needed ∙ near-found modulus prime t (oneTo n) shares fine same enough f near)
+  opened-near f near = ap openingLine (needed ∙ near-found p (prime-of w) t (oneTo n) shares fine same enough f near)
 
   -- It is refused only where there is none.
-  pub opened-none : ((f : List ℕ) → Near modulus t (oneTo n) shares f → ⊥)
-      → lastLine true n t shares ≡ line (letters "opened refused ") (refusalNumber NoOpening)
+  pub opened-none : ((f : List ℕ) → Near p t (oneTo n) shares f → ⊥)
+      → lastLine true w n t shares ≡ line (letters "opened refused ") (refusalNumber NoOpening)
   unfolding lastLine
-  opened-none never = ap openingLine (needed ∙ near-none modulus prime t (oneTo n) shares fine same enough .1 never)
+  opened-none never = ap openingLine (needed ∙ near-none p (prime-of w) t (oneTo n) shares fine same enough .1 never)
 
 -- ---- No text is empty.
 some-text : (r : Reading) (bytes : List ℕ) → 1 ≤ length (textBy r bytes)
 unfolding textBy textOf
-some-text (Fine n t) bytes = omega arith
+some-text (Fine w n t) bytes = omega arith
 some-text (Refused why) bytes = omega arith
 
 pub text-some : (bytes : List ℕ) → 1 ≤ length (text bytes)
@@ -156,5 +171,5 @@ unfolding text textBy
 text-refused bytes k e = by (reading bytes) e
   where
     by : (r : Reading) → readingNumber r ≡ some k → textBy r bytes ≡ refusedLine k
-    by (Fine n t) e = absurd (let z : _≡_ {A = ℕ} 0 1 = cc in omega arith)
+    by (Fine w n t) e = absurd (let z : _≡_ {A = ℕ} 0 1 = cc in omega arith)
     by (Refused why) e = ap refusedLine (let same : some (refusalNumber why) ≡ some k = e in cc)

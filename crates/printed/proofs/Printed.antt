@@ -8,24 +8,25 @@ use Prim.Native.Nat.{ℕ, suc}
 use native.Mathlib.Omega.{arith}
 use Rattle.lists.specs.Options.{orZero}
 use Rattle.lists.proofs.Cases.{true-or-false}
-use Rattle.field.specs.Modulus.{modulus}
-use Rattle.field.proofs.Primes.{prime}
+use Rattle.field.specs.declared.Width.{Width}
+use Rattle.field.specs.Modulus.{primeOf}
+use Rattle.field.proofs.Primes.{prime-of, positive}
 use Rattle.bivariate.proofs.Crossing.{row-poly}
 use Rattle.bivariate.proofs.Terms.{row-at}
 use Rattle.parties.specs.Parties.{isParty}
 use Rattle.parties.proofs.Parties.{party-facts, sizes-facts}
-use Rattle.tables.proofs.Tables.{one-to-table, one-to-point}
+use Rattle.tables.proofs.Tables.{one-to-point}
 use Rattle.answers.specs.declared.Refusal.the-variants.{DealerRejected}
 use Rattle.answers.specs.Refusals.{refusalNumber}
 use Rattle.answers.specs.Answers.{numberOf}
 use Rattle.record.specs.declared.Reading.the-variants.{Fine}
-use Rattle.record.specs.Record.{nOf, tOf, reading, IsRecord, numbersOf}
+use Rattle.record.specs.Record.{widthOf, nOf, tOf, reading, IsRecord, numbersOf}
 use Rattle.record.proofs.Answers.{record-fine}
 use Rattle.text.specs.Letters.{letters, field, line}
 use Rattle.lines.specs.Lines.{verdictWords, verdictLines, lampLine, openedLine}
 use Rattle.transcript.specs.Outcomes.{replyLine, openingLine, lastLine}
 use Rattle.transcript.specs.Transcript.{run, textOf, textBy, text}
-use Rattle.transcript.proofs.Runs.{reports-count, shares-count}
+use Rattle.transcript.proofs.Runs.{reports-count, shares-count, plain-table}
 use Rattle.agreement.specs.Setting.{Setting, Legal, point, valueOf, zeroRow}
 use Rattle.agreement.specs.Demand3.{Premises, Accepts, Rejects, AllReject, AllAccept, Conclusions}
 use Rattle.agreement.proofs.Geometry.{opens, row-constant}
@@ -37,6 +38,9 @@ use Rattle.printed.specs.Printed.{Rejected, Accepted, PrintedRight, Prin
 use Rattle.printed.proofs.Direct.{deal-long, pairs-long, says-rejected, says-accepted}
 
 module _ (honest : ℕ → Bool) (bytes : List ℕ) (is : IsRecord bytes) (f : Faithful honest bytes) where
+  abbrev w : Width
+  w = widthOf bytes
+
   abbrev n : ℕ
   n = nOf bytes
 
@@ -46,14 +50,14 @@ module _ (honest : ℕ → Bool) (bytes : List ℕ) (is : IsRecord bytes) (f : F
   abbrev s : Setting
   s = settingOf bytes
 
-  fine : reading bytes ≡ Fine n t
+  fine : reading bytes ≡ Fine w n t
   fine = record-fine bytes is
 
   legal : Legal s
   legal = record {
-    prime = prime;
+    prime = prime-of w;
     size = is .size;
-    table = one-to-table modulus n (omega (arith, sizes-facts n t (is .size) .3));
+    table = plain-table w n (sizes-facts n t (is .size) .3);
   }
 
   -- Lamp i's share, at its point and at i itself.
@@ -69,11 +73,12 @@ module _ (honest : ℕ → Bool) (bytes : List ℕ) (is : IsRecord bytes) (f : F
         let range = party-facts n i (h .party) in
         record {
           list = refl;
+          own-width = refl;
           deal-length = deal-long bytes is i (range .0) (range .1);
           deal-first = tt;
           pairs-length = pairs-long bytes is i (range .0) (range .1);
           pairs-first = tt;
-          reports-length = reports-count bytes n t fine;
+          reports-length = reports-count bytes w n t fine;
           reports-own = f .own i h;
           reports-first = tt;
         };
@@ -82,30 +87,30 @@ module _ (honest : ℕ → Bool) (bytes : List ℕ) (is : IsRecord bytes) (f : F
   }
 
   all-right : Conclusions s (story honest bytes)
-  all-right = without-tables .agreement n t (story honest bytes) (λ i h. refl) premises
+  all-right = without-tables w .agreement n t (story honest bytes) (λ i h. refl) (λ i h. refl) premises
 
   -- ---- one lamp
   refused-line : (i : ℕ) → Rejects s (story honest bytes) s i
       → printedLine honest bytes i ≡ field (letters "lamp ") i ++ line (letters " refused ") (refusalNumber DealerRejected)
   unfolding replyLine run
-  refused-line i r = ap (λ a. lampLine i (orZero a) (run bytes n t i .lamp .sharing .share)) (r .answered)
+  refused-line i r = ap (λ a. lampLine i (orZero a) (run bytes w n t i .lamp .sharing .share)) (r .answered)
 
   share-line : (F : List ℕ) (i : ℕ) → isParty n i ≡ true → Accepts s (story honest bytes) s i F
       → printedLine honest bytes i ≡ field (letters "lamp ") i ++ line (letters " share ") (valueOf s F i 0)
   unfolding replyLine run
   share-line F i party a =
-      ap (λ z. lampLine i (orZero z) (run bytes n t i .lamp .sharing .share)) (a .answered .0)
+      ap (λ z. lampLine i (orZero z) (run bytes w n t i .lamp .sharing .share)) (a .answered .0)
       ∙ ap (lampLine i 0) (a .stays .shares [] (told bytes i .rest, refl) ∙ share-at F i party)
 
   -- ---- the verdict: what an honest lamp says is what is printed
   module _ (i : ℕ) (h : IsHonest honest bytes i) where
-    verdict-no : numberOf (run bytes n t i .answer) ≡ some (refusalNumber DealerRejected) → isAcceptedIn bytes ≡ false
+    verdict-no : numberOf (run bytes w n t i .answer) ≡ some (refusalNumber DealerRejected) → isAcceptedIn bytes ≡ false
     verdict-no said =
         let range = party-facts n i (h .party) in
         ⊎-elim (λ yes. absurd (says-accepted bytes is i (range .0) (range .1) (f .own i h) yes said)) (λ no. no)
         (true-or-false (isAcceptedIn bytes))
 
-    verdict-yes : numberOf (run bytes n t i .answer) ≡ none → isAcceptedIn bytes ≡ true
+    verdict-yes : numberOf (run bytes w n t i .answer) ≡ none → isAcceptedIn bytes ≡ true
     verdict-yes said =
         let range = party-facts n i (h .party) in
         let never : isAcceptedIn bytes ≡ false → ⊥ = λ no.
@@ -118,9 +123,9 @@ module _ (honest : ℕ → Bool) (bytes : List ℕ) (is : IsRecord bytes) (f : F
 
   -- The text by the verdict.
   printed-by : (v : Bool) → isAcceptedIn bytes ≡ v
-      → text bytes ≡ textWith honest bytes (verdictLines v (happy bytes) n) (lastLine v n t (numbersOf bytes 3))
+      → text bytes ≡ textWith honest bytes (verdictLines v (happy bytes) n) (lastLine v w n t (numbersOf bytes 3))
   unfolding text textBy textOf
-  printed-by v e = rw fine (ap (λ b. textWith honest bytes (verdictLines b (happy bytes) n) (lastLine b n t (numbersOf bytes 3))) e)
+  printed-by v e = rw fine (ap (λ b. textWith honest bytes (verdictLines b (happy bytes) n) (lastLine b w n t (numbersOf bytes 3))) e)
 
   rejected : AllReject s (story honest bytes) → Rejected honest bytes
   unfolding run lastLine verdictWords
@@ -138,8 +143,9 @@ module _ (honest : ℕ → Bool) (bytes : List ℕ) (is : IsRecord bytes) (f : F
     lines = λ i h. share-line F i (h .party) (a .hold i h);
     opens = λ published.
         let found = opens s legal honest (f .few) (zeroRow s F) (numbersOf bytes 3)
-        (row-poly modulus (suc t) (suc t) F 0 (omega arith)) (shares-count bytes n t fine)
-        (λ j q g. row-at modulus (suc t) (suc t) F (point s j) 0 ∙ share-at F j q ∙ sym (published j (record { party = q; good = g }))) in
+        (row-poly (primeOf w) (suc t) (suc t) F 0 (positive w)) (shares-count bytes w n t fine)
+        (λ j q g.
+        row-at (primeOf w) (suc t) (suc t) F (point s j) 0 ∙ share-at F j q ∙ sym (published j (record { party = q; good = g }))) in
         ap openingLine found ∙ ap (openedLine 0) (row-constant s legal F (a .on .poly .size));
   }
 

@@ -1,5 +1,6 @@
 -- The text of a record straight from its numbers, by the protocol's steps 1 to 4, with no lamp and no call. A record has no table: the
 -- points are 1 to n.
+--   thePrime                       the prime of its width
 --   itsDeal, itsPairs, itsReport   lamp i's own deal and pairs in the record, and its report by step 3
 --   happy, isAcceptedIn            the happy set and whether the dealer is accepted, by the reports alone
 --   lampSays bytes i               what is printed behind "lamp i"
@@ -10,7 +11,7 @@ use mathlib.Core.Option.{Option, none, some}
 use mathlib.Core.List.{List, [], _++_}
 use Prim.Native.Nat.{ℕ, zero, suc, _+_}
 use lib.Dec.{eqb}
-use Rattle.field.specs.Modulus.{modulus}
+use Rattle.field.specs.Modulus.{primeOf}
 use Rattle.happy.specs.Happy.{happySet}
 use Rattle.parties.specs.Parties.{member, entry}
 use Rattle.tables.specs.Tables.{oneTo}
@@ -22,7 +23,7 @@ use Rattle.answers.specs.declared.Refusal.the-variants.{AlteredReport, DealerRe
 use Rattle.answers.specs.Refusals.{refusalNumber}
 use Rattle.answers.specs.Fits.{constant}
 use Rattle.lamp.specs.Lamp.{firsts}
-use Rattle.record.specs.Record.{nOf, tOf, numbersOf}
+use Rattle.record.specs.Record.{widthOf, nOf, tOf, numbersOf}
 use Rattle.text.specs.Letters.{letters, field, line}
 use Rattle.lines.specs.Lines.{sizeLine, verdictLines}
 use Rattle.transcript.specs.Outcomes.{isAccepted, lastLine}
@@ -38,6 +39,10 @@ mended none = refuses NoColumn
 mended (some f) = line (letters " share ") (constant f)
 
 module _ (bytes : List ℕ) where
+  -- All is computed modulo the prime of the record's width.
+  abbrev pub thePrime : ℕ
+  thePrime = primeOf (widthOf bytes)
+
   -- Lamp i's own part of the deals, and of round two.
   abbrev pub itsDeal : ℕ → List ℕ
   itsDeal i = stretch (tOf bytes + 1) (numbersOf bytes 0) i
@@ -48,7 +53,7 @@ module _ (bytes : List ℕ) where
   -- Its report, which step 3 gives from both.
   abbrev pub itsReport : ℕ → ℕ
   itsReport i =
-      reportOf modulus (nOf bytes) (oneTo (nOf bytes)) i (rowOf (tOf bytes) (itsDeal i)) (columnOf (tOf bytes) (itsDeal i)) (itsPairs i)
+      reportOf thePrime (nOf bytes) (oneTo (nOf bytes)) i (rowOf (tOf bytes) (itsDeal i)) (columnOf (tOf bytes) (itsDeal i)) (itsPairs i)
 
   -- The happy set, and whether the dealer is accepted: by the reports alone.
   abbrev pub happy : ℕ
@@ -61,7 +66,7 @@ module _ (bytes : List ℕ) where
   unfoldable pub lampSays : ℕ → List ℕ
   lampSays i =
       let own = line (letters " share ") (constant (columnOf (tOf bytes) (itsDeal i))) in
-      let repaired = mended (repair modulus (nOf bytes) (tOf bytes) (oneTo (nOf bytes)) happy (firsts (nOf bytes) (itsPairs i))) in
+      let repaired = mended (repair thePrime (nOf bytes) (tOf bytes) (oneTo (nOf bytes)) happy (firsts (nOf bytes) (itsPairs i))) in
       let settled = cond isAcceptedIn (cond (member happy i) own repaired) (refuses DealerRejected) in
       cond (eqb (entry (numbersOf bytes 2) i) (itsReport i)) settled (refuses AlteredReport)
 
@@ -74,4 +79,4 @@ module _ (bytes : List ℕ) where
   unfoldable pub direct : List ℕ
   direct =
       ((sizeLine (nOf bytes) (tOf bytes) ++ verdictLines isAcceptedIn happy (nOf bytes)) ++ lampsSay (nOf bytes))
-      ++ lastLine isAcceptedIn (nOf bytes) (tOf bytes) (numbersOf bytes 3)
+      ++ lastLine isAcceptedIn (widthOf bytes) (nOf bytes) (tOf bytes) (numbersOf bytes 3)

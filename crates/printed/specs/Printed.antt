@@ -1,6 +1,6 @@
 -- What is printed of a record in which the honest lamps' entries meet demand 3's premises.
 --   Faithful honest bytes     those premises: few are faulty, and the honest lamps' pairs and reports stand in the record
---   settingOf bytes           the record's sizes, with the modulus and the points 1 to n
+--   settingOf bytes           the record's width and sizes, with the points 1 to n
 --   told bytes i              lamp i's calls, as the record tells them: its deal, its pairs, the reports, an opening of what is published
 --   story honest bytes        the execution of all lamps
 --   Rejected, Accepted        what the text says; PrintedRight: one of the two
@@ -12,14 +12,13 @@ use mathlib.Core.List.{List, [], _∷_, _++_}
 use Prim.Native.Nat.{ℕ, _≤_}
 use lib.ListN.{getD}
 use Rattle.lists.specs.Choices.{count}
-use Rattle.field.specs.Modulus.{modulus}
 use Rattle.parties.specs.Parties.{parties, entry}
 use Rattle.tables.specs.Tables.{oneTo}
 use Rattle.consistency.specs.Deal.{firstFrom, secondFrom}
 use Rattle.answers.specs.declared.Refusal.the-variants.{DealerRejected}
 use Rattle.answers.specs.Refusals.{refusalNumber}
 use Rattle.lamp.specs.Lamp.{openShares}
-use Rattle.record.specs.Record.{nOf, tOf, IsRecord, numbersOf}
+use Rattle.record.specs.Record.{widthOf, nOf, tOf, IsRecord, numbersOf}
 use Rattle.text.specs.Letters.{letters, field, line}
 use Rattle.lines.specs.Lines.{sizeLine, happyLine}
 use Rattle.transcript.specs.Outcomes.{replyLine, lastLine}
@@ -32,24 +31,26 @@ use Rattle.printed.specs.Direct.{itsDeal, itsPairs, itsReport, happy}
 
 -- The surroundings that the record gives: a record has no table.
 abbrev pub settingOf : List ℕ → Setting
-settingOf bytes = plain modulus (nOf bytes) (tOf bytes)
+settingOf bytes = plain (widthOf bytes) (nOf bytes) (tOf bytes)
 
--- Lamp i's own parts of the record, with no other call.
+-- Lamp i's own parts of the record, by calls of its width, with no other call.
 abbrev pub told : List ℕ → ℕ → Run
 told bytes i = record {
+  width = widthOf bytes;
   beforeDeal = [];
   itsDeal = itsDeal bytes i;
   beforePairs = [];
   itsPairs = itsPairs bytes i;
   beforeReports = [];
   itsReports = numbersOf bytes 2;
-  rest = openShares (numbersOf bytes 3) ∷ [];
+  rest = openShares (widthOf bytes) (numbersOf bytes 3) ∷ [];
 }
 
--- All lamps, made without a table, with the reports that stand in the record.
+-- All lamps, made for the record's width without a table, with the reports that stand in the record.
 abbrev pub story : (ℕ → Bool) → List ℕ → Execution
 story honest bytes = record {
   honest = honest;
+  widths = λ i. widthOf bytes;
   tables = λ i. oneTo (nOf bytes);
   calls = λ i. whole (told bytes i);
   run = told bytes;
@@ -74,15 +75,15 @@ module _ (honest : ℕ → Bool) (bytes : List ℕ) where
 
   -- The line that is printed of lamp i, and the last line after an accepted dealer.
   abbrev pub printedLine : ℕ → List ℕ
-  printedLine i = replyLine i (run bytes (nOf bytes) (tOf bytes) i)
+  printedLine i = replyLine i (run bytes (widthOf bytes) (nOf bytes) (tOf bytes) i)
 
   abbrev pub opensLine : List ℕ
-  opensLine = lastLine true (nOf bytes) (tOf bytes) (numbersOf bytes 3)
+  opensLine = lastLine true (widthOf bytes) (nOf bytes) (tOf bytes) (numbersOf bytes 3)
 
   -- The text with this verdict and this last line.
   abbrev pub textWith : List ℕ → List ℕ → List ℕ
   textWith verdict last =
-      ((sizeLine (nOf bytes) (tOf bytes) ++ verdict) ++ lampLines bytes (nOf bytes) (tOf bytes) (nOf bytes)) ++ last
+      ((sizeLine (nOf bytes) (tOf bytes) ++ verdict) ++ lampLines bytes (widthOf bytes) (nOf bytes) (tOf bytes) (nOf bytes)) ++ last
 
   -- "dealer rejected" is printed, "opened refused 8", and "lamp i refused 8" of every honest lamp.
   pub record Rejected : Type 0 where

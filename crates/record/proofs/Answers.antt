@@ -1,12 +1,12 @@
 -- Laws of reading: which answer when, that what is found fine is a record and the other way round, and what the sections of a record are.
 use mathlib.Core.Path.{_≡_, refl, sym, ap, ap₂, _∙_}
 use mathlib.Core.Logic.{⊎-elim}
-use mathlib.Core.Bool.{Bool, true, false, and-eq-true-iff}
+use mathlib.Core.Bool.{true, false, and-eq-true-iff}
 use mathlib.Core.Option.{none, some}
 use mathlib.Core.List.{List, []}
 use Prim.Native.Nat.{ℕ, zero, suc, _+_, _*_, _-_, _≤_, _<_}
 use native.Mathlib.Omega.{arith}
-use lib.Dec.{eqb, leb}
+use lib.Dec.{eqb}
 use lib.ListN.{length, getD, take, drop, length-drop}
 use lib.Seq.{take-all, length-take-le}
 use borrow.Author.Tests.{leb-true, le-leb, lt-leb, eqb-true, eq-eqb, ne-eqb}
@@ -17,35 +17,56 @@ use Rattle.answers.specs.declared.Admission.{Admission}
 use Rattle.answers.specs.declared.Admission.the-variants.{Pass, Fail}
 use Rattle.answers.specs.Refusals.{refusalNumber, lowest}
 use Rattle.answers.proofs.Tests.{lowest-pass}
+use Rattle.field.specs.declared.Width.{Width}
+use Rattle.field.specs.declared.Width.the-variants.{Narrow}
 use Rattle.parties.specs.Parties.{sizes}
-use Rattle.record.specs.declared.Reading.{Reading}
 use Rattle.record.specs.declared.Reading.the-variants.{Fine, Refused}
 use Rattle.record.specs.Bytes.{numberAt, standAt}
-use Rattle.record.specs.Record.{sectionLength, sectionStart, directory, directoryRight, nOf, tOf, IsRecord, sectionOf}
-use Rattle.record.specs.Record.{readingTests, readBy, reading, readingNumber}
+use Rattle.record.specs.Record.{sectionLength, sectionStart, directory, directoryRight, widthOf, nOf, tOf, IsRecord, sectionOf}
+use Rattle.record.specs.Record.{readingTests, readBy, readingAs, reading, readingNumber}
 use Rattle.record.proofs.Bytes.{stand-facts, stand-true}
-use Rattle.record.proofs.Sections.{sections-small, length-directory, directory-offset, directory-count, section-before-end}
+use Rattle.record.proofs.Sections.{record-small, narrow-small, length-directory, directory-offset, directory-count}
+use Rattle.record.proofs.Sections.{section-before-end}
 
--- ---- Which answer when, in the protocol's order
+-- ---- Which answer when, in the protocol's order, by the width and the sizes that a reader takes
+module _ (bytes : List ℕ) (w : Width) (n t : ℕ) where
+  pub as-short : length bytes < 2 → readingAs bytes w n t ≡ Refused WrongDirectory
+  unfolding readingAs
+  as-short h = simp (lt-leb _ _ h)
+
+  module _ (two : 2 ≤ length bytes) where
+    pub as-size : sizes n t ≡ false → readingAs bytes w n t ≡ Refused WrongSize
+    unfolding readingAs
+    as-size e = simp (le-leb _ _ two, e)
+
+    pub as-wrong : sizes n t ≡ true → directoryRight bytes w n t ≡ false → readingAs bytes w n t ≡ Refused WrongDirectory
+    unfolding readingAs
+    as-wrong e d = simp (le-leb _ _ two, e, d)
+
+    pub as-fine : sizes n t ≡ true → directoryRight bytes w n t ≡ true → readingAs bytes w n t ≡ Fine w n t
+    unfolding readingAs
+    as-fine e d = simp (le-leb _ _ two, e, d)
+
+-- By what the bytes give.
 module _ (bytes : List ℕ) where
   pub reading-short : length bytes < 2 → reading bytes ≡ Refused WrongDirectory
   unfolding reading
-  reading-short h = simp (lt-leb _ _ h)
+  reading-short h = as-short bytes _ _ _ h
 
   module _ (two : 2 ≤ length bytes) where
     pub reading-size : sizes (nOf bytes) (tOf bytes) ≡ false → reading bytes ≡ Refused WrongSize
     unfolding reading
-    reading-size e = simp (le-leb _ _ two, e)
+    reading-size e = as-size bytes _ _ _ two e
 
-    pub reading-wrong : sizes (nOf bytes) (tOf bytes) ≡ true → directoryRight bytes (nOf bytes) (tOf bytes) ≡ false
+    pub reading-wrong : sizes (nOf bytes) (tOf bytes) ≡ true → directoryRight bytes (widthOf bytes) (nOf bytes) (tOf bytes) ≡ false
         → reading bytes ≡ Refused WrongDirectory
     unfolding reading
-    reading-wrong e d = simp (le-leb _ _ two, e, d)
+    reading-wrong e d = as-wrong bytes _ _ _ two e d
 
-    pub reading-fine : sizes (nOf bytes) (tOf bytes) ≡ true → directoryRight bytes (nOf bytes) (tOf bytes) ≡ true
-        → reading bytes ≡ Fine (nOf bytes) (tOf bytes)
+    pub reading-fine : sizes (nOf bytes) (tOf bytes) ≡ true → directoryRight bytes (widthOf bytes) (nOf bytes) (tOf bytes) ≡ true
+        → reading bytes ≡ Fine (widthOf bytes) (nOf bytes) (tOf bytes)
     unfolding reading
-    reading-fine e d = simp (le-leb _ _ two, e, d)
+    reading-fine e d = as-fine bytes _ _ _ two e d
 
 -- The same in the protocol's numbers.
 module _ (bytes : List ℕ) where
@@ -56,62 +77,79 @@ module _ (bytes : List ℕ) where
       → readingNumber (reading bytes) ≡ some (refusalNumber WrongSize)
   number-size two e = ap readingNumber (reading-size bytes two e)
 
-  pub number-directory : 2 ≤ length bytes → sizes (nOf bytes) (tOf bytes) ≡ true → directoryRight bytes (nOf bytes) (tOf bytes) ≡ false
+  pub number-directory : 2 ≤ length bytes → sizes (nOf bytes) (tOf bytes) ≡ true
+      → directoryRight bytes (widthOf bytes) (nOf bytes) (tOf bytes) ≡ false
       → readingNumber (reading bytes) ≡ some (refusalNumber WrongDirectory)
   number-directory two e d = ap readingNumber (reading-wrong bytes two e d)
 
 -- As the code tests the directory: first where the record ends.
-module _ (bytes : List ℕ) (n t : ℕ) where
-  pub directory-no : (length bytes ≡ sectionStart n t 4 → ⊥) → false ≡ directoryRight bytes n t
+module _ (bytes : List ℕ) (w : Width) (n t : ℕ) where
+  pub directory-no : (length bytes ≡ sectionStart w n t 4 → ⊥) → false ≡ directoryRight bytes w n t
   unfolding directoryRight
   directory-no d = simp (ne-eqb _ _ d)
 
-  pub directory-by : (list : List ℕ) → list ≡ directory n t → length bytes ≡ sectionStart n t 4
-      → standAt bytes 2 list ≡ directoryRight bytes n t
+  pub directory-by : (list : List ℕ) → list ≡ directory w n t → length bytes ≡ sectionStart w n t 4
+      → standAt bytes 2 list ≡ directoryRight bytes w n t
   unfolding directoryRight
   directory-by list e end = ap (standAt bytes 2) e ∙ simp (eq-eqb _ _ end)
 
 -- ---- A fine record is a record, and a record is fine
 
--- Nothing is found fine but where every test passes, and the sizes are handed on.
-passed : (a : Admission) (m s n t : ℕ) → readBy a m s ≡ Fine n t → (a ≡ Pass) × (n ≡ m) × (t ≡ s)
-passed Pass m s n t e = (refl, cc, cc)
-passed (Fail why) m s n t e = absurd (let z : _≡_ {A = ℕ} 0 1 = cc in omega arith)
+-- Nothing is found fine but where every test passes, and the width and the sizes are handed on.
+passed : (a : Admission) (v : Width) (m s : ℕ) (w : Width) (n t : ℕ) → readBy a v m s ≡ Fine w n t
+    → (a ≡ Pass) × (w ≡ v) × (n ≡ m) × (t ≡ s)
+passed Pass v m s w n t e = (refl, cc, cc, cc)
+passed (Fail why) v m s w n t e = absurd (let z : _≡_ {A = ℕ} 0 1 = cc in omega arith)
 
 module _ (bytes : List ℕ) where
-  pub fine-sizes : (n t : ℕ) → reading bytes ≡ Fine n t → (n ≡ nOf bytes) × (t ≡ tOf bytes)
-  unfolding reading
-  fine-sizes n t e = let q = passed (lowest (readingTests bytes)) (nOf bytes) (tOf bytes) n t e in (q .1, q .2)
+  pub fine-sizes : (w : Width) (n t : ℕ) → reading bytes ≡ Fine w n t → (w ≡ widthOf bytes) × (n ≡ nOf bytes) × (t ≡ tOf bytes)
+  unfolding reading readingAs
+  fine-sizes w n t e =
+      let v = widthOf bytes in
+      let tests = readingTests bytes v (nOf bytes) (tOf bytes) in
+      let q = passed (lowest tests) v (nOf bytes) (tOf bytes) w n t e in
+      (q .1, q .2, q .3)
 
-  pub fine-record : (n t : ℕ) → reading bytes ≡ Fine n t → IsRecord bytes
-  unfolding reading directoryRight
-  fine-record a b e =
+  pub fine-record : (w : Width) (n t : ℕ) → reading bytes ≡ Fine w n t → IsRecord bytes
+  unfolding reading readingAs directoryRight
+  fine-record v a b e =
+      let w = widthOf bytes in
       let n = nOf bytes in
       let t = tOf bytes in
-      let (long, (size, (right, rest))) = lowest-pass (readingTests bytes) (passed (lowest (readingTests bytes)) n t a b e .0) in
-      let (ends, stand) = and-eq-true-iff (eqb (length bytes) (sectionStart n t 4)) (standAt bytes 2 (directory n t)) .0 right in
-      let each : (k : ℕ) → k < 8 → numberAt bytes (2 + 2 * k) ≡ getD (directory n t) k 0 = λ k h.
-      stand-facts bytes 2 (directory n t) stand k (omega (arith, length-directory n t)) in
+      let (long, (size, (right, rest))) = lowest-pass (readingTests bytes w n t)
+      (passed (lowest (readingTests bytes w n t)) w n t v a b e .0) in
+      let (ends, stand) = and-eq-true-iff (eqb (length bytes) (sectionStart w n t 4)) (standAt bytes 2 (directory w n t)) .0 right in
+      let each : (k : ℕ) → k < 8 → numberAt bytes (2 + 2 * k) ≡ getD (directory w n t) k 0 = λ k h.
+      stand-facts bytes 2 (directory w n t) stand k (omega (arith, length-directory w n t)) in
       record {
         two = leb-true _ _ long;
         size = size;
         offset = λ k h.
             let place : 2 + 4 * k ≡ 2 + 2 * (2 * k) = omega arith in
-            ap (numberAt bytes) place ∙ each (2 * k) (omega arith) ∙ directory-offset n t k h;
+            ap (numberAt bytes) place ∙ each (2 * k) (omega arith) ∙ directory-offset w n t k h;
         count = λ k h.
             let place : 4 + 4 * k ≡ 2 + 2 * (2 * k + 1) = omega arith in
-            ap (numberAt bytes) place ∙ each (2 * k + 1) (omega arith) ∙ directory-count n t k h;
+            ap (numberAt bytes) place ∙ each (2 * k + 1) (omega arith) ∙ directory-count w n t k h;
         end = eqb-true _ _ ends;
       }
 
 module _ (bytes : List ℕ) (r : IsRecord bytes) where
-  -- The longest record is that of 16 parties, 3 of them faulty.
-  pub longest : length bytes ≤ 1362
-  longest = omega (arith, r .end, sections-small (nOf bytes) (tOf bytes) (r .size))
+  pub longest : length bytes ≤ 2674
+  longest = omega (arith, r .end, record-small (nOf bytes) (tOf bytes) (r .size) (widthOf bytes))
+
+  pub longest-narrow : widthOf bytes ≡ Narrow → length bytes ≤ 1362
+  longest-narrow e =
+      let short : length bytes ≡ sectionStart Narrow (nOf bytes) (tOf bytes) 4 =
+      r .end ∙ ap (λ w. sectionStart w (nOf bytes) (tOf bytes) 4) e in
+      omega (arith, narrow-small (nOf bytes) (tOf bytes) (r .size))
+
+  -- The directory of its width and sizes.
+  abbrev its : List ℕ
+  its = directory (widthOf bytes) (nOf bytes) (tOf bytes)
 
   -- Each number of the directory is an offset or a length.
-  pub record-directory : (k : ℕ) → k < length (directory (nOf bytes) (tOf bytes))
-      → numberAt bytes (2 + 2 * k) ≡ getD (directory (nOf bytes) (tOf bytes)) k 0
+  pub record-directory : (k : ℕ) → k < length (directory (widthOf bytes) (nOf bytes) (tOf bytes))
+      → numberAt bytes (2 + 2 * k) ≡ getD (directory (widthOf bytes) (nOf bytes) (tOf bytes)) k 0
   unfolding directory
   record-directory zero h = r .offset 0 (omega arith)
   record-directory (suc zero) h = r .count 0 (omega arith)
@@ -123,11 +161,10 @@ module _ (bytes : List ℕ) (r : IsRecord bytes) where
   record-directory (suc (suc (suc (suc (suc (suc (suc zero))))))) h = r .count 3 (omega arith)
   record-directory (suc (suc (suc (suc (suc (suc (suc (suc k)))))))) h = absurd (omega arith)
 
-  pub record-fine : reading bytes ≡ Fine (nOf bytes) (tOf bytes)
+  pub record-fine : reading bytes ≡ Fine (widthOf bytes) (nOf bytes) (tOf bytes)
   unfolding directoryRight
   record-fine =
-      let list : List ℕ = directory (nOf bytes) (tOf bytes) in
-      let stand : standAt bytes 2 list ≡ true = stand-true bytes 2 list record-directory in
+      let stand : standAt bytes 2 its ≡ true = stand-true bytes 2 its record-directory in
       reading-fine bytes (r .two) (r .size) (simp (eq-eqb _ _ (r .end), stand))
 
   pub number-none : readingNumber (reading bytes) ≡ none
@@ -189,13 +226,14 @@ module _ (bytes : List ℕ) (k : ℕ) where
   -- Of a record each section has the protocol's place and length.
   module _ (r : IsRecord bytes) (h : k ≤ 3) where
     pub section-at : sectionOf bytes k
-        ≡ take (sectionLength (nOf bytes) (tOf bytes) k) (drop (sectionStart (nOf bytes) (tOf bytes) k) bytes)
+        ≡ take (sectionLength (widthOf bytes) (nOf bytes) (tOf bytes) k)
+        (drop (sectionStart (widthOf bytes) (nOf bytes) (tOf bytes) k) bytes)
     section-at = section-named h ∙ ap₂ (λ a b. take b (drop a bytes)) (r .offset k h) (r .count k h)
 
-    pub length-section : length (sectionOf bytes k) ≡ sectionLength (nOf bytes) (tOf bytes) k
+    pub length-section : length (sectionOf bytes k) ≡ sectionLength (widthOf bytes) (nOf bytes) (tOf bytes) k
     length-section =
-        let start : ℕ = sectionStart (nOf bytes) (tOf bytes) k in
-        let size : ℕ = sectionLength (nOf bytes) (tOf bytes) k in
+        let start : ℕ = sectionStart (widthOf bytes) (nOf bytes) (tOf bytes) k in
+        let size : ℕ = sectionLength (widthOf bytes) (nOf bytes) (tOf bytes) k in
         ap length section-at
         ∙ length-take-le size (drop start bytes)
-        (omega (arith, length-drop start bytes, r .end, section-before-end (nOf bytes) (tOf bytes) k h))
+        (omega (arith, length-drop start bytes, r .end, section-before-end (widthOf bytes) (nOf bytes) (tOf bytes) k h))

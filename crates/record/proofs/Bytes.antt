@@ -1,59 +1,98 @@
--- Laws of numbers in bytes: lengths, places, that two bytes give a number below 65,536, and what `standAt` and `over` say.
-use mathlib.Core.Path.{_≡_, refl, ap, _∙_}
+-- Laws of numbers in bytes: lengths, places, bounds, for two bytes and for four, and what `standAt` and `over` say.
+use mathlib.Core.Path.{_≡_, refl, ap, ap₂, _∙_}
 use mathlib.Core.Bool.{true, and-eq-true-iff}
 use mathlib.Core.List.{List, [], _∷_, _++_}
 use Prim.Native.Nat.{ℕ, zero, suc, _+_, _*_, _/_, _≤_, _<_}
+use native.Mathlib.Nat.{mul-le-mul}
 use native.Mathlib.Omega.{arith}
 use lib.Dec.{eqb}
 use lib.ListN.{length, getD, take, drop}
 use lib.Seq.{take-at, drop-at}
 use borrow.Author.Tests.{eqb-true, eq-eqb}
 use Rattle.lists.specs.All.{All}
-use Rattle.record.specs.Bytes.{numberAt, numbers, numberIn, standAt, over}
+use Rattle.field.specs.declared.Width.{Width}
+use Rattle.field.specs.declared.Width.the-variants.{Narrow, Wide}
+use Rattle.record.specs.Bytes.{paired, numberAt, numbers, numberIn, wideNumberAt, wideNumbers, wideNumberIn}
+use Rattle.record.specs.Bytes.{numberBytes, limitOf, numbersBy, standAt, over}
 
--- ---- The numbers of a list of bytes
+-- ---- Two as one, for any weight b of the first
+module _ (b : ℕ) where
+  pub length-paired : (xs : List ℕ) → length (paired b xs) ≡ length xs / 2
+  unfolding paired
+  length-paired [] = refl
+  length-paired (high ∷ []) = refl
+  length-paired (high ∷ low ∷ xs) = ap suc (length-paired xs) ∙ omega arith
 
-pub length-numbers : (bytes : List ℕ) → length (numbers bytes) ≡ length bytes / 2
-unfolding numbers
-length-numbers [] = refl
-length-numbers (high ∷ []) = refl
-length-numbers (high ∷ low ∷ bytes) = ap suc (length-numbers bytes) ∙ omega arith
+  paired-place : (xs : List ℕ) (k : ℕ) → k < length xs / 2 → getD (paired b xs) k 0 ≡ getD xs (2 * k) 0 * b + getD xs (2 * k + 1) 0
+  unfolding paired
+  paired-place [] k h = absurd (omega arith)
+  paired-place (high ∷ []) k h = absurd (omega arith)
+  paired-place (high ∷ low ∷ xs) zero h = refl
+  paired-place (high ∷ low ∷ xs) (suc k) h =
+      let next : 2 * suc k ≡ suc (suc (2 * k)) = omega arith in
+      let behind : suc (suc (2 * k)) + 1 ≡ suc (suc (2 * k + 1)) = omega arith in
+      paired-place xs k (omega arith) ∙ rw (next, behind)
+
+  -- A part of the numbers is that of the part.
+  paired-drop : (k : ℕ) (xs : List ℕ) → paired b (drop (2 * k) xs) ≡ drop k (paired b xs)
+  unfolding paired
+  paired-drop zero xs = refl
+  paired-drop (suc k) [] = let next : 2 * suc k ≡ suc (suc (2 * k)) = omega arith in rw next refl
+  paired-drop (suc k) (high ∷ []) = let next : 2 * suc k ≡ suc (suc (2 * k)) = omega arith in rw next refl
+  paired-drop (suc k) (high ∷ low ∷ xs) = let next : 2 * suc k ≡ suc (suc (2 * k)) = omega arith in rw next (paired-drop k xs)
+
+  paired-take : (k : ℕ) (xs : List ℕ) → paired b (take (2 * k) xs) ≡ take k (paired b xs)
+  unfolding paired
+  paired-take zero xs = refl
+  paired-take (suc k) [] = let next : 2 * suc k ≡ suc (suc (2 * k)) = omega arith in rw next refl
+  paired-take (suc k) (high ∷ []) = let next : 2 * suc k ≡ suc (suc (2 * k)) = omega arith in rw next refl
+  paired-take (suc k) (high ∷ low ∷ xs) =
+      let next : 2 * suc k ≡ suc (suc (2 * k)) = omega arith in rw next (ap (λ z. (high * b + low) ∷ z) (paired-take k xs))
+
+  paired-part : (from count : ℕ) (xs : List ℕ) → paired b (take (2 * count) (drop (2 * from) xs)) ≡ take count (drop from (paired b xs))
+  paired-part from count xs = paired-take count (drop (2 * from) xs) ∙ ap (take count) (paired-drop from xs)
+
+  pub paired-below : (xs : List ℕ) → All (λ x. x < b) xs → All (λ x. x < b * b) (paired b xs)
+  unfolding paired
+  paired-below [] h = tt
+  paired-below (high ∷ []) h = tt
+  paired-below (high ∷ low ∷ xs) (u, (v, h)) =
+      let most = mul-le-mul {n₁ = suc high} {m₁ = b} {n₂ = b} {m₂ = b} (omega arith) (omega arith) in
+      (omega (arith, most), paired-below xs h)
+
+-- ---- The numbers of a list of bytes, for either width
+
+pub length-numbers : (w : Width) (bytes : List ℕ) → length (numbersBy w bytes) ≡ length bytes / numberBytes w
+length-numbers Narrow bytes = length-paired 256 bytes
+length-numbers Wide bytes = length-paired 65536 (numbers bytes) ∙ ap (λ z. z / 2) (length-paired 256 bytes) ∙ omega arith
 
 pub number-place : (bytes : List ℕ) (k : ℕ) → k < length bytes / 2 → numberIn bytes k ≡ numberAt bytes (2 * k)
-unfolding numbers
-number-place [] k h = absurd (omega arith)
-number-place (high ∷ []) k h = absurd (omega arith)
-number-place (high ∷ low ∷ bytes) zero h = refl
-number-place (high ∷ low ∷ bytes) (suc k) h =
-    let next : 2 * suc k ≡ suc (suc (2 * k)) = omega arith in
-    let behind : suc (suc (2 * k)) + 1 ≡ suc (suc (2 * k + 1)) = omega arith in
-    number-place bytes k (omega arith) ∙ rw (next, behind)
+number-place bytes k h = paired-place 256 bytes k h
+
+pub wide-number-place : (bytes : List ℕ) (k : ℕ) → k < length bytes / 4 → wideNumberIn bytes k ≡ wideNumberAt bytes (4 * k)
+wide-number-place bytes k h =
+    let long = length-paired 256 bytes in
+    let here : 2 * (2 * k) ≡ 4 * k = omega arith in
+    let there : 2 * (2 * k + 1) ≡ 4 * k + 2 = omega arith in
+    paired-place 65536 (numbers bytes) k (omega arith)
+    ∙ ap₂ (λ x y. x * 65536 + y)
+    (number-place bytes (2 * k) (omega arith) ∙ ap (numberAt bytes) here)
+    (number-place bytes (2 * k + 1) (omega arith) ∙ ap (numberAt bytes) there)
 
 -- A part of the numbers is that of the part of the bytes.
-numbers-drop : (k : ℕ) (bytes : List ℕ) → numbers (drop (2 * k) bytes) ≡ drop k (numbers bytes)
-unfolding numbers
-numbers-drop zero bytes = refl
-numbers-drop (suc k) [] = let next : 2 * suc k ≡ suc (suc (2 * k)) = omega arith in rw next refl
-numbers-drop (suc k) (high ∷ []) = let next : 2 * suc k ≡ suc (suc (2 * k)) = omega arith in rw next refl
-numbers-drop (suc k) (high ∷ low ∷ bytes) = let next : 2 * suc k ≡ suc (suc (2 * k)) = omega arith in rw next (numbers-drop k bytes)
+pub numbers-part : (w : Width) (from count : ℕ) (bytes : List ℕ)
+    → numbersBy w (take (numberBytes w * count) (drop (numberBytes w * from) bytes)) ≡ take count (drop from (numbersBy w bytes))
+numbers-part Narrow from count bytes = paired-part 256 from count bytes
+numbers-part Wide from count bytes =
+    let c : 4 * count ≡ 2 * (2 * count) = omega arith in
+    let d : 4 * from ≡ 2 * (2 * from) = omega arith in
+    ap₂ (λ x y. wideNumbers (take x (drop y bytes))) c d
+    ∙ ap (paired 65536) (paired-part 256 (2 * from) (2 * count) bytes)
+    ∙ paired-part 65536 from count (numbers bytes)
 
-numbers-take : (k : ℕ) (bytes : List ℕ) → numbers (take (2 * k) bytes) ≡ take k (numbers bytes)
-unfolding numbers
-numbers-take zero bytes = refl
-numbers-take (suc k) [] = let next : 2 * suc k ≡ suc (suc (2 * k)) = omega arith in rw next refl
-numbers-take (suc k) (high ∷ []) = let next : 2 * suc k ≡ suc (suc (2 * k)) = omega arith in rw next refl
-numbers-take (suc k) (high ∷ low ∷ bytes) =
-    let next : 2 * suc k ≡ suc (suc (2 * k)) = omega arith in rw next (ap (λ z. (high * 256 + low) ∷ z) (numbers-take k bytes))
-
-pub numbers-part : (from count : ℕ) (bytes : List ℕ)
-    → numbers (take (2 * count) (drop (2 * from) bytes)) ≡ take count (drop from (numbers bytes))
-numbers-part from count bytes = numbers-take count (drop (2 * from) bytes) ∙ ap (take count) (numbers-drop from bytes)
-
-pub numbers-below : (bytes : List ℕ) → All (λ b. b < 256) bytes → All (λ x. x < 65536) (numbers bytes)
-unfolding numbers
-numbers-below [] h = tt
-numbers-below (high ∷ []) h = tt
-numbers-below (high ∷ low ∷ bytes) (a, (b, h)) = (omega arith, numbers-below bytes h)
+pub numbers-below : (w : Width) (bytes : List ℕ) → All (λ b. b < 256) bytes → All (λ x. x < limitOf w) (numbersBy w bytes)
+numbers-below Narrow bytes h = paired-below 256 bytes h
+numbers-below Wide bytes h = paired-below 65536 (numbers bytes) (paired-below 256 bytes h)
 
 -- ---- Numbers that stand from a place on
 
@@ -116,3 +155,12 @@ over-front xs ys h = ap (take (length xs)) (over-room xs ys h) ∙ take-at xs (d
 
 pub over-rest : (xs ys : List ℕ) → length xs ≤ length ys → drop (length xs) (over xs ys) ≡ drop (length xs) ys
 over-rest xs ys h = ap (drop (length xs)) (over-room xs ys h) ∙ drop-at xs (drop (length xs) ys) (length xs) refl
+
+-- ---- Computed: the largest number of each width, and that a byte that is left over is none
+pub numbers-computed : numbers (255 ∷ 255 ∷ 1 ∷ 2 ∷ 3 ∷ []) ≡ 65535 ∷ 258 ∷ []
+unfolding paired
+numbers-computed = refl
+
+pub wide-numbers-computed : wideNumbers (255 ∷ 255 ∷ 255 ∷ 255 ∷ 0 ∷ 1 ∷ 0 ∷ 2 ∷ 3 ∷ []) ≡ 4294967295 ∷ 65538 ∷ []
+unfolding paired
+wide-numbers-computed = refl

@@ -1,4 +1,5 @@
 pub mod Answers
 pub mod Bytes
 pub mod Loops
+pub mod Narrow
 pub mod Sections

@@ -18,8 +18,6 @@ use Rattle.lists.proofs.Masks.{ones-members}
 use Rattle.lists.proofs.Selections.{length-select}
 use Rattle.lists.proofs.Tabulate.{length-tabulate}
 use Rattle.field.specs.Arithmetic.{Prime}
-use Rattle.field.specs.Modulus.{modulus}
-use Rattle.field.proofs.Primes.{prime}
 use Rattle.polynomial.specs.Polynomial.{Points}
 use Rattle.answers.specs.declared.Fitted.{Fitted}
 use Rattle.answers.specs.Fits.{decoded}
@@ -37,19 +35,19 @@ use Rattle.recovery.specs.Deciding.{Decides}
 use Rattle.recovery.proofs.Fitting.{repair-admitted, published-admitted, opening-admitted}
 
 -- What decoding m points with the need m − t decides.
-decides : (t need : ℕ) (xs ys : List ℕ) → Points modulus xs → length xs ≡ length ys → 3 * t + 1 ≤ length xs → need ≡ length xs - t
-    → (fitted : Fitted) → fitted ≡ decoded (fit modulus t need xs ys) → Decides modulus t xs ys fitted
-decides t need xs ys ps l many asked fitted is =
-    let by : fitted ≡ decoded (fit modulus t (length xs - t) xs ys) = is ∙ ap (λ m. decoded (fit modulus t m xs ys)) asked in
+decides : (p : ℕ) → Prime p → (t need : ℕ) (xs ys : List ℕ) → Points p xs → length xs ≡ length ys → 3 * t + 1 ≤ length xs
+    → need ≡ length xs - t → (fitted : Fitted) → fitted ≡ decoded (fit p t need xs ys) → Decides p t xs ys fitted
+decides p P t need xs ys ps l many asked fitted is =
+    let by : fitted ≡ decoded (fit p t (length xs - t) xs ys) = is ∙ ap (λ m. decoded (fit p t m xs ys)) asked in
     let told = ap (λ w. w .outcome) by in
-    let iff = near-none modulus prime t xs ys ps l many in
+    let iff = near-none p P t xs ys ps l many in
     record {
       nothing = (λ e. iff .0 (nothing-is _ (sym told ∙ e)), λ h. told ∙ ap (λ o. decoded o .outcome) (iff .1 h));
       found = λ e.
-          let f = found-is (fit modulus t (length xs - t) xs ys) (sym told ∙ e) in
-          let fits = fit-sound modulus prime t (length xs - t) xs ys (f .found) (f .is) in
-          (f .found, fits-iff modulus t xs ys l (omega arith) (f .found) .0 fits);
-      near = λ f h. by ∙ ap decoded (near-found modulus prime t xs ys ps l many f h);
+          let f = found-is (fit p t (length xs - t) xs ys) (sym told ∙ e) in
+          let fits = fit-sound p P t (length xs - t) xs ys (f .found) (f .is) in
+          (f .found, fits-iff p t xs ys l (omega arith) (f .found) .0 fits);
+      near = λ f h. by ∙ ap decoded (near-found p P t xs ys ps l many f h);
     }
 
 -- The marks of a set are its ones.
@@ -62,17 +60,17 @@ marked-members S (suc n) =
 pub marks-ones : (S n : ℕ) → S < 2 ^ n → marked (tabulate (bit S) n) ≡ ones S
 marks-ones S n h = marked-members S n ∙ sym (ones-members n S h)
 
-module _ (n t : ℕ) (T : List ℕ) (sized : sizes n t ≡ true) (table : IsTable modulus n T) where
+module _ (p : ℕ) (P : Prime p) (n t : ℕ) (T : List ℕ) (sized : sizes n t ≡ true) (table : IsTable p n T) where
   facts : (1 ≤ t) × (t ≤ 3) × (4 * t + 1 ≤ n) × (n ≤ 16)
   facts = sizes-facts n t sized
 
-  fine : Points modulus T
-  fine = table-points modulus n T table
+  fine : Points p T
+  fine = table-points p n T table
 
   -- A column is repaired exactly if one is near the points of the set.
   pub repair-decides : (S : ℕ) (heard : List ℕ) → S < 2 ^ n → 3 * t + 1 ≤ ones S → n ≤ length heard
       → let happy = tabulate (bit S) n in
-      Decides modulus t (select happy T) (select happy (take n heard)) (repairIn n t T S heard)
+      Decides p t (select happy T) (select happy (take n heard)) (repairIn p n t T S heard)
   unfolding repair
   repair-decides S heard inside many long =
       let happy : List Bool = tabulate (bit S) n in
@@ -81,20 +79,20 @@ module _ (n t : ℕ) (T : List ℕ) (sized : sizes n t ≡ true) (table : IsTabl
       let size-x : length (select happy T) ≡ marked happy = length-select happy T (width ∙ sym (table .size)) in
       let size-y : length (select happy (take n heard)) ≡ marked happy =
       length-select happy (take n heard) (width ∙ sym (length-take-le n heard long)) in
-      decides t (ones S - t) (select happy T) (select happy (take n heard)) (points-select modulus happy T fine)
-      (size-x ∙ sym size-y) (omega arith) (omega arith) (repairIn n t T S heard) (repair-admitted n t T S heard sized inside many)
+      decides p P t (ones S - t) (select happy T) (select happy (take n heard)) (points-select p happy T fine)
+      (size-x ∙ sym size-y) (omega arith) (omega arith) (repairIn p n t T S heard) (repair-admitted p n t T S heard sized inside many)
 
   -- Published shares open exactly if a polynomial is near them.
-  pub published-decides : (xs : List ℕ) → length xs ≡ n → Decides modulus t T xs (publishedIn n t T xs)
+  pub published-decides : (xs : List ℕ) → length xs ≡ n → Decides p t T xs (publishedIn p n t T xs)
   published-decides xs l =
-      decides t (n - t) T xs fine (table .size ∙ sym l) (omega (arith, facts, table .size)) (omega (arith, table .size))
-      (publishedIn n t T xs)
-      (published-admitted n t T xs sized l)
+      decides p P t (n - t) T xs fine (table .size ∙ sym l) (omega (arith, facts, table .size)) (omega (arith, table .size))
+      (publishedIn p n t T xs)
+      (published-admitted p n t T xs sized l)
 
   -- The same with a party's own share in its own place.
   pub opening-decides : (i v : ℕ) (xs : List ℕ) → isParty n i ≡ true → length xs ≡ n
-      → Decides modulus t T (set xs (i - 1) v) (openingIn n t T i v xs)
+      → Decides p t T (set xs (i - 1) v) (openingIn p n t T i v xs)
   opening-decides i v xs party l =
-      decides t (n - t) T (set xs (i - 1) v) fine (table .size ∙ sym (length-set xs (i - 1) v ∙ l)) (omega (arith, facts, table .size))
+      decides p P t (n - t) T (set xs (i - 1) v) fine (table .size ∙ sym (length-set xs (i - 1) v ∙ l)) (omega (arith, facts, table .size))
       (omega (arith, table .size))
-      (openingIn n t T i v xs) (opening-admitted n t T i v xs sized party l)
+      (openingIn p n t T i v xs) (opening-admitted p n t T i v xs sized party l)

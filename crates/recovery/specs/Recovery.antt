@@ -14,7 +14,6 @@ use lib.ListN.{length, take, set}
 use Rattle.lists.specs.Choices.{select}
 use Rattle.lists.specs.Masks.{bit}
 use Rattle.lists.specs.Tabulate.{tabulate}
-use Rattle.field.specs.Modulus.{modulus}
 use Rattle.answers.specs.declared.Refusal.the-variants.{WrongSize, WrongNumber, WrongLength}
 use Rattle.answers.specs.declared.Fitted.{Fitted}
 use Rattle.answers.specs.Refusals.{Test, lowest}
@@ -39,23 +38,23 @@ openingWith p n t T i v xs = openingOf p n t T (set xs (i - 1) v)
 
 -- What is answered with a table, which the caller has looked at. The tests, in the order of their numbers: the sizes; that the set names
 -- none but the n parties; that they are enough.
-unfoldable pub repairIn : ℕ → ℕ → List ℕ → ℕ → List ℕ → Fitted
-repairIn n t T S heard =
+unfoldable pub repairIn : ℕ → ℕ → ℕ → List ℕ → ℕ → List ℕ → Fitted
+repairIn p n t T S heard =
     decodedIf
     (lowest ((sizes n t, WrongSize) ∷ (ltb S (2 ^ n), WrongNumber) ∷ (leb (3 * t + 1) (ones S), WrongLength) ∷ []))
-    (repair modulus n t T S heard)
+    (repair p n t T S heard)
 
 -- The sizes; a share for each party.
 abbrev pub publishedTests : ℕ → ℕ → ℕ → List Test
 publishedTests n t m = (sizes n t, WrongSize) ∷ (eqb m n, WrongLength) ∷ []
 
-unfoldable pub publishedIn : ℕ → ℕ → List ℕ → List ℕ → Fitted
-publishedIn n t T xs =
-    decodedIf (lowest (publishedTests n t (length xs))) (openingOf modulus n t T xs)
+unfoldable pub publishedIn : ℕ → ℕ → ℕ → List ℕ → List ℕ → Fitted
+publishedIn p n t T xs =
+    decodedIf (lowest (publishedTests n t (length xs))) (openingOf p n t T xs)
 
 -- The sizes; the party's own number; a share for each party.
-unfoldable pub openingIn : ℕ → ℕ → List ℕ → ℕ → ℕ → List ℕ → Fitted
-openingIn n t T i v xs =
+unfoldable pub openingIn : ℕ → ℕ → ℕ → List ℕ → ℕ → ℕ → List ℕ → Fitted
+openingIn p n t T i v xs =
     decodedIf
     (lowest ((sizes n t, WrongSize) ∷ (isParty n i, WrongNumber) ∷ (eqb (length xs) n, WrongLength) ∷ []))
-    (openingWith modulus n t T i v xs)
+    (openingWith p n t T i v xs)

@@ -6,7 +6,7 @@ ghost use lib.ListN.{length, take, set};
 ghost use Rattle.lists.specs.Choices.{hide};
 ghost use Rattle.lists.specs.Masks.{bit};
 ghost use Rattle.lists.specs.Tabulate.{tabulate};
-ghost use Rattle.field.specs.Modulus.{modulus};
+ghost use Rattle.field.specs.Modulus.{primeOf};
 ghost use Rattle.answers.specs.Fits.{decoded};
 ghost use Rattle.fit.specs.Fit.{fit};
 ghost use Rattle.parties.specs.Parties.{notSent};
@@ -14,31 +14,33 @@ ghost use Rattle.tables.specs.Tables.{IsTable};
 ghost use Rattle.recovery.specs.Recovery.{repairIn, publishedIn, openingIn};
 use answers::Fitted;
 use answers::Refusal;
+use field::Width;
 
 // The first n numbers heard, with "not sent" for each party outside the set, first in an array.
-fn heard_from(n: u8, set: u16, heard: [u16; 16]) -> [u16; 16]
+fn heard_from(w: Width, n: u8, set: u16, heard: [u32; 16]) -> [u32; 16]
     requires { ⌜ n ≤ 16 ⌝ }
-    ensures { λ r. ⌜ take n r ≡ hide (notSent modulus) (tabulate (bit set) n) (take n heard) ⌝ }
+    ensures { λ r. ⌜ take n r ≡ hide (notSent (primeOf w)) (tabulate (bit set) n) (take n heard) ⌝ }
 {
-    let mut list = [0u16; 16];
+    let mut list = [0u32; 16];
+    let unsent = parties::not_sent(w);
     for k in 0..n {
         let place = k as usize;
         if (set >> k) % 2 == 1 {
             list[place] = heard[place];
         } else {
-            list[place] = parties::NOT_SENT;
+            list[place] = unsent;
         }
     }
     list
 }
 
 // The polynomial of degree at most t that agrees with at least `need` of the n values at the parties' points, if one does.
-fn fit_parties(n: u8, t: u8, table: [u16; 16], need: usize, values: &[u16]) -> Fitted
-    requires { ⌜ (n ≤ 16) × (t ≤ 3) × (t < need) × (length (now values) ≡ n) × IsTable modulus n (take n table) ⌝ }
-    ensures { λ r. ⌜ r ≡ decoded (fit modulus t need (take n table) (now (values .entry))) ⌝ }
+fn fit_parties(w: Width, n: u8, t: u8, table: [u32; 16], need: usize, values: &[u32]) -> Fitted
+    requires { ⌜ (n ≤ 16) × (t ≤ 3) × (t < need) × (length (now values) ≡ n) × IsTable (primeOf w) n (take n table) ⌝ }
+    ensures { λ r. ⌜ r ≡ decoded (fit (primeOf w) t need (take n table) (now (values .entry))) ⌝ }
 {
     let count = n as usize;
-    fit::fit(t as usize, need, &table[..count], values)
+    fit::fit(w, t as usize, need, &table[..count], values)
 }
 
 // Whether the set has none but the first n parties.
@@ -51,9 +53,9 @@ fn within(n: u8, set: u16) -> bool
 
 // The column that fits what the parties of the set said first, if one does. Refused: a bad size, a party above n in the set, fewer
 // than 3t + 1 parties. That the first n numbers are a table is the caller's to show, here and below.
-pub fn repair(n: u8, t: u8, table: [u16; 16], set: u16, heard: [u16; 16]) -> Fitted
-    requires { ⌜ IsTable modulus n (take n table) ⌝ }
-    ensures { λ r. ⌜ r ≡ repairIn n t (take n table) set heard ⌝ }
+pub fn repair(w: Width, n: u8, t: u8, table: [u32; 16], set: u16, heard: [u32; 16]) -> Fitted
+    requires { ⌜ IsTable (primeOf w) n (take n table) ⌝ }
+    ensures { λ r. ⌜ r ≡ repairIn (primeOf w) n t (take n table) set heard ⌝ }
 {
     if !parties::sizes(n, t) {
         return answers::refused_fit(Refusal::WrongSize);
@@ -66,16 +68,16 @@ pub fn repair(n: u8, t: u8, table: [u16; 16], set: u16, heard: [u16; 16]) -> Fit
     if count < 3 * faulty + 1 {
         return answers::refused_fit(Refusal::WrongLength);
     }
-    let values = heard_from(n, set, heard);
-    fit_parties(n, t, table, count - faulty, &values[..n as usize])
+    let values = heard_from(w, n, set, heard);
+    fit_parties(w, n, t, table, count - faulty, &values[..n as usize])
 }
 
 // The shares with party i's own in its own place, first in an array.
-fn with_own(i: u8, share: u16, shares: &[u16]) -> [u16; 16]
+fn with_own(i: u8, share: u32, shares: &[u32]) -> [u32; 16]
     requires { ⌜ (1 ≤ i) × (i ≤ length (now shares)) × (length (now shares) ≤ 16) ⌝ }
     ensures { λ r. ⌜ take (length (now (shares .entry))) r ≡ set (now (shares .entry)) (i - 1) share ⌝ }
 {
-    let mut list = [0u16; 16];
+    let mut list = [0u32; 16];
     for k in 0..shares.len() {
         list[k] = shares[k];
     }
@@ -85,9 +87,9 @@ fn with_own(i: u8, share: u16, shares: &[u16]) -> [u16; 16]
 }
 
 // The polynomial that fits the published shares by themselves, if one does. Refused: a bad size, a share too many or too few.
-pub fn published(n: u8, t: u8, table: [u16; 16], shares: &[u16]) -> Fitted
-    requires { ⌜ IsTable modulus n (take n table) ⌝ }
-    ensures { λ r. ⌜ r ≡ publishedIn n t (take n table) (now (shares .entry)) ⌝ }
+pub fn published(w: Width, n: u8, t: u8, table: [u32; 16], shares: &[u32]) -> Fitted
+    requires { ⌜ IsTable (primeOf w) n (take n table) ⌝ }
+    ensures { λ r. ⌜ r ≡ publishedIn (primeOf w) n t (take n table) (now (shares .entry)) ⌝ }
 {
     if !parties::sizes(n, t) {
         return answers::refused_fit(Refusal::WrongSize);
@@ -95,13 +97,21 @@ pub fn published(n: u8, t: u8, table: [u16; 16], shares: &[u16]) -> Fitted
     if shares.len() != n as usize {
         return answers::refused_fit(Refusal::WrongLength);
     }
-    fit_parties(n, t, table, (n - t) as usize, shares)
+    fit_parties(w, n, t, table, (n - t) as usize, shares)
 }
 
 // The same with party i's own share in its own place. Refused also: a number that is no party's.
-pub fn opening(n: u8, t: u8, table: [u16; 16], i: u8, share: u16, shares: &[u16]) -> Fitted
-    requires { ⌜ IsTable modulus n (take n table) ⌝ }
-    ensures { λ r. ⌜ r ≡ openingIn n t (take n table) i share (now (shares .entry)) ⌝ }
+pub fn opening(
+    w: Width,
+    n: u8,
+    t: u8,
+    table: [u32; 16],
+    i: u8,
+    share: u32,
+    shares: &[u32],
+) -> Fitted
+    requires { ⌜ IsTable (primeOf w) n (take n table) ⌝ }
+    ensures { λ r. ⌜ r ≡ openingIn (primeOf w) n t (take n table) i share (now (shares .entry)) ⌝ }
 {
     if !parties::sizes(n, t) {
         return answers::refused_fit(Refusal::WrongSize);
@@ -114,5 +124,5 @@ pub fn opening(n: u8, t: u8, table: [u16; 16], i: u8, share: u16, shares: &[u16]
         return answers::refused_fit(Refusal::WrongLength);
     }
     let values = with_own(i, share, shares);
-    fit_parties(n, t, table, (n - t) as usize, &values[..count])
+    fit_parties(w, n, t, table, (n - t) as usize, &values[..count])
 }

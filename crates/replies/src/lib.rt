@@ -9,7 +9,7 @@ pub fn word(letters: &[u8]) -> bool {
     io::write_all(STDOUT_FILENO, letters)
 }
 
-pub fn number(x: u16) {
+pub fn number(x: u32) {
     word(b" ");
     io::print_decimal(STDOUT_FILENO, x as u64);
 }
@@ -17,16 +17,23 @@ pub fn number(x: u16) {
 // The numbers of a list.
 pub fn numbers(list: &[u16]) {
     for k in 0..list.len() {
+        number(arrays::wide(list[k]));
+    }
+}
+
+// The same of numbers of 32 bits.
+pub fn wide_numbers(list: &[u32]) {
+    for k in 0..list.len() {
         number(list[k]);
     }
 }
 
 fn refused(k: u8) {
     word(b"refused");
-    number(k as u16);
+    number(k as u32);
 }
 
-fn ok(x: u16) {
+fn ok(x: u32) {
     word(b"ok");
     number(x);
 }
@@ -35,7 +42,7 @@ fn done() {
     word(b"ok");
 }
 
-fn pair(first: u16, second: u16) {
+fn pair(first: u32, second: u32) {
     ok(first);
     number(second);
 }
@@ -45,7 +52,7 @@ pub fn answer(answer: Answer) {
     match answer {
         Answer::Done => done(),
         Answer::Pair(first, second) => pair(first, second),
-        Answer::Report(bits) => ok(bits),
+        Answer::Report(bits) => ok(bits as u32),
         Answer::Accepted => done(),
         Answer::Opened(secret) => ok(secret),
         Answer::Refused(why) => refused(answers::refusal_number(why)),
@@ -64,8 +71,8 @@ pub fn dealing(answer: Dealing) {
 pub fn state(lamp: Lamp) {
     let sharing = lamp.sharing;
     let stage = sharing.stage;
-    number(answers::stage_number(stage) as u16);
+    number(answers::stage_number(stage) as u32);
     number(sharing.share);
-    number(sharing.happy);
-    number(sharing.report);
+    number(sharing.happy as u32);
+    number(sharing.report as u32);
 }

@@ -2,11 +2,12 @@
 --   table-facts, table-true, length-not, short-not, table-points   what the test says of a list; tests-pass: the tests of one that is lent
 --   points-of, point-at                     the table is the list of its parties' points
 --   point-not-zero, point-once              no party's point is 0, and no two parties have one
+--   point-below                             a point is a residue, also that of none
 --   length-one-to, one-to-table, one-to-point   1 to n has n numbers, is a table, and i is party i's point in it
 --   sixteen-front, one-to-padded            1 to n as the front of 1 to 16, and with zeros behind it
 --   kept-front, kept-whole                  the array that holds a table
 --   kept-many, kept-not                     zeros, where there are more than sixteen parties or the length is another
-use mathlib.Core.Path.{_≡_, refl, sym, ap, ap₂, _∙_}
+use mathlib.Core.Path.{_≡_, refl, sym, ap, ap₂, subst, _∙_}
 use mathlib.Core.Bool.{true, false, cond, not, _&&_, and-eq-true-iff}
 use mathlib.Core.List.{List, [], _∷_, map}
 use Prim.Native.Nat.{ℕ, suc, _+_, _-_, _<_, _≤_}
@@ -23,7 +24,7 @@ use Rattle.lists.proofs.Padded.{getD-zeros}
 use Rattle.lists.proofs.Tabulate.{length-tabulate, getD-tabulate, all-tabulate, map-tabulate, distinct-tabulate}
 use Rattle.answers.specs.declared.Admission.the-variants.{Pass}
 use Rattle.answers.specs.Refusals.{lowest}
-use Rattle.polynomial.specs.Polynomial.{Points}
+use Rattle.polynomial.specs.Polynomial.{Residues, Points}
 use Rattle.parties.specs.Parties.{isParty, parties}
 use Rattle.parties.proofs.Parties.{party-facts}
 use Rattle.tables.specs.Tables.{pointAt, oneTo, IsTable, absent, distinctResidues, isTable, tableTests, inArray}
@@ -98,6 +99,14 @@ points-of n T l =
     map-tabulate (pointAt T) suc n
     ∙ ext-getD 0 (tabulate (λ k. pointAt T (suc k)) n) T (long ∙ sym l) (λ k h.
     getD-tabulate (λ k. pointAt T (suc k)) n k 0 (omega arith) ∙ sym (point-at T k))
+
+-- Where the entries are residues, so is the point of anyone: behind the last it is 0.
+pub point-below : (p : ℕ) (T : List ℕ) (i : ℕ) → 0 < p → Residues p T → pointAt T i < p
+unfolding pointAt
+point-below p T i h below = elim (decLt (i - 1) (length T)) [
+  | yes l ↦ all-getD (λ x. x < p) T (i - 1) 0 l below
+  | no l ↦ let far : length T ≤ i - 1 = omega arith in subst (λ x. x < p) (sym (List·getD-eq-default T 0 {n = i - 1} far)) h
+]
 
 -- Two parties have two points, and none has 0.
 module _ (p n : ℕ) (T : List ℕ) (h : IsTable p n T) where

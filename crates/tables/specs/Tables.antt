@@ -27,7 +27,7 @@ pointAt T i = entry T i
 abbrev pub oneTo : ℕ → List ℕ
 oneTo n = parties n
 
--- "A table of n numbers", no entry "0, above 65,520 or there twice"; 65,520 is the largest residue.
+-- "A table of n numbers", no entry "0, above 65,520 or there twice"; "14 refuse[s] from the prime up".
 pub record IsTable (p n : ℕ) (T : List ℕ) : Type 0 where
   pub size : length T ≡ n
   pub below : Residues p T

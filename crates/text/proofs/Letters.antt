@@ -1,15 +1,13 @@
--- Laws of text in a buffer: a byte more of a word, several words one behind the other, and how long a number is.
+-- Laws of text in a buffer: a byte more of a word, and several words one behind the other.
 use mathlib.Core.Path.{_≡_, refl, sym, ap, ap₂, subst, _∙_}
-use mathlib.Core.Bool.{Bool, true, false, cond}
 use mathlib.Core.List.{List, [], _∷_, _++_, append-assoc, append-nil}
-use Prim.Native.Nat.{ℕ, suc, _+_, _-_, _/_, _≤_, _<_}
+use Prim.Native.Nat.{ℕ, suc, _+_, _≤_, _<_}
 use native.Mathlib.Numerals.{add-one}
 use native.Mathlib.Omega.{arith}
-use borrow.Author.Tests.{lt-ltb, le-leb, lt-leb}
-use lib.Dec.{lit≤, ltb}
+use borrow.Author.Tests.{le-leb, lt-leb}
 use lib.ListN.{length, take, drop, getD, set, length-append, take-append-drop, length-drop}
 use lib.Seq.{take-suc, take-suc-set, drop-set-lt, drop-drop, take-at, drop-at, length-take-le}
-use Rattle.text.specs.Letters.{Added, digit, decimal, five, zeros, joined, putting, puts}
+use Rattle.text.specs.Letters.{Added, joined, putting, puts}
 
 -- ---- putting
 
@@ -127,43 +125,3 @@ puts-within words o q at r m e h k =
 pub joined-append : (vs ws : List (List ℕ)) → joined (vs ++ ws) ≡ joined vs ++ joined ws
 joined-append [] ws = refl
 joined-append (v ∷ vs) ws = ap (λ z. v ++ z) (joined-append vs ws) ∙ sym (append-assoc v (joined vs) (joined ws))
-
--- ---- lengths
-
-cond-short : (b : Bool) (xs ys : List ℕ) (n : ℕ) → length xs ≤ n → length ys ≤ n → length (cond b xs ys) ≤ n
-cond-short true xs ys n h k = h
-cond-short false xs ys n h k = k
-
-pub decimal-short : (x : ℕ) → length (decimal x) ≤ 5
-unfolding decimal
-decimal-short x =
-    cond-short (ltb x 10) _ _ 5 (lit≤ tt)
-    (cond-short (ltb x 100) _ _ 5 (lit≤ tt)
-    (cond-short (ltb x 1000) _ _ 5 (lit≤ tt) (cond-short (ltb x 10000) _ _ 5 (lit≤ tt) (lit≤ tt))))
-
--- Five digits without the zeros in front, by the four tests.
-without-zeros : (a b c d : Bool) (v w x y z : ℕ) → let from : ℕ = cond a 4 (cond b 3 (cond c 2 (cond d 1 0))) in
-    take (5 - from) (drop from (v ∷ w ∷ x ∷ y ∷ z ∷ []))
-    ≡ cond a (z ∷ []) (cond b (y ∷ z ∷ []) (cond c (x ∷ y ∷ z ∷ []) (cond d (w ∷ x ∷ y ∷ z ∷ []) (v ∷ w ∷ x ∷ y ∷ z ∷ []))))
-without-zeros true b c d v w x y z = refl
-without-zeros false true c d v w x y z = refl
-without-zeros false false true d v w x y z = refl
-without-zeros false false false true v w x y z = refl
-without-zeros false false false false v w x y z = refl
-
--- As the code takes them.
-pub decimal-part : (digits : List ℕ) (from x : ℕ) → digits ≡ five x → from ≡ zeros x → take (5 - from) (drop from digits) ≡ decimal x
-unfolding zeros decimal
-decimal-part digits from x e f =
-    ap₂ (λ m l. take (5 - m) (drop m l)) f e
-    ∙ without-zeros (ltb x 10) (ltb x 100) (ltb x 1000) (ltb x 10000)
-    (digit (x / 10000)) (digit (x / 1000)) (digit (x / 100)) (digit (x / 10)) (digit x)
-
-pub decimal-one : (x : ℕ) → x < 10 → digit x ∷ [] ≡ decimal x
-unfolding decimal
-decimal-one x h = rw (lt-ltb x 10 h)
-
--- A lamp's number has at most two digits.
-pub decimal-two : (x : ℕ) → x < 100 → length (decimal x) ≤ 2
-unfolding decimal
-decimal-two x h = rw (lt-ltb x 100 h) (cond-short (ltb x 10) _ _ 2 (lit≤ tt) (lit≤ tt))

@@ -1,17 +1,18 @@
 -- Text as a list of bytes.
 --   letters s                 the bytes of a quoted text of ASCII letters
---   decimal x                 the decimal digits of a number below 100,000
---   five x, zeros x           all five digits, and how many of them are zeros in front
+--   decimal x                 the decimal digits of a number of 32 bits
+--   spell k x                 the same of a number of at most k digits
+--   five x, ten x, zeros x    the last five digits, the last ten, and how many of the five are zeros in front
 --   field word x, line word x   a word and a number behind it, without and with a line end
 --   putting out at word       the buffer with the word put from a place on, and the place behind it
 --   joined words              several words as one text
 --   puts out at words         each of several words put behind the one before it
 --   Added                     what it says that a piece was put into a buffer
--- Laws: proofs/Letters.
+-- Laws: proofs/Letters, proofs/Spelling.
 use mathlib.Core.Path.{_≡_}
 use mathlib.Core.Bool.{cond}
 use mathlib.Core.List.{List, [], _∷_, _++_}
-use Prim.Native.Nat.{ℕ, _+_, _/_, _%_}
+use Prim.Native.Nat.{ℕ, zero, suc, _+_, _/_, _%_}
 use Prim.Native.Char.{code}
 use Prim.Native.String.{String, [] as end, _∷_ as _then_}
 use lib.Dec.{ltb, leb}
@@ -26,20 +27,24 @@ letters (c then s) = code c ∷ letters s
 abbrev pub digit : ℕ → ℕ
 digit x = 48 + x % 10
 
--- No zero stands in front, but 0 itself is one digit.
-unfoldable pub decimal : ℕ → List ℕ
-decimal x =
-    cond (ltb x 10) (digit x ∷ [])
-    (cond (ltb x 100) (digit (x / 10) ∷ digit x ∷ [])
-    (cond (ltb x 1000) (digit (x / 100) ∷ digit (x / 10) ∷ digit x ∷ [])
-    (cond (ltb x 10000) (digit (x / 1000) ∷ digit (x / 100) ∷ digit (x / 10) ∷ digit x ∷ [])
-    (digit (x / 10000) ∷ digit (x / 1000) ∷ digit (x / 100) ∷ digit (x / 10) ∷ digit x ∷ []))))
+-- The last digit behind those of the tens; no zero stands in front, but 0 itself is one digit.
+unfoldable pub spell : ℕ → ℕ → List ℕ
+spell zero x = []
+spell (suc k) x = cond (ltb x 10) (digit x ∷ []) (spell k (x / 10) ++ digit x ∷ [])
 
--- The way that the code takes: all five digits.
+-- 4,294,967,295, the largest number of 32 bits, has ten digits.
+abbrev pub decimal : ℕ → List ℕ
+decimal x = spell 10 x
+
+-- The way that the code takes: the last five digits.
 abbrev pub five : ℕ → List ℕ
 five x = digit (x / 10000) ∷ digit (x / 1000) ∷ digit (x / 100) ∷ digit (x / 10) ∷ digit x ∷ []
 
--- And how many of them stand in front of the first that counts.
+-- From 100,000 on: five more in front.
+abbrev pub ten : ℕ → List ℕ
+ten x = five (x / 100000) ++ five x
+
+-- And how many of five stand in front of the first that counts.
 unfoldable pub zeros : ℕ → ℕ
 zeros x = cond (ltb x 10) 4 (cond (ltb x 100) 3 (cond (ltb x 1000) 2 (cond (ltb x 10000) 1 0)))
 

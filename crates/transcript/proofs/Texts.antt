@@ -7,6 +7,7 @@ use native.Mathlib.Omega.{arith}
 use borrow.Author.Tests.{le-leb, lt-leb}
 use lib.ListN.{length, take, drop, take-append-drop}
 use lib.Seq.{take-all}
+use Rattle.field.specs.declared.Width.{Width}
 use Rattle.happy.specs.Happy.{happySet}
 use Rattle.answers.specs.declared.Refusal.{Refusal}
 use Rattle.answers.specs.declared.Refusal.the-variants.{WrongLength}
@@ -22,16 +23,16 @@ use Rattle.transcript.specs.Outcomes.{isAccepted, lastLine}
 use Rattle.transcript.specs.Transcript.{lampLines, textOf, textBy, text, rendering}
 
 -- The four pieces of a record that is not refused.
-pub text-pieces : (bytes : List ℕ) (n t set : ℕ) (good : Bool) → set ≡ happySet (numbersOf bytes 2) → good ≡ isAccepted set n t
-    → ((sizeLine n t ++ verdictLines good set n) ++ lampLines bytes n t n) ++ lastLine good n t (numbersOf bytes 3) ≡ textOf bytes n t
+pub text-pieces : (bytes : List ℕ) (w : Width) (n t set : ℕ) (good : Bool) → set ≡ happySet (numbersOf bytes 2) → good ≡ isAccepted set n t
+    → ((sizeLine n t ++ verdictLines good set n) ++ lampLines bytes w n t n) ++ lastLine good w n t (numbersOf bytes 3) ≡ textOf bytes w n t
 unfolding textOf
-text-pieces bytes n t set good e g = rw (g, e)
+text-pieces bytes w n t set good e g = rw (g, e)
 
 -- ---- by what the reader answered
 module _ (a : Reading) (bytes : List ℕ) (e : a ≡ reading bytes) where
-  pub text-fine : (n t : ℕ) → a ≡ Fine n t → textOf bytes n t ≡ text bytes
+  pub text-fine : (w : Width) (n t : ℕ) → a ≡ Fine w n t → textOf bytes w n t ≡ text bytes
   unfolding text textBy
-  text-fine n t f = rw (← e, f)
+  text-fine w n t f = rw (← e, f)
 
   pub text-refused : (why : Refusal) → a ≡ Refused why → (k : ℕ) → k ≡ refusalNumber why → refusedLine k ≡ text bytes
   unfolding text textBy

@@ -1,7 +1,7 @@
 -- What a record's lamps and its published shares come to, and the lines that say it (docs/PROTOCOL.md, "The text of a record").
---   isAccepted set n t                            the verdict, by the happy set
---   replyLine i r                                 what lamp i holds, or why it refused, by its reply
---   openingLine o, lastLine accepted n t shares   what the published shares open
+--   isAccepted set n t                              the verdict, by the happy set
+--   replyLine i r                                   what lamp i holds, or why it refused, by its reply
+--   openingLine o, lastLine accepted w n t shares   what the published shares open
 -- Laws: proofs/Outcomes.
 use mathlib.Core.Bool.{Bool, cond}
 use mathlib.Core.Option.{Option, none, some}
@@ -10,7 +10,8 @@ use Prim.Native.Nat.{ℕ, _-_}
 use lib.Count.{ones}
 use lib.Dec.{leb}
 use Rattle.lists.specs.Options.{orZero}
-use Rattle.field.specs.Modulus.{modulus}
+use Rattle.field.specs.declared.Width.{Width}
+use Rattle.field.specs.Modulus.{primeOf}
 use Rattle.answers.specs.declared.Refusal.the-variants.{DealerRejected, NoOpening}
 use Rattle.answers.specs.Refusals.{refusalNumber}
 use Rattle.answers.specs.Answers.{numberOf}
@@ -35,7 +36,7 @@ openingLine (some f) = openedLine 0 (constant f)
 
 -- What the published shares open by themselves, at the points 1 to n, since a record has no table: at most t of them differ. After a
 -- rejected dealer they are not opened.
-unfoldable pub lastLine : Bool → ℕ → ℕ → List ℕ → List ℕ
-lastLine accepted n t shares =
-    let opened = openingLine (openingOf modulus n t (oneTo n) shares) in
+unfoldable pub lastLine : Bool → Width → ℕ → ℕ → List ℕ → List ℕ
+lastLine accepted w n t shares =
+    let opened = openingLine (openingOf (primeOf w) n t (oneTo n) shares) in
     cond accepted opened (openedLine (refusalNumber DealerRejected) 0)

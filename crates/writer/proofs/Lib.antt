@@ -1,5 +1,6 @@
 pub mod Buffer
 pub mod Bytes
+pub mod Computed
 pub mod Loops
 pub mod RoundTrip
 pub mod WayBack

@@ -1,48 +1,46 @@
 //! What a lamp was dealt, and what it has to say by it (docs/PROTOCOL.md, "A lamp", steps 1 and 2).
 
-use crate::record::{Record, NOT_SENT};
-
-/// All arithmetic is modulo this prime, the first number that means "not sent".
-const MODULUS: u32 = NOT_SENT as u32;
+use crate::record::Record;
 
 pub struct Deal<'a> {
+    prime: u32,
     /// The lamp's point, its number.
     point: u32,
-    row: &'a [u16],
-    column: &'a [u16],
+    row: &'a [u32],
+    column: &'a [u32],
 }
 
 /// The value at a point of a polynomial, constant first.
-fn value(coefficients: &[u16], point: u32) -> u16 {
-    // Each step stays below 16 * 65,521 + 65,535.
-    coefficients.iter().rev().fold(0, |sum, &number| (sum * point + u32::from(number)) % MODULUS) as u16
+fn value(prime: u32, coefficients: &[u32], point: u32) -> u32 {
+    let step = |sum: u64, &number: &u32| (sum * u64::from(point) + u64::from(number)) % u64::from(prime);
+    coefficients.iter().rev().fold(0, step) as u32
 }
 
 impl<'a> Deal<'a> {
     pub fn of(record: &'a Record, place: usize) -> Deal<'a> {
         let width = record.t + 1;
         let (row, column) = record.deals[2 * width * place..2 * width * (place + 1)].split_at(width);
-        Deal { point: place as u32 + 1, row, column }
+        Deal { prime: record.prime, point: place as u32 + 1, row, column }
     }
 
     /// All numbers sent, and the row at the lamp's own point is the column there.
     pub fn is_sound(&self) -> bool {
-        let sent = self.row.iter().chain(self.column).all(|&number| number < NOT_SENT);
-        sent && value(self.row, self.point) == value(self.column, self.point)
+        let sent = self.row.iter().chain(self.column).all(|&number| number < self.prime);
+        sent && value(self.prime, self.row, self.point) == value(self.prime, self.column, self.point)
     }
 
     /// The pair that the lamp owes the lamp at another place: row and column there; with an unsound deal neither.
-    pub fn pair_for(&self, place: usize) -> (u16, u16) {
+    pub fn pair_for(&self, place: usize) -> (u32, u32) {
         if !self.is_sound() {
-            return (NOT_SENT, NOT_SENT);
+            return (self.prime, self.prime);
         }
         let point = place as u32 + 1;
-        (value(self.row, point), value(self.column, point))
+        (value(self.prime, self.row, point), value(self.prime, self.column, point))
     }
 
     /// Whether the row of one lamp crosses the column of another, or its own, where both lie on one F.
     fn crosses(&self, other: &Deal) -> bool {
-        value(self.row, other.point) == value(other.column, self.point)
+        value(self.prime, self.row, other.point) == value(self.prime, other.column, self.point)
     }
 }
 

@@ -3,7 +3,7 @@
 /// A number, or the number of a refusal.
 #[derive(Debug, PartialEq)]
 pub enum Outcome {
-    Number(u16),
+    Number(u32),
     Refused(u8),
 }
 

@@ -9,14 +9,14 @@ use crate::svg::{bold, Anchor, Point, Svg, CORAL, MUTED, QUIET, WHITE};
 /// A line of words, with a number in bold behind them or without.
 pub struct Line {
     words: String,
-    number: Option<u16>,
+    number: Option<u32>,
     colour: &'static str,
     /// The number's colour.
     ink: &'static str,
 }
 
 impl Line {
-    fn new(words: impl Into<String>, number: Option<u16>, colour: &'static str) -> Line {
+    fn new(words: impl Into<String>, number: Option<u32>, colour: &'static str) -> Line {
         Line { words: words.into(), number, colour, ink: colour }
     }
 
@@ -60,7 +60,7 @@ pub fn lines(lamp: &Lamp, others: usize) -> Vec<Line> {
 }
 
 fn published(published: Published) -> Option<Line> {
-    let line = |number: Option<u16>, colour| match number {
+    let line = |number: Option<u32>, colour| match number {
         Some(number) => Line::new("published", Some(number), colour),
         None => Line::new("published nothing", None, colour),
     };
@@ -169,14 +169,14 @@ pub fn place(scale: &Scale, lamps: &[Lamp]) -> Vec<Label> {
 mod tests {
     use super::*;
     use crate::facts::tests::facts_of;
-    use crate::picture::WIDTH;
     use crate::record::Record;
     use crate::ring::{lamps, FAULTY};
     use crate::svg::width_of;
 
     /// A label's left, right, top and bottom. A bold digit is about 0.08 wider than another.
     fn bounds(label: &Label) -> [f64; 4] {
-        let wide = |line: &Line| width_of(&line.plain()) + line.number.map_or(0.0, |_| 0.4);
+        let wide =
+            |line: &Line| width_of(&line.plain()) + line.number.map_or(0.0, |x| 0.08 * x.to_string().len() as f64);
         let width = label.letters * label.lines.iter().map(wide).fold(0.0, f64::max);
         let left = match label.anchor {
             Anchor::Start => label.x,
@@ -190,12 +190,12 @@ mod tests {
     fn check(bytes: &[u8], name: &str) {
         let Some(facts) = facts_of(bytes) else { return };
         let record = Record::read(bytes).unwrap();
-        let scale = &Scale::of(facts.n);
+        let scale = &Scale::of(&record);
         let lamps = lamps(&facts, &record, crate::doumbaht::happy_set(&record.reports));
         let all: Vec<[f64; 4]> = place(scale, &lamps).iter().map(bounds).collect();
         for (i, one) in all.iter().enumerate() {
             assert!(
-                one[0] > 12.0 - WIDTH / 2.0 && one[1] < WIDTH / 2.0 - 12.0,
+                one[0] > 12.0 - record.picture_width() / 2.0 && one[1] < record.picture_width() / 2.0 - 12.0,
                 "{name}: lamp {} leaves the card",
                 i + 1
             );
@@ -227,11 +227,12 @@ mod tests {
             check(&bytes, &name);
             if let Some(facts) = facts_of(&bytes) {
                 // Silent to lamps 1 and 2, lies to the others, altered reports, nothing published.
-                let pairs = 18 + 4 * facts.n * (facts.t + 1);
-                let silence = pairs + 8 * facts.n;
+                let pair = if bytes[0] < 128 { 4 } else { 8 };
+                let pairs = 18 + pair * facts.n * (facts.t + 1);
+                let silence = pairs + 2 * pair * facts.n;
                 bytes[pairs..silence].fill(255);
-                bytes[silence..pairs + 4 * facts.n * facts.n].fill(200);
-                bytes[pairs + 4 * facts.n * facts.n..].fill(255);
+                bytes[silence..pairs + pair * facts.n * facts.n].fill(if pair == 4 { 200 } else { 100 });
+                bytes[pairs + pair * facts.n * facts.n..].fill(255);
                 check(&bytes, &name);
             }
         }

@@ -32,7 +32,7 @@ pub fn reason(number: u8) -> &'static str {
 
 /// The picture of a record that is not refused.
 pub fn draw(text: &str, facts: &Facts, happy: u16, record: &Record) -> String {
-    let scale = &Scale::of(facts.n);
+    let scale = &Scale::of(record);
     let lamps = ring::lamps(facts, record, happy);
     let labels = label::place(scale, &lamps);
     let legend = Legend::of(facts, &lamps, record);
@@ -48,19 +48,26 @@ pub fn draw(text: &str, facts: &Facts, happy: u16, record: &Record) -> String {
     let height = below + legend.height() + 16.0;
 
     let verdict = if facts.accepted { "Dealer accepted" } else { "Dealer rejected" };
-    let mut svg = Svg::new(WIDTH, height, verdict, &describe(text, &lamps, misfit));
+    let mut svg = Svg::new(record.picture_width(), height, verdict, &describe(text, &lamps, misfit));
     svg.text((MARGIN, 46.0), 30.0, Anchor::Start, WHITE, &bold(verdict, WHITE));
     for (k, (line, colour)) in subtitle.iter().enumerate() {
         svg.text((MARGIN, 84.0 + 26.0 * k as f64), 17.0, Anchor::Start, colour, line);
     }
-    svg.enter((WIDTH / 2.0, head - top));
+    svg.enter((record.picture_width() / 2.0, head - top));
     let lines = Lines::of(record);
     draw_all(&mut svg, scale, &lines, &lamps, record);
     draw_opened(&mut svg, &facts.opened);
     lamps.iter().for_each(|lamp| ring::draw_lamp(&mut svg, scale, lamp));
     labels.iter().for_each(|label| label.draw(&mut svg));
     svg.leave();
-    legend.draw(&mut svg, &lines, below);
+    // The legend stands in the middle of a card as wide as most are.
+    if record.is_wide() {
+        svg.enter(((record.picture_width() - WIDTH) / 2.0, 0.0));
+        legend.draw(&mut svg, &lines, below);
+        svg.leave();
+    } else {
+        legend.draw(&mut svg, &lines, below);
+    }
     svg.finish()
 }
 
@@ -107,7 +114,8 @@ fn draw_opened(svg: &mut Svg, opened: &Outcome) {
     match *opened {
         Outcome::Number(number) => {
             svg.text((0.0, -21.0), 14.0, Anchor::Middle, MUTED, "opened");
-            svg.text((0.0, 6.0), 25.0, Anchor::Middle, WHITE, &bold(number, WHITE));
+            let letters = if number < 100_000 { 25.0 } else { 14.5 };
+            svg.text((0.0, 6.0), letters, Anchor::Middle, WHITE, &bold(number, WHITE));
         }
         Outcome::Refused(number) => {
             let (above, below) = reason(number).rsplit_once(' ').unwrap_or_default();

@@ -1,51 +1,67 @@
 //! The four sections of a record that is not refused, and who confirms whom by its reports.
 //! Lamps are counted by their places here, from 0: the lamp at place i has number i + 1.
 
-/// From here on a number means "not sent".
-pub const NOT_SENT: u16 = 65_521;
-
 pub struct Record {
     pub n: usize,
     pub t: usize,
+    /// All arithmetic is modulo this prime, the first number that means "not sent".
+    pub prime: u32,
     /// For each lamp its row, then its column, each of t + 1 numbers, constant first.
-    pub deals: Vec<u16>,
+    pub deals: Vec<u32>,
     /// By receiver, then sender: the pair that the one heard from the other.
-    pairs: Vec<u16>,
+    pairs: Vec<u32>,
     pub reports: Vec<u16>,
-    pub published: Vec<u16>,
+    pub published: Vec<u32>,
 }
 
-/// The 16-bit number at a place, high byte first.
-fn number(bytes: &[u8], at: usize) -> Option<u16> {
-    Some(u16::from_be_bytes([*bytes.get(at)?, *bytes.get(at + 1)?]))
+/// The number at a place, of two bytes or of four, high byte first.
+fn number(bytes: &[u8], at: usize, width: usize) -> Option<u32> {
+    Some(bytes.get(at..at + width)?.iter().fold(0, |high, &byte| high << 8 | u32::from(byte)))
 }
 
 /// One of the four sections: its offset and its length stand in the directory, from byte 2 on.
-fn section(bytes: &[u8], place: usize, count: usize) -> Option<Vec<u16>> {
-    let offset = usize::from(number(bytes, 2 + 4 * place)?);
-    let length = usize::from(number(bytes, 4 + 4 * place)?);
-    if length != 2 * count {
+fn section(bytes: &[u8], place: usize, count: usize, width: usize) -> Option<Vec<u32>> {
+    let offset = number(bytes, 2 + 4 * place, 2)? as usize;
+    let length = number(bytes, 4 + 4 * place, 2)? as usize;
+    if length != width * count {
         return None;
     }
-    (0..count).map(|k| number(bytes, offset + 2 * k)).collect()
+    (0..count).map(|k| number(bytes, offset + width * k, width)).collect()
 }
 
 impl Record {
     /// None for what the library would refuse; that is for it to say, and why.
     pub fn read(bytes: &[u8]) -> Option<Record> {
-        let (n, t) = (usize::from(*bytes.first()?), usize::from(*bytes.get(1)?));
+        let (first, t) = (usize::from(*bytes.first()?), usize::from(*bytes.get(1)?));
+        // A wide record has 128 added to n, and numbers of four bytes but for the reports.
+        let (n, width, prime) = if first < 128 { (first, 2, 65_521) } else { (first - 128, 4, 2_147_483_647) };
         Some(Record {
             n,
             t,
-            deals: section(bytes, 0, 2 * n * (t + 1))?,
-            pairs: section(bytes, 1, 2 * n * n)?,
-            reports: section(bytes, 2, n)?,
-            published: section(bytes, 3, n)?,
+            prime,
+            deals: section(bytes, 0, 2 * n * (t + 1), width)?,
+            pairs: section(bytes, 1, 2 * n * n, width)?,
+            reports: section(bytes, 2, n, 2)?.into_iter().map(|report| report as u16).collect(),
+            published: section(bytes, 3, n, width)?,
         })
     }
 
+    /// Whether its numbers have four bytes, and up to ten digits.
+    pub fn is_wide(&self) -> bool {
+        self.prime > 65_521
+    }
+
+    /// How wide its picture is: ten digits need more room beside the lamps than five.
+    pub fn picture_width(&self) -> f64 {
+        if self.is_wide() {
+            900.0
+        } else {
+            crate::picture::WIDTH
+        }
+    }
+
     /// What the receiver heard from the sender in round two.
-    pub fn heard(&self, receiver: usize, sender: usize) -> (u16, u16) {
+    pub fn heard(&self, receiver: usize, sender: usize) -> (u32, u32) {
         let place = 2 * (receiver * self.n + sender);
         (self.pairs[place], self.pairs[place + 1])
     }

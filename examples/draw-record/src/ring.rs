@@ -2,7 +2,6 @@
 
 use crate::conduct::{conducts, Conduct};
 use crate::facts::{Facts, Outcome};
-use crate::picture::WIDTH;
 use crate::record::Record;
 use crate::svg::{bold, Anchor, Point, Svg, AMBER, CORAL, MUTED, NIGHT, SKY, WHITE};
 use std::f64::consts::TAU;
@@ -24,10 +23,12 @@ pub const FAULTY: f64 = 1.6;
 const GAP: f64 = 10.0;
 
 impl Scale {
-    pub fn of(n: usize) -> Scale {
-        // The longest words beside a lamp are 9.6 times as wide as their letters are high.
-        let (lamp, letters, most) = if n <= 8 { (26.0, 18.5, 180.0) } else { (19.0, 16.2, 205.0) };
-        let room = WIDTH / 2.0 - 12.0 - 9.6 * letters;
+    pub fn of(record: &Record) -> Scale {
+        let n = record.n;
+        // The longest words beside a lamp are so many times as wide as their letters are high: "published" and five digits, or ten.
+        let (longest, shrunk) = if record.is_wide() { (12.9, 0.85) } else { (9.6, 1.0) };
+        let (lamp, letters, most) = if n <= 8 { (26.0, 18.5 * shrunk, 180.0) } else { (19.0, 16.2 * shrunk, 205.0) };
+        let room = record.picture_width() / 2.0 - 12.0 - longest * letters;
         let widest = (0..n).map(|place| way(n, place).0).fold(0.0, f64::max);
         let mut scale = Scale { ring: most, lamp, letters };
         scale.ring = most.min(room / widest - scale.clear());

@@ -1,74 +1,58 @@
 -- `consistency::confirms` meets its contract: each test that fails settles the answer.
 use mathlib.Core.Path.{sym, _∙_}
-use Rattle.field.specs.Modulus.{modulus}
-use Rattle.consistency.proofs.Reports.{confirms-self, confirms-not, confirms-by}
+use Prim.Native.Nat.{_<_}
+use Rattle.field.specs.Modulus.{primeOf}
+use Rattle.field.proofs.Primes.{positive}
+use Rattle.polynomial.specs.Polynomial.{Residues}
+use Rattle.consistency.proofs.Reports.{at-point, sound-residues, confirms-self, confirms-not, confirms-by}
 use borrow.Author.Needs.{needs}
 use Rattle.consistency.proofs.confirms.Statement.{statement}
 use Rattle.consistency.proofs.confirms.Tie as tie
 
 returns : tie.Need-returns
-returns c = confirms-self modulus _ _ _ _ _ _ (c .if1 .taken)
-
-sub-at : tie.Need-sub-at
-sub-at c = search needs
-
-mul-at : tie.Need-mul-at
-mul-at c = search needs
+returns c =
+    let a = c .before .before .before .before .args in
+    confirms-self (primeOf (a .w)) (a .table .now) (a .i) (a .row .now) (a .column .now) (a .j) (a .first) (a .second) (c .if1 .taken)
 
 point-at-requires : tie.Need-point-at-requires
 point-at-requires c κs = search needs
 
-mul-if2 : tie.Need-mul-if2
-mul-if2 c = search needs
+-- Row, column and point are residues.
+abbrev start : tie.After-point-at → tie.Start
+start k = k .before .before .before .before .before
 
-shared-slice-read-if2 : tie.Need-shared-slice-read-if2
-shared-slice-read-if2 c = search needs
+both : (k : tie.After-point-at)
+    → let a = start k .args in Residues (primeOf (a .w)) (a .row .now) × Residues (primeOf (a .w)) (a .column .now)
+both k = let a = start k .args in sound-residues _ (a .table .now) (a .i) (a .row .now) (a .column .now) (start k .pre .1)
+
+point : (k : tie.After-point-at) → k .point-at .result < primeOf (start k .args .w)
+point k = let s = start k in at-point _ (s .args .table .now) (s .args .j) _ (positive (s .args .w)) (s .pre .0 .0) (k .point-at .ensures)
 
 value-requires : tie.Need-value-requires
-value-requires c κs = search needs
+value-requires c κs = (both c .1, point c, start c .pre .0 .2)
 
 returns-2 : tie.Need-returns-2
 returns-2 c =
-    let s = c .before .before .before .before .before .before .before .before .before in
-    let v = c .before in
-    confirms-not modulus _ _ _ _ _ _ (v .before .before .before .if1 .left) (s .pre .2)
-    (λ e. c .if2 .taken (e ∙ sym (rw (v .before .before .point-at .ensures) at (v .value .ensures))))
-
-add-result : tie.Need-add-result
-add-result c = search needs
-
-mul-result : tie.Need-mul-result
-mul-result c = search needs
-
-shared-slice-read-result : tie.Need-shared-slice-read-result
-shared-slice-read-result c = search needs
+    let k = c .before .before in
+    let a = start k .args in
+    confirms-not (primeOf (a .w)) (a .table .now) (a .i) (a .row .now) (a .column .now) (a .j) (a .first) (a .second)
+    (k .before .if1 .left) (start k .pre .1)
+    (λ e. c .if2 .taken (e ∙ sym (rw (k .point-at .ensures) at (c .before .value .ensures .0))))
 
 value-requires-2 : tie.Need-value-requires-2
-value-requires-2 c κs = search needs
+value-requires-2 c κs = let k = c .before .before in (both k .0, point k, start k .pre .0 .1)
 
 returns-3 : tie.Need-returns-3
 returns-3 c =
-    let v = c .before .before .before in
-    let point = v .before .before in
-    let s = point .before .before .before .before .before .before in
-    rw (c .value2 .ensures, point .point-at .ensures)
-    (confirms-by modulus _ _ _ _ _ _ (point .before .if1 .left) (s .pre .2)
-    (c .before .before .if2 .left ∙ rw (point .point-at .ensures) at (v .value .ensures)))
+    let v = c .before .before in
+    let k = v .before in
+    let a = start k .args in
+    rw (c .value2 .ensures .0, k .point-at .ensures)
+    (confirms-by (primeOf (a .w)) (a .table .now) (a .i) (a .row .now) (a .column .now) (a .j) (a .first) (a .second)
+    (k .before .if1 .left) (start k .pre .1)
+    (c .before .if2 .left ∙ rw (k .point-at .ensures) at (v .value .ensures .0)))
 
 pub confirms-spec : {M : Type 1} → statement M
 confirms-spec =
     tie.close
-    (tie.spec
-    returns
-    sub-at
-    mul-at
-    point-at-requires
-    mul-if2
-    shared-slice-read-if2
-    value-requires
-    returns-2
-    add-result
-    mul-result
-    shared-slice-read-result
-    value-requires-2
-    returns-3)
+    (tie.spec returns point-at-requires value-requires returns-2 value-requires-2 returns-3)

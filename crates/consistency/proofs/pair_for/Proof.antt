@@ -1,56 +1,90 @@
 -- `consistency::pair_for` meets its contract: each test that fails settles the answer.
-use mathlib.Core.Path.{sym, ap, ap₂, _∙_}
-use Prim.Native.Nat.{ℕ}
+use mathlib.Core.Path.{_≡_, sym, ap, ap₂, _∙_}
+use mathlib.Core.Bool.{true}
+use Prim.Native.Nat.{ℕ, _<_}
 use borrow.Author.Tests.{not-true, not-false}
-use Rattle.field.specs.Modulus.{modulus}
-use Rattle.parties.specs.Parties.{notSent}
-use Rattle.consistency.specs.Deal.{said}
-use Rattle.consistency.proofs.Reports.{pair-self, pair-unsound, pair-sound}
+use Rattle.field.specs.Modulus.{primeOf}
+use Rattle.field.proofs.Primes.{positive}
+use Rattle.polynomial.specs.Polynomial.{Residues}
+use Rattle.consistency.specs.Deal.{said, sound}
+use Rattle.consistency.proofs.Reports.{at-point, sound-residues, pair-self, pair-unsound, pair-sound}
 use borrow.Author.Needs.{needs}
 use Rattle.consistency.proofs.pair_for.Statement.{statement}
 use Rattle.consistency.proofs.pair_for.Tie as tie
 
+not-sent-requires : tie.Need-not-sent-requires
+not-sent-requires c κs = search needs
+
+not-sent-requires-2 : tie.Need-not-sent-requires-2
+not-sent-requires-2 c κs = search needs
+
 returns : tie.Need-returns
-unfolding notSent
-returns c = ap said (pair-self modulus _ _ _ _ _ (sym (c .if1 .taken)))
+returns c =
+    ap₂ (λ (a b : ℕ). said (a, b)) (c .before .not-sent .ensures) (c .not-sent2 .ensures)
+    ∙ ap said (pair-self _ _ _ _ _ _ (sym (c .before .before .if1 .taken)))
 
 sound-requires : tie.Need-sound-requires
 sound-requires c κs = search needs
 
+not-sent-requires-3 : tie.Need-not-sent-requires-3
+not-sent-requires-3 c κs = search needs
+
+not-sent-requires-4 : tie.Need-not-sent-requires-4
+not-sent-requires-4 c κs = search needs
+
 returns-2 : tie.Need-returns-2
-unfolding notSent
 returns-2 c =
-    let s = c .before in
-    ap said
-    (pair-unsound modulus _ _ _ _ _ (λ e. s .before .if1 .left (sym e))
-    (sym (s .sound .ensures) ∙ not-true (s .sound .result) (c .if2 .taken)))
+    let e = c .before .before in
+    let s = e .before in
+    ap₂ (λ (a b : ℕ). said (a, b)) (c .before .not-sent3 .ensures) (c .not-sent4 .ensures)
+    ∙ ap said
+    (pair-unsound _ _ _ _ _ _ (λ e. s .before .if1 .left (sym e))
+    (sym (s .sound .ensures) ∙ not-true (s .sound .result) (e .if2 .taken)))
 
 point-at-requires : tie.Need-point-at-requires
 point-at-requires c κs = search needs
 
+-- The deal is sound: row, column and point are residues.
+abbrev start : tie.After-point-at → tie.Start
+start k = k .before .before .before .before .before .before .before
+
+is-sound : (k : tie.After-point-at)
+    → let a = start k .args in sound (primeOf (a .w)) (a .table .now) (a .i) (a .row .now) (a .column .now) ≡ true
+is-sound k = let s = k .before .before in sym (s .sound .ensures) ∙ not-false (s .sound .result) (k .before .if2 .left)
+
+both : (k : tie.After-point-at)
+    → let a = start k .args in Residues (primeOf (a .w)) (a .row .now) × Residues (primeOf (a .w)) (a .column .now)
+both k = let a = start k .args in sound-residues _ (a .table .now) (a .i) (a .row .now) (a .column .now) (is-sound k)
+
+point : (k : tie.After-point-at) → k .point-at .result < primeOf (start k .args .w)
+point k = let s = start k in at-point _ (s .args .table .now) (s .args .j) _ (positive (s .args .w)) (s .pre .0) (k .point-at .ensures)
+
 value-requires : tie.Need-value-requires
-value-requires c κs = search needs
+value-requires c κs = (both c .0, point c, start c .pre .1)
 
 value-requires-2 : tie.Need-value-requires-2
-value-requires-2 c κs = search needs
+value-requires-2 c κs = let k = c .before in (both k .1, point k, start k .pre .2)
 
 returns-3 : tie.Need-returns-3
 returns-3 c =
-    let point = c .before .before in
-    let s = point .before .before in
-    let a = s .before .before .before .before .before .args in
-    ap₂ (λ (a b : ℕ). said (a, b)) (rw (point .point-at .ensures) at (c .before .value .ensures))
-    (rw (point .point-at .ensures) at (c .value2 .ensures))
+    let k = c .before .before in
+    let a = start k .args in
+    ap₂ (λ (a b : ℕ). said (a, b)) (rw (k .point-at .ensures) at (c .before .value .ensures .0))
+    (rw (k .point-at .ensures) at (c .value2 .ensures .0))
     ∙ ap said
-    (pair-sound modulus (a .table .now) (a .i) (a .row .now) (a .column .now) (a .j) (λ e. s .before .if1 .left (sym e))
-    (sym (s .sound .ensures) ∙ not-false (s .sound .result) (point .before .if2 .left)))
+    (pair-sound _ (a .table .now) (a .i) (a .row .now) (a .column .now) (a .j) (λ e. k .before .before .before .if1 .left (sym e))
+    (is-sound k))
 
 pub pair-for-spec : {M : Type 1} → statement M
 pair-for-spec =
     tie.close
     (tie.spec
+    not-sent-requires
+    not-sent-requires-2
     returns
     sound-requires
+    not-sent-requires-3
+    not-sent-requires-4
     returns-2
     point-at-requires
     value-requires

@@ -31,8 +31,8 @@ sizes-requires c κs = search needs
 returns : tie.Need-returns
 returns c = rw (sym (c .before .sizes .ensures) ∙ not-true _ (c .if1 .taken))
 
-add-width : tie.Need-add-width
-add-width c = search needs
+add-terms : tie.Need-add-terms
+add-terms c = search needs
 
 mul-if2 : tie.Need-mul-if2
 mul-if2 c =
@@ -78,7 +78,7 @@ size-admission-spec =
     (tie.spec
     sizes-requires
     returns
-    add-width
+    add-terms
     mul-if2
     returns-2
     mul-if3

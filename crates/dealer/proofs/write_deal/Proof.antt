@@ -1,8 +1,12 @@
 -- `dealer::write_deal` meets its contract: the row goes into the first part, the column into the one behind it.
-use mathlib.Core.Path.{sym}
+use mathlib.Core.Path.{sym, subst}
+use Prim.Native.Nat.{_<_}
 use native.Mathlib.Omega.{arith}
 use lib.Seq.{length-take-le}
-use Rattle.field.specs.Modulus.{modulus}
+use Rattle.field.specs.Modulus.{primeOf}
+use Rattle.field.proofs.Primes.{positive}
+use Rattle.polynomial.specs.Polynomial.{Residues}
+use Rattle.tables.proofs.Tables.{point-below}
 use Rattle.dealer.proofs.Writing.{both-written}
 use borrow.Author.Needs.{needs}
 use Rattle.dealer.proofs.write_deal.Statement.{statement}
@@ -17,8 +21,22 @@ slice-relend-prefix-row c = search needs
 slice-aggregate-row : tie.Need-slice-aggregate-row
 slice-aggregate-row c = sym (length-take-le _ _ (omega arith))
 
+-- The point is a residue, as the coefficients are.
+point : (c : tie.After-point-at) → let s = c .before .before .before .before in
+    Residues (primeOf (s .args .w)) (s .args .list .now) × (c .point-at .result < primeOf (s .args .w))
+point c =
+    let s = c .before .before .before .before in
+    let p = primeOf (s .args .w) in (
+      s .pre .1 .1,
+      subst (λ x. x < p) (sym (c .point-at .ensures))
+          (point-below p (s .args .table .now) (s .args .i) (positive (s .args .w)) (s .pre .1 .0)),
+    )
+
 row-requires : tie.Need-row-requires
-row-requires c κs = search needs
+row-requires c κs =
+    let s = c .before .before .before .before .before in
+    let q = point (c .before) in
+    (q .0, q .1, omega (arith, s .pre .0 .0, length-take-le (s .args .terms) (s .args .out .now) (omega (arith, s .pre .0 .2))))
 
 mul-column : tie.Need-mul-column
 mul-column c = search needs
@@ -33,7 +51,7 @@ part-column-end : tie.Need-part-column-end
 part-column-end c = search needs
 
 column-requires : tie.Need-column-requires
-column-requires c κs = search needs
+column-requires c κs = point (c .before .before .before .before .before)
 
 same-length : tie.Need-same-length
 same-length c = search needs
@@ -41,10 +59,11 @@ same-length c = search needs
 returns : tie.Need-returns
 returns c =
     let r = c .before .before .before .before .before .before in
-    let a = r .before .before .before .before .before .before .args in
-    both-written modulus (a .width) (a .table .now) (a .list .now) (a .i) _ (a .out .now) _ _ (r .before .before .point-at .ensures)
-    (search needs)
-    (search needs)
+    let s = r .before .before .before .before .before .before in
+    let a = s .args in
+    both-written _ (a .terms) (a .table .now) (a .list .now) (a .i) _ (a .out .now) _ _ (r .before .before .point-at .ensures)
+    (s .pre .0 .1)
+    (s .pre .0 .2)
     (r .row .ensures)
     (c .before .before .column .ensures)
 

@@ -1,11 +1,6 @@
 -- `exports::doumbaht_deal` meets its contract: the desk's list, and the number of its answer.
-use mathlib.Core.Path.{ap, _∙_}
-use mathlib.Core.List.{List}
-use Prim.Native.Nat.{ℕ}
-use Rattle.lists.specs.Options.{orZero}
-use Rattle.dealer.specs.declared.Dealing.{Dealing}
-use Rattle.dealer.specs.Desk.{dealingNumber}
-use Rattle.exports.specs.Exports.{dealingAt}
+use Rattle.field.specs.Modulus.{modulus}
+use Rattle.exports.proofs.Answers.{dealing-by}
 use borrow.Author.Needs.{needs}
 use Rattle.exports.proofs.doumbaht_deal.Statement.{statement}
 use Rattle.exports.proofs.doumbaht_deal.Tie as tie
@@ -20,11 +15,9 @@ same-length : tie.Need-same-length
 same-length c = search needs
 
 returns : tie.Need-returns
-unfolding dealingAt
 returns c =
     let d = c .before .before .before .deal in
-    ap (λ (k : ℕ). (d .last .1 .1 .1 .0, k)) (c .dealing-number .ensures)
-    ∙ ap (λ (a : List ℕ × Dealing). (a .0, orZero (dealingNumber (a .1)))) (d .ensures)
+    dealing-by modulus _ _ _ _ _ _ _ _ (c .dealing-number .ensures) (d .ensures)
 
 pub doumbaht-deal-spec : {M : Type 1} → statement M
 doumbaht-deal-spec =

@@ -3,7 +3,7 @@ use mathlib.Core.Path.{_≡_}
 use Prim.Native.Nat.{ℕ}
 use Rattle.field.specs.Arithmetic.{sub, mul}
 use Rattle.field.specs.Differences.{runs}
-use Rattle.field.specs.Modulus.{modulus}
+use Rattle.field.specs.Modulus.{primeOf}
 use borrow.Author.Needs.{needs}
 use Rattle.field.proofs.all_runs.Statement.{statement}
 use Rattle.field.proofs.all_runs.Tie as tie
@@ -21,8 +21,8 @@ difference-requires c κs = search needs
 returns : tie.Need-returns
 returns c = search needs
 
-cast-if2 : tie.Need-cast-if2
-cast-if2 c = search needs
+modulus-requires : tie.Need-modulus-requires
+modulus-requires c κs = search needs
 
 sub-if2 : tie.Need-sub-if2
 sub-if2 c = search needs
@@ -53,10 +53,10 @@ returns-3 c =
     let third = c .before .before in
     let low = third .before in
     let run = low .before .before in
-    let far = run .before .before .before in (
-      (λ _. gathered modulus _ _ _ _ _ _ _ _ _ _ _ (run .difference2 .ensures .0) (low .before .times-run .ensures .0)
-          (low .times-run2 .ensures .0) (far .difference .ensures .0) (third .times-run3 .ensures .0) (c .before .times-run4 .ensures .0)
-          (c .product .ensures .0)),
+    let far = run .before .before .before .before in (
+      (λ _. gathered (primeOf (far .before .args .w)) _ _ _ _ _ _ _ _ _ _ _ (run .difference2 .ensures .0)
+          (low .before .times-run .ensures .0) (low .times-run2 .ensures .0) (far .difference .ensures .0) (third .times-run3 .ensures .0)
+          (c .before .times-run4 .ensures .0) (c .product .ensures .0)),
       c .product .ensures .1,
     )
 
@@ -66,7 +66,7 @@ all-runs-spec =
     (tie.spec
     difference-requires
     returns
-    cast-if2
+    modulus-requires
     sub-if2
     returns-2
     difference-requires-2

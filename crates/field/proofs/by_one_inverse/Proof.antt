@@ -4,8 +4,8 @@ use mathlib.Core.List.{[], _∷_}
 use Prim.Native.Nat.{ℕ, _<_}
 use Rattle.field.specs.Arithmetic.{Prime, sub, mul, inv}
 use Rattle.field.specs.Differences.{fromRises, runs}
-use Rattle.field.specs.Modulus.{modulus}
-use Rattle.field.proofs.Primes.{prime}
+use Rattle.field.specs.Modulus.{primeOf}
+use Rattle.field.proofs.Primes.{prime-of}
 use Rattle.field.proofs.Slopes.{by-quotients}
 use borrow.Author.Needs.{needs}
 use Rattle.field.proofs.by_one_inverse.Statement.{statement}
@@ -58,25 +58,18 @@ product-requires : tie.Need-product-requires
 product-requires c κs = search needs
 
 product-requires-2 : tie.Need-product-requires-2
-product-requires-2 c κs = search needs
+product-requires-2 c κs =
+    let second = c .before .before .before .before .before .before .before in
+    (second .before .before .before .before .pre .1 .0 .0, second .times-run .ensures .1)
 
 product-requires-3 : tie.Need-product-requires-3
 product-requires-3 c κs = search needs
 
-cast-t22 : tie.Need-cast-t22
-cast-t22 c = search needs
-
 product-requires-4 : tie.Need-product-requires-4
 product-requires-4 c κs = search needs
 
-cast-t24 : tie.Need-cast-t24
-cast-t24 c = search needs
-
 product-requires-5 : tie.Need-product-requires-5
 product-requires-5 c κs = search needs
-
-cast-t26 : tie.Need-cast-t26
-cast-t26 c = search needs
 
 returns : tie.Need-returns
 returns c =
@@ -87,9 +80,10 @@ returns c =
     let t = a₂ .before in
     let r₃ = t .before .before in
     let s = r₃ .before .before .before in
+    let w = s .args .w in
     let rises = s .pre .1 .0 in
     let all = s .pre .1 .1 in
-    gathered modulus _ _ _ _ _ _ _ _ _ _ _ _ _ _ _ _ _ _ _ _ _ _ _ _ prime (rises .0) (rises .1) (rises .2) (all .1) (all .0)
+    gathered (primeOf w) _ _ _ _ _ _ _ _ _ _ _ _ _ _ _ _ _ _ _ _ _ _ _ _ (prime-of w) (rises .0) (rises .1) (rises .2) (all .1) (all .0)
     (r₃ .before .before .difference .ensures .0) (r₃ .before .difference2 .ensures .0) (r₃ .difference3 .ensures .0)
     (t .before .times-run .ensures .0) (t .times-run2 .ensures .0)
     (a₂ .determinant .ensures .0) (i .before .before .determinant2 .ensures .0) (i .before .determinant3 .ensures .0)
@@ -113,9 +107,6 @@ by-one-inverse-spec =
     product-requires
     product-requires-2
     product-requires-3
-    cast-t22
     product-requires-4
-    cast-t24
     product-requires-5
-    cast-t26
     returns)

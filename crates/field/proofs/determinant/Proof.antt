@@ -1,7 +1,7 @@
 -- `field::determinant` meets its contract: two products, then their difference.
 use mathlib.Core.Path.{ap₂, _∙_}
 use Rattle.field.specs.Arithmetic.{sub}
-use Rattle.field.specs.Modulus.{modulus}
+use Rattle.field.specs.Modulus.{primeOf}
 use borrow.Author.Needs.{needs}
 use Rattle.field.proofs.determinant.Statement.{statement}
 use Rattle.field.proofs.determinant.Tie as tie
@@ -17,9 +17,10 @@ difference-requires c κs = search needs
 
 returns : tie.Need-returns
 returns c =
-    let first = c .before .before .product .ensures .0 in
-    let second = c .before .product2 .ensures .0 in
-    (c .difference .ensures .0 ∙ ap₂ (sub modulus) first second, c .difference .ensures .1)
+    let second = c .before in
+    let first = second .before in
+    let p = primeOf (first .before .args .w) in
+    (c .difference .ensures .0 ∙ ap₂ (sub p) (first .product .ensures .0) (second .product2 .ensures .0), c .difference .ensures .1)
 
 pub determinant-spec : {M : Type 1} → statement M
 determinant-spec =

@@ -1,57 +1,62 @@
--- `field::divided_differences` meets its contract: the arrays hold four numbers each.
-use mathlib.Core.Path.{_≡_, ap₂, _∙_}
-use native.Mathlib.Omega.{arith}
-use lib.ListN.{length}
-use Rattle.lists.proofs.Padded.{four}
-use Rattle.field.specs.Differences.{newton}
-use Rattle.field.specs.Modulus.{modulus}
+-- `field::divided_differences` meets its contract: rises are those between the values, and coefficients of residues are residues.
+use mathlib.Core.Path.{_≡_, ap₂, sym, subst, _∙_}
+use mathlib.Core.List.{List, [], _∷_}
+use Prim.Native.Nat.{ℕ, _<_}
+use Rattle.lists.specs.All.{All}
+use Rattle.field.specs.Arithmetic.{sub}
+use Rattle.field.specs.Differences.{newton, fromRises}
+use Rattle.field.specs.Modulus.{primeOf}
+use Rattle.field.proofs.Primes.{positive}
+use Rattle.field.proofs.Slopes.{newton-rises, newton-residues}
 use borrow.Author.Needs.{needs}
 use Rattle.field.proofs.divided_differences.Statement.{statement}
 use Rattle.field.proofs.divided_differences.Tie as tie
 
-array-read-of-numbers : tie.Need-array-read-of-numbers
-array-read-of-numbers c = search needs
+-- The coefficients by the rises.
+module _ (p x₀ x₁ x₂ x₃ y₀ y₁ y₂ y₃ : ℕ) where
+  abbrev coefficients : List ℕ
+  coefficients = newton p (x₀ ∷ x₁ ∷ x₂ ∷ x₃ ∷ []) (y₀ ∷ y₁ ∷ y₂ ∷ y₃ ∷ [])
 
-array-read-of-numbers-2 : tie.Need-array-read-of-numbers-2
-array-read-of-numbers-2 c = search needs
+  gathered : (e₁ e₂ e₃ : ℕ) (f : List ℕ) → e₁ ≡ sub p y₁ y₀ → e₂ ≡ sub p y₂ y₀ → e₃ ≡ sub p y₃ y₀
+      → f ≡ fromRises p y₀ x₀ (x₁ ∷ x₂ ∷ x₃ ∷ []) (e₁ ∷ e₂ ∷ e₃ ∷ []) → f ≡ coefficients
+  gathered e₁ e₂ e₃ f q₁ q₂ q₃ e =
+      e
+      ∙ ap₂ (λ u v. fromRises p y₀ x₀ (x₁ ∷ x₂ ∷ x₃ ∷ []) (u ∷ v)) q₁ (ap₂ (λ u v. u ∷ v ∷ []) q₂ q₃)
+      ∙ newton-rises p x₀ y₀ (x₁ ∷ x₂ ∷ x₃ ∷ []) (y₁ ∷ y₂ ∷ y₃ ∷ [])
 
-array-read-of-numbers-3 : tie.Need-array-read-of-numbers-3
-array-read-of-numbers-3 c = search needs
+  small : (f : List ℕ) → 0 < p → y₀ < p → y₁ < p → y₂ < p → y₃ < p → f ≡ coefficients → All (λ z. z < p) f
+  small f q h₀ h₁ h₂ h₃ e =
+      subst (All (λ z. z < p)) (sym e)
+      (newton-residues p q (x₀ ∷ x₁ ∷ x₂ ∷ x₃ ∷ []) (y₀ ∷ y₁ ∷ y₂ ∷ y₃ ∷ []) (h₀, (h₁, (h₂, (h₃, tt)))))
 
-array-read-of-numbers-4 : tie.Need-array-read-of-numbers-4
-array-read-of-numbers-4 c = search needs
+difference-requires : tie.Need-difference-requires
+difference-requires c κs = search needs
 
-array-read-of-numbers-5 : tie.Need-array-read-of-numbers-5
-array-read-of-numbers-5 c = search needs
+difference-requires-2 : tie.Need-difference-requires-2
+difference-requires-2 c κs = search needs
 
-array-read-of-numbers-6 : tie.Need-array-read-of-numbers-6
-array-read-of-numbers-6 c = search needs
+difference-requires-3 : tie.Need-difference-requires-3
+difference-requires-3 c κs = search needs
 
-array-read-of-numbers-7 : tie.Need-array-read-of-numbers-7
-array-read-of-numbers-7 c = search needs
-
-array-read-of-numbers-8 : tie.Need-array-read-of-numbers-8
-array-read-of-numbers-8 c = search needs
-
-of-numbers-requires : tie.Need-of-numbers-requires
-of-numbers-requires c κs = search needs
+from-rises-requires : tie.Need-from-rises-requires
+from-rises-requires c κs = search needs
 
 returns : tie.Need-returns
 returns c =
-    let s = c .before in
-    c .of-numbers .ensures ∙ ap₂ (newton modulus) (four (s .args .t1) (omega arith)) (four (s .args .t2) (omega arith))
+    let e₂ = c .before .before in
+    let s = e₂ .before .before in
+    let w = s .args .w in
+    let y = s .pre .1 in
+    let found = gathered (primeOf w) _ _ _ _ _ _ _ _ _ _ _ _ (e₂ .before .difference .ensures .0) (e₂ .difference2 .ensures .0)
+    (c .before .difference3 .ensures .0) (c .from-rises .ensures) in
+    (found, small (primeOf w) _ _ _ _ _ _ _ _ _ (positive w) (y .0) (y .1) (y .2) (y .3) found)
 
 pub divided-differences-spec : {M : Type 1} → statement M
 divided-differences-spec =
     tie.close
     (tie.spec
-    array-read-of-numbers
-    array-read-of-numbers-2
-    array-read-of-numbers-3
-    array-read-of-numbers-4
-    array-read-of-numbers-5
-    array-read-of-numbers-6
-    array-read-of-numbers-7
-    array-read-of-numbers-8
-    of-numbers-requires
+    difference-requires
+    difference-requires-2
+    difference-requires-3
+    from-rises-requires
     returns)

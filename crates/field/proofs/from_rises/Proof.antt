@@ -1,5 +1,5 @@
 -- `field::from_rises` meets its contract: either way gives Newton's coefficients, and one inverse serves only where no run is 0.
-use Rattle.field.specs.Modulus.{modulus}
+use Rattle.field.specs.Modulus.{primeOf}
 use Rattle.field.proofs.Slopes.{by-slopes}
 use borrow.Author.Needs.{needs}
 use Rattle.field.proofs.from_rises.Statement.{statement}
@@ -17,32 +17,23 @@ by-one-inverse-requires c κs =
 returns : tie.Need-returns
 returns c = search needs
 
-slope-of-requires : tie.Need-slope-of-requires
-slope-of-requires c κs = search needs
+slope-requires : tie.Need-slope-requires
+slope-requires c κs = search needs
 
-slope-of-requires-2 : tie.Need-slope-of-requires-2
-slope-of-requires-2 c κs = search needs
+slope-requires-2 : tie.Need-slope-requires-2
+slope-requires-2 c κs = search needs
 
-slope-of-requires-3 : tie.Need-slope-of-requires-3
-slope-of-requires-3 c κs = search needs
+slope-requires-3 : tie.Need-slope-requires-3
+slope-requires-3 c κs = search needs
 
-slope-of-requires-4 : tie.Need-slope-of-requires-4
-slope-of-requires-4 c κs = search needs
+slope-requires-4 : tie.Need-slope-requires-4
+slope-requires-4 c κs = search needs
 
-slope-of-requires-5 : tie.Need-slope-of-requires-5
-slope-of-requires-5 c κs = search needs
+slope-requires-5 : tie.Need-slope-requires-5
+slope-requires-5 c κs = search needs
 
-slope-of-requires-6 : tie.Need-slope-of-requires-6
-slope-of-requires-6 c κs = search needs
-
-cast-t16 : tie.Need-cast-t16
-cast-t16 c = search needs
-
-cast-t17 : tie.Need-cast-t17
-cast-t17 c = search needs
-
-cast-t18 : tie.Need-cast-t18
-cast-t18 c = search needs
+slope-requires-6 : tie.Need-slope-requires-6
+slope-requires-6 c κs = search needs
 
 returns-2 : tie.Need-returns-2
 returns-2 c =
@@ -51,8 +42,9 @@ returns-2 c =
     let c₀ = d₁ .before in
     let c₁ = c₀ .before in
     let b = c₁ .before in
-    by-slopes modulus _ _ _ _ _ _ _ _ _ _ _ _ _ _ (b .slope-of .ensures .0) (c₁ .slope-of2 .ensures .0) (c₀ .slope-of3 .ensures .0)
-    (d₁ .slope-of4 .ensures .0) (d₂ .slope-of5 .ensures .0) (c .slope-of6 .ensures .0)
+    let p = primeOf (b .before .before .before .args .w) in
+    by-slopes p _ _ _ _ _ _ _ _ _ _ _ _ _ _ (b .slope .ensures .0) (c₁ .slope2 .ensures .0) (c₀ .slope3 .ensures .0)
+    (d₁ .slope4 .ensures .0) (d₂ .slope5 .ensures .0) (c .slope6 .ensures .0)
 
 pub from-rises-spec : {M : Type 1} → statement M
 from-rises-spec =
@@ -61,13 +53,10 @@ from-rises-spec =
     all-runs-requires
     by-one-inverse-requires
     returns
-    slope-of-requires
-    slope-of-requires-2
-    slope-of-requires-3
-    slope-of-requires-4
-    slope-of-requires-5
-    slope-of-requires-6
-    cast-t16
-    cast-t17
-    cast-t18
+    slope-requires
+    slope-requires-2
+    slope-requires-3
+    slope-requires-4
+    slope-requires-5
+    slope-requires-6
     returns-2)

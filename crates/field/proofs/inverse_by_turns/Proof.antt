@@ -1,75 +1,90 @@
 -- `field::inverse_by_turns` meets its contract. The loop keeps `Turn`; d falls, since it becomes a remainder by d, or what that lacks to d.
-use mathlib.Core.Path.{_≡_, subst}
-use Prim.Native.Nat.{ℕ, _%_}
-use native.Mathlib.Nat.{div-le-self, mod-lt}
+use mathlib.Core.Path.{_≡_, sym, subst}
+use Prim.Native.Nat.{ℕ, _+_, _-_, _/_, _%_, _<_}
+use native.Mathlib.Nat.{div-le-self, mod-lt, mod-eq-of-lt}
 use native.Mathlib.Omega.{arith}
-use Rattle.field.specs.Modulus.{modulus}
-use Rattle.field.proofs.Primes.{prime}
-use Rattle.field.proofs.Inverse.{Turn, turn-start, turn-step, turn-below, turn-end}
+use Rattle.field.specs.Modulus.{primeOf}
+use Rattle.field.proofs.Primes.{prime-of, within}
+use Rattle.field.proofs.Inverse.{Turn, turn-start, turn-step, turn-below, turn-end, some-quotient, next-quotient}
 use borrow.Author.Needs.{needs}
 use Rattle.field.proofs.inverse_by_turns.Statement.{statement}
 use Rattle.field.proofs.inverse_by_turns.Tie as tie
 
 abbrev Inv-loop : tie.InvT-loop
-Inv-loop a d₀ t₀ d t = Turn modulus a d t
+Inv-loop w a p d₀ t₀ d t = Turn (primeOf w) a d t
 
 abbrev μ-loop : tie.MeasureT-loop
-μ-loop a d₀ t₀ d t = d
+μ-loop w a p d₀ t₀ d t = d
+
+modulus-requires : tie.Need-modulus-requires Inv-loop μ-loop
+modulus-requires c κs = search needs
 
 loop-holds : tie.Need-loop-holds Inv-loop μ-loop
 loop-holds c =
-    let a : ℕ = c .args .a in
-    let own : a % modulus ≡ a = omega arith in
-    subst (λ (d : ℕ). Turn modulus a d 1) own (turn-start modulus prime a (omega arith))
-
-cast-q : tie.Need-cast-q Inv-loop μ-loop
-cast-q c = search needs
+    let s = c .before .args in
+    let own : s .a % primeOf (s .w) ≡ s .a = mod-eq-of-lt (omega arith) in
+    subst (λ (d : ℕ). Turn (primeOf (s .w)) (s .a) d 1) own (turn-start (primeOf (s .w)) (prime-of (s .w)) (s .a) (omega arith))
 
 div-q : tie.Need-div-q Inv-loop μ-loop
 div-q c = search needs
-
-cast-above : tie.Need-cast-above Inv-loop μ-loop
-cast-above c = search needs
 
 rem-above : tie.Need-rem-above Inv-loop μ-loop
 rem-above c = search needs
 
 sub-below : tie.Need-sub-below Inv-loop μ-loop
-sub-below c = let r = mod-lt modulus {m = c .before .loop .d} (omega arith) in omega arith
+sub-below c = let r = mod-lt (c .before .before .modulus .result) {m = c .before .loop .d} (omega arith) in omega arith
 
 add-product : tie.Need-add-product Inv-loop μ-loop
-add-product c = omega (arith, div-le-self modulus (c .before .before .loop .d))
+add-product c =
+    let at = c .before .before in
+    omega (arith, div-le-self (at .before .modulus .result) (at .loop .d), within (at .before .before .args .w))
 
 product-requires : tie.Need-product-requires Inv-loop μ-loop
 product-requires c κs =
-    let turn = c .before .before .loop in
-    (omega (arith, turn .inv .residue), omega (arith, div-le-self modulus (turn .d)))
+    let at = c .before .before in
+    let p = primeOf (at .before .before .args .w) in
+    let d = at .loop .d in
+    let turn = at .loop .inv in
+    let small = next-quotient p d (turn .high) (omega arith) in
+    (turn .residue, subst (λ (q : ℕ). q / d + 1 < p) (sym (at .before .modulus .ensures)) small)
 
 loop-less : tie.Need-loop-less Inv-loop μ-loop
 loop-less c = omega (arith, c .before .if1 .taken)
 
 loop-again : tie.Need-loop-again Inv-loop μ-loop
-loop-again c = rw (c .product .ensures .0) (turn-below modulus prime _ _ _ (c .before .before .before .loop .inv))
-
-cast-product : tie.Need-cast-product Inv-loop μ-loop
-cast-product c = search needs
+loop-again c =
+    let at = c .before .before .before in
+    let s = at .before .before .args in
+    rw (c .product .ensures .0, at .before .modulus .ensures) (turn-below (primeOf (s .w)) (prime-of (s .w)) (s .a) _ _ (at .loop .inv))
 
 sub-product : tie.Need-sub-product Inv-loop μ-loop
-sub-product c = div-le-self modulus _
+sub-product c = div-le-self (c .before .before .before .modulus .result) _
 
 product-requires-2 : tie.Need-product-requires-2 Inv-loop μ-loop
-product-requires-2 c κs = (omega (arith, c .before .before .loop .inv .residue), omega arith)
+product-requires-2 c κs =
+    let at = c .before .before in
+    let p = primeOf (at .before .before .args .w) in
+    let d = at .loop .d in
+    let turn = at .loop .inv in
+    let small : p - p / d < p = omega (arith, some-quotient p d (turn .high) (turn .low), turn .high) in
+    (turn .residue, subst (λ (q : ℕ). q - q / d < p) (sym (at .before .modulus .ensures)) small)
 
 loop-less-2 : tie.Need-loop-less-2 Inv-loop μ-loop
-loop-less-2 c = mod-lt modulus (omega arith)
+loop-less-2 c = mod-lt _ (omega arith)
 
 loop-again-2 : tie.Need-loop-again-2 Inv-loop μ-loop
-loop-again-2 c = rw (c .product2 .ensures .0) (turn-step modulus prime _ _ _ (omega arith) (c .before .before .before .loop .inv))
+loop-again-2 c =
+    let at = c .before .before .before in
+    let s = at .before .before .args in
+    rw (c .product2 .ensures .0, at .before .modulus .ensures)
+    (turn-step (primeOf (s .w)) (prime-of (s .w)) (s .a) _ _ (omega arith) (at .loop .inv))
 
 returns : tie.Need-returns Inv-loop μ-loop
 returns c =
+    let s = c .before .before .before .args in
+    let own : s .a % primeOf (s .w) ≡ s .a = mod-eq-of-lt (omega arith) in
     let turn = c .before .loop .inv in
-    (turn-end modulus prime _ _ _ (omega arith) (omega arith) turn, turn .residue)
+    (turn-end (primeOf (s .w)) (prime-of (s .w)) (s .a) _ _ (omega arith) (omega arith) turn, turn .residue)
 
 pub inverse-by-turns-spec : {M : Type 1} → statement M
 inverse-by-turns-spec =
@@ -77,17 +92,15 @@ inverse-by-turns-spec =
     (tie.spec
     Inv-loop
     μ-loop
+    modulus-requires
     loop-holds
-    cast-q
     div-q
-    cast-above
     rem-above
     sub-below
     add-product
     product-requires
     loop-less
     loop-again
-    cast-product
     sub-product
     product-requires-2
     loop-less-2

@@ -1,40 +1,41 @@
 -- `field::inverse_of` meets its contract: 0 and 1 are their own inverses, and a remainder of 1 gives one at once.
-use mathlib.Core.Path.{sym, subst}
-use Prim.Native.Nat.{ℕ, _<_}
+use mathlib.Core.Path.{_≡_, sym, subst}
+use Prim.Native.Nat.{ℕ, _-_, _/_, _%_, _<_}
 use native.Mathlib.Nat.{div-le-self}
-use native.Mathlib.Omega.{arith}
-use Rattle.field.specs.Modulus.{modulus}
-use Rattle.field.proofs.Primes.{prime}
+use Rattle.field.specs.Arithmetic.{Prime, inv}
+use Rattle.field.specs.Modulus.{primeOf}
+use Rattle.field.proofs.Primes.{prime-of}
 use Rattle.field.proofs.Inverse.{inv-own, inv-at-once, inv-lt}
 use borrow.Author.Needs.{needs}
 use Rattle.field.proofs.inverse_of.Statement.{statement}
 use Rattle.field.proofs.inverse_of.Tie as tie
 
-returns : tie.Need-returns
-returns c = (inv-own modulus _ (omega arith) (c .if1 .taken), omega arith)
+-- With the prime by another name.
+at-once : (p q a : ℕ) → Prime p → q ≡ p → 1 < a → a < p → q % a ≡ 1 → (q - q / a ≡ inv p a) × (q - q / a < p)
+at-once p q a P e more high one =
+    let found = inv-at-once p P a more high (subst (λ (n : ℕ). n % a ≡ 1) e one) in
+    subst (λ (n : ℕ). (n - n / a ≡ inv p a) × (n - n / a < p)) (sym e) (found, subst (λ (r : ℕ). r < p) (sym found) (inv-lt p P a))
 
-cast-if2 : tie.Need-cast-if2
-cast-if2 c = search needs
+returns : tie.Need-returns
+returns c = let s = c .before .args in (inv-own (primeOf (s .w)) _ (prime-of (s .w) .two) (c .if1 .taken), c .before .pre)
+
+modulus-requires : tie.Need-modulus-requires
+modulus-requires c κs = search needs
 
 rem-if2 : tie.Need-rem-if2
 rem-if2 c = search needs
-
-cast-result : tie.Need-cast-result
-cast-result c = search needs
-
-cast-result-2 : tie.Need-cast-result-2
-cast-result-2 c = search needs
 
 div-result : tie.Need-div-result
 div-result c = search needs
 
 sub-result : tie.Need-sub-result
-sub-result c = div-le-self modulus _
+sub-result c = div-le-self (c .before .modulus .result) _
 
 returns-2 : tie.Need-returns-2
 returns-2 c =
-    let at-once = inv-at-once modulus prime _ (c .before .if1 .left) (c .before .before .pre) (c .if2 .taken) in
-    (at-once, subst (λ (r : ℕ). r < modulus) (sym at-once) (inv-lt modulus prime _))
+    let start = c .before .before .before in
+    let w = start .args .w in
+    at-once (primeOf w) _ _ (prime-of w) (c .before .modulus .ensures) (c .before .before .if1 .left) (start .pre) (c .if2 .taken)
 
 inverse-by-turns-requires : tie.Need-inverse-by-turns-requires
 inverse-by-turns-requires c κs = search needs
@@ -47,10 +48,8 @@ inverse-of-spec =
     tie.close
     (tie.spec
     returns
-    cast-if2
+    modulus-requires
     rem-if2
-    cast-result
-    cast-result-2
     div-result
     sub-result
     returns-2

@@ -1,9 +1,6 @@
 -- `field::is_cubic_value` meets its contract.
 use mathlib.Core.Path.{ap, _∙_}
 use lib.Dec.{eqb}
-use Prim.Native.Nat.{_%_}
-use Rattle.field.specs.Modulus.{modulus}
-use Rattle.field.proofs.Horner.{cubic-reduced}
 use borrow.Author.Needs.{needs}
 use Rattle.field.proofs.is_cubic_value.Statement.{statement}
 use Rattle.field.proofs.is_cubic_value.Tie as tie
@@ -15,11 +12,7 @@ reduces-to-requires : tie.Need-reduces-to-requires
 reduces-to-requires c κs = search needs
 
 returns : tie.Need-returns
-returns c =
-    let s = c .before .before .args in
-    c .reduces-to .ensures
-    ∙ ap (λ v. eqb (v % modulus) (s .y)) (c .before .cubic-sum .ensures)
-    ∙ ap (λ v. eqb v (s .y)) (cubic-reduced modulus (s .a) (s .b) (s .c) (s .d) (s .x))
+returns c = c .reduces-to .ensures ∙ ap (λ v. eqb v (c .before .before .args .y)) (c .before .cubic-sum .ensures)
 
 pub is-cubic-value-spec : {M : Type 1} → statement M
 is-cubic-value-spec = tie.close (tie.spec cubic-sum-requires reduces-to-requires returns)

@@ -1,24 +1,17 @@
--- `field::product` meets its contract. The product of two 16-bit numbers fits 32 bits.
-use mathlib.Core.Path.{refl}
-use native.Mathlib.Nat.{mul-le-mul}
+-- `field::product` meets its contract: nothing is added to it.
+use mathlib.Core.Path.{_∙_}
 use native.Mathlib.Omega.{arith}
-use Rattle.field.specs.Arithmetic.{mul}
-use borrow.Author.Needs.{needs}
+use Rattle.field.specs.Modulus.{primeOf}
+use Rattle.field.proofs.Primes.{positive}
+use Rattle.field.proofs.Ring.{add-nothing}
 use Rattle.field.proofs.product.Statement.{statement}
 use Rattle.field.proofs.product.Tie as tie
 
-mul-result : tie.Need-mul-result
-mul-result c = omega (arith, mul-le-mul {n₁ = c .args .a} {m₁ = c .args .b} {n₂ = 65535} {m₂ = 65535} (omega arith) (omega arith))
-
-cast-result : tie.Need-cast-result
-cast-result c = search needs
-
-rem-result : tie.Need-rem-result
-rem-result c = search needs
+mul-add-requires : tie.Need-mul-add-requires
+mul-add-requires c κs = let s = c .pre in (omega arith, s .1, positive (c .args .w))
 
 returns : tie.Need-returns
-unfolding mul
-returns c = (refl, omega arith)
+returns c = let s = c .before .args in (c .mul-add .ensures .0 ∙ add-nothing (primeOf (s .w)) (s .a) (s .b), c .mul-add .ensures .1)
 
 pub product-spec : {M : Type 1} → statement M
-product-spec = tie.close (tie.spec mul-result cast-result rem-result returns)
+product-spec = tie.close (tie.spec mul-add-requires returns)

@@ -1,40 +1,48 @@
--- `field::slope` meets its contract: the slope between residues is that between the numbers.
-use mathlib.Core.Path.{_∙_}
-use Rattle.field.specs.Modulus.{modulus}
-use Rattle.field.proofs.Slopes.{slope-mod}
+-- `field::slope` meets its contract: the inverse of 1 is 1.
+use mathlib.Core.Path.{sym, ap, ap₂, _∙_}
+use Rattle.field.specs.Arithmetic.{mul, inv}
+use Rattle.field.specs.Modulus.{primeOf}
+use Rattle.field.proofs.Primes.{prime-of}
+use Rattle.field.proofs.Slopes.{over-one}
 use borrow.Author.Needs.{needs}
 use Rattle.field.proofs.slope.Statement.{statement}
 use Rattle.field.proofs.slope.Tie as tie
 
-cast-slope-of : tie.Need-cast-slope-of
-cast-slope-of c = search needs
+difference-requires : tie.Need-difference-requires
+difference-requires c κs = search needs
 
-cast-slope-of-2 : tie.Need-cast-slope-of-2
-cast-slope-of-2 c = search needs
-
-cast-slope-of-3 : tie.Need-cast-slope-of-3
-cast-slope-of-3 c = search needs
-
-cast-slope-of-4 : tie.Need-cast-slope-of-4
-cast-slope-of-4 c = search needs
-
-slope-of-requires : tie.Need-slope-of-requires
-slope-of-requires c κs = search needs
-
-cast-result : tie.Need-cast-result
-cast-result c = search needs
+difference-requires-2 : tie.Need-difference-requires-2
+difference-requires-2 c κs = search needs
 
 returns : tie.Need-returns
-returns c = c .slope-of .ensures .0 ∙ slope-mod modulus _ _ _ _
+returns c =
+    let w = c .before .before .before .args .w in
+    let rise = c .before .difference2 .ensures in
+    let run = sym (c .before .before .difference .ensures .0) ∙ c .if1 .taken in
+    (rise .0 ∙ over-one (primeOf w) _ _ _ (prime-of w .two) run, rise .1)
+
+inverse-of-requires : tie.Need-inverse-of-requires
+inverse-of-requires c κs = search needs
+
+product-requires : tie.Need-product-requires
+product-requires c κs = search needs
+
+returns-2 : tie.Need-returns-2
+returns-2 c =
+    let divided = c .before in
+    let steep = divided .before .before in
+    let p = primeOf (steep .before .before .args .w) in
+    let run = steep .before .difference .ensures .0 in
+    let over = divided .inverse-of .ensures .0 ∙ ap (inv p) run in
+    (c .product .ensures .0 ∙ ap₂ (mul p) (steep .difference2 .ensures .0) over, c .product .ensures .1)
 
 pub slope-spec : {M : Type 1} → statement M
 slope-spec =
     tie.close
     (tie.spec
-    cast-slope-of
-    cast-slope-of-2
-    cast-slope-of-3
-    cast-slope-of-4
-    slope-of-requires
-    cast-result
-    returns)
+    difference-requires
+    difference-requires-2
+    returns
+    inverse-of-requires
+    product-requires
+    returns-2)

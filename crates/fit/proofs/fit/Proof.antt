@@ -25,13 +25,13 @@ refused-fit-requires : tie.Need-refused-fit-requires
 refused-fit-requires c κs = search needs
 
 returns : tie.Need-returns
-returns c = c .refused-fit .ensures ∙ fit-degree _ _ _ _ (c .before .if1 .taken)
+returns c = c .refused-fit .ensures ∙ fit-degree _ _ _ _ _ (c .before .if1 .taken)
 
 refused-fit-requires-2 : tie.Need-refused-fit-requires-2
 refused-fit-requires-2 c κs = search needs
 
 returns-2 : tie.Need-returns-2
-returns-2 c = c .refused-fit2 .ensures ∙ fit-lengths _ _ _ _ (c .before .before .if1 .left) (c .before .if2 .taken)
+returns-2 c = c .refused-fit2 .ensures ∙ fit-lengths _ _ _ _ _ (c .before .before .if1 .left) (c .before .if2 .taken)
 
 refused-fit-requires-3 : tie.Need-refused-fit-requires-3
 refused-fit-requires-3 c κs = search needs
@@ -39,7 +39,7 @@ refused-fit-requires-3 c κs = search needs
 returns-3 : tie.Need-returns-3
 returns-3 c =
     let e = c .before .before in
-    c .refused-fit3 .ensures ∙ fit-many _ _ _ _ (e .before .if1 .left) (e .if2 .left) (c .before .if3 .taken)
+    c .refused-fit3 .ensures ∙ fit-many _ _ _ _ _ (e .before .if1 .left) (e .if2 .left) (c .before .if3 .taken)
 
 refused-fit-requires-4 : tie.Need-refused-fit-requires-4
 refused-fit-requires-4 c κs = search needs
@@ -47,13 +47,14 @@ refused-fit-requires-4 c κs = search needs
 returns-4 : tie.Need-returns-4
 returns-4 c =
     let e = c .before .before in
-    c .refused-fit4 .ensures ∙ fit-few _ _ _ _ (e .before .before .if1 .left) (e .before .if2 .left) (e .if3 .left) (c .before .if4 .taken)
+    c .refused-fit4 .ensures
+    ∙ fit-few _ _ _ _ _ (e .before .before .if1 .left) (e .before .if2 .left) (e .if3 .left) (c .before .if4 .taken)
 
 add-next : tie.Need-add-next
 add-next c = search needs
 
 next-requires : tie.Need-next-requires
-next-requires c κs = (bounded c, omega arith)
+next-requires c κs = ((bounded c, omega arith), start c .pre .0)
 
 decoded-requires : tie.Need-decoded-requires
 decoded-requires c κs = search needs
@@ -62,8 +63,8 @@ returns-5 : tie.Need-returns-5
 returns-5 c =
     let called = c .before .before in
     c .decoded .ensures
-    ∙ fit-first _ _ _ _ _ (called .next .ensures) (c .before .if5 .taken)
-    ∙ sym (fit-admitted _ _ _ _ (admitted (called .before)))
+    ∙ fit-first _ _ _ _ _ _ (called .next .ensures) (c .before .if5 .taken)
+    ∙ sym (fit-admitted _ _ _ _ _ (admitted (called .before)))
 
 later-requires : tie.Need-later-requires
 later-requires c κs =
@@ -81,7 +82,7 @@ copied-requires c κs = search needs
 returns-6 : tie.Need-returns-6
 returns-6 c =
     let called = c .before .before .before in
-    c .copied .ensures ∙ c .before .later .ensures ∙ sym (fit-admitted _ _ _ _ (admitted (called .before)))
+    c .copied .ensures ∙ c .before .later .ensures ∙ sym (fit-admitted _ _ _ _ _ (admitted (called .before)))
 
 pub fit-spec : {M : Type 1} → statement M
 fit-spec =

@@ -4,20 +4,19 @@ use Prim.Native.Nat.{_+_, _≤_}
 use native.Mathlib.Omega.{arith}
 use borrow.Author.Needs.{needs}
 use lib.ListN.{length, drop}
-use Rattle.field.specs.Modulus.{modulus}
 use Rattle.fit.specs.Fit.{sent}
 use Rattle.fit.proofs.Counting.{sent-start, sent-more, sent-same}
 use Rattle.fit.proofs.sent.Statement.{statement}
 use Rattle.fit.proofs.sent.Tie as tie
 
 abbrev Inv-loop : tie.InvT-loop
-Inv-loop ys n₀ i₀ n i = (i ≤ length ys) × (n + i ≤ length ys) × (n ≡ sent modulus (drop i ys))
+Inv-loop p ys n₀ i₀ n i = (i ≤ length ys) × (n + i ≤ length ys) × (n ≡ sent p (drop i ys))
 
 abbrev μ-loop : tie.MeasureT-loop
-μ-loop ys n₀ i₀ n i = i
+μ-loop p ys n₀ i₀ n i = i
 
 loop-holds : tie.Need-loop-holds Inv-loop μ-loop
-loop-holds c = (omega arith, omega arith, sent-start modulus (c .args .ys .now))
+loop-holds c = (omega arith, omega arith, sent-start _ (c .args .ys .now))
 
 sub-i : tie.Need-sub-i Inv-loop μ-loop
 sub-i c = search needs
@@ -37,7 +36,7 @@ loop-less c = search needs
 loop-again : tie.Need-loop-again Inv-loop μ-loop
 loop-again c =
     let k = c .before .before .before .loop in
-    (omega arith, omega arith, sent-more modulus _ (k .i) (k .n) (omega arith) (omega arith) (k .inv .2) (c .if1 .taken))
+    (omega arith, omega arith, sent-more _ _ (k .i) (k .n) (omega arith) (omega arith) (k .inv .2) (c .if1 .taken))
 
 loop-less-2 : tie.Need-loop-less-2 Inv-loop μ-loop
 loop-less-2 c = search needs
@@ -45,7 +44,7 @@ loop-less-2 c = search needs
 loop-again-2 : tie.Need-loop-again-2 Inv-loop μ-loop
 loop-again-2 c =
     let k = c .before .before .before .loop in
-    (omega arith, omega arith, sent-same modulus _ (k .i) (k .n) (omega arith) (omega arith) (k .inv .2) (c .if1 .left))
+    (omega arith, omega arith, sent-same _ _ (k .i) (k .n) (omega arith) (omega arith) (k .inv .2) (c .if1 .left))
 
 returns : tie.Need-returns Inv-loop μ-loop
 returns c = let z : c .before .loop .i ≡ 0 = omega arith in rw z at (c .before .loop .inv .2)

@@ -1,69 +1,18 @@
--- `polynomial::residues` meets its contract. The loop goes from the end: the numbers from i on are residues.
-use borrow.Author.Needs.{needs}
-use native.Mathlib.Omega.{arith}
-use mathlib.Core.Path.{refl}
-use mathlib.Core.Bool.{Bool}
-use mathlib.Core.List.{List}
-use Prim.Native.Nat.{ℕ}
-use lib.Dec.{ltb}
-use borrow.Author.Tests.{lt-ltb, le-ltb}
-use Rattle.lists.proofs.FromEnd.{Passed, passed-start, passed-next, passed-not, passed-end}
-use Rattle.field.specs.Modulus.{modulus}
+-- `polynomial::residues` meets its contract.
+use mathlib.Core.Path.{ap, _∙_}
 use Rattle.polynomial.specs.Polynomial.{residues}
+use borrow.Author.Needs.{needs}
 use Rattle.polynomial.proofs.residues.Statement.{statement}
 use Rattle.polynomial.proofs.residues.Tie as tie
 
--- What is asked of one number.
-abbrev fine : ℕ → List ℕ → Bool
-fine a rest = ltb a modulus
+modulus-requires : tie.Need-modulus-requires
+modulus-requires c κs = search needs
 
-abbrev Inv-loop : tie.InvT-loop
-Inv-loop list i₀ i = Passed (residues modulus) list i
+all-below-requires : tie.Need-all-below-requires
+all-below-requires c κs = search needs
 
-abbrev μ-loop : tie.MeasureT-loop
-μ-loop list i₀ i = i
-
-loop-holds : tie.Need-loop-holds Inv-loop μ-loop
-loop-holds c = passed-start fine (residues modulus) refl (λ a xs. refl) (c .args .list .now)
-
-sub-i : tie.Need-sub-i Inv-loop μ-loop
-sub-i c = search needs
-
-mul-if1 : tie.Need-mul-if1 Inv-loop μ-loop
-mul-if1 c = search needs
-
-shared-slice-read-if1 : tie.Need-shared-slice-read-if1 Inv-loop μ-loop
-shared-slice-read-if1 c = search needs
-
-returns : tie.Need-returns Inv-loop μ-loop
-returns c =
-    let k = c .before .before .before .loop in
-    let list = c .before .before .before .before .args .list .now in
-    passed-not fine (residues modulus) refl (λ a xs. refl) list (k .i) (omega arith) (k .inv .within) (le-ltb _ _ (c .if1 .taken))
-
-loop-less : tie.Need-loop-less Inv-loop μ-loop
-loop-less c = search needs
-
-loop-again : tie.Need-loop-again Inv-loop μ-loop
-loop-again c =
-    let k = c .before .before .before .loop in
-    passed-next fine (residues modulus) refl (λ a xs. refl) _ (k .i) (omega arith) (k .inv .within) (k .inv .rest)
-    (lt-ltb _ _ (c .if1 .left))
-
-returns-2 : tie.Need-returns-2 Inv-loop μ-loop
-returns-2 c = let k = c .before .loop in passed-end fine (residues modulus) refl (λ a xs. refl) _ (k .i) (omega arith) (k .inv)
+returns : tie.Need-returns
+returns c = c .all-below .ensures ∙ ap (λ p. residues p (c .before .before .before .args .list .now)) (c .before .modulus .ensures)
 
 pub residues-spec : {M : Type 1} → statement M
-residues-spec =
-    tie.close
-    (tie.spec
-    Inv-loop
-    μ-loop
-    loop-holds
-    sub-i
-    mul-if1
-    shared-slice-read-if1
-    returns
-    loop-less
-    loop-again
-    returns-2)
+residues-spec = tie.close (tie.spec modulus-requires all-below-requires returns)

@@ -1,89 +1,65 @@
--- `polynomial::value` meets its contract: up to four coefficients are a cubic's, with zeros behind them.
-use mathlib.Core.Path.{_∙_}
-use Rattle.field.specs.Modulus.{modulus}
-use Rattle.polynomial.proofs.Loops.{value-two, value-three, value-four}
+-- `polynomial::value` meets its contract: at most four coefficients are a cubic's, with zeros behind them.
+use mathlib.Core.Path.{_≡_, sym, subst, _∙_}
+use Prim.Native.Nat.{ℕ, _<_}
+use lib.ListN.{getD}
+use Rattle.field.specs.Arithmetic.{cubicValue}
+use Rattle.field.specs.Modulus.{primeOf}
+use Rattle.field.proofs.Primes.{positive}
+use Rattle.polynomial.proofs.Few.{value-few, coefficient-below}
 use borrow.Author.Needs.{needs}
 use Rattle.polynomial.proofs.value.Statement.{statement}
 use Rattle.polynomial.proofs.value.Tie as tie
 
-shared-slice-read-cubic-value : tie.Need-shared-slice-read-cubic-value
-shared-slice-read-cubic-value c = search needs
+coefficient-requires : tie.Need-coefficient-requires
+coefficient-requires c κs = search needs
 
-shared-slice-read-cubic-value-2 : tie.Need-shared-slice-read-cubic-value-2
-shared-slice-read-cubic-value-2 c = search needs
+coefficient-requires-2 : tie.Need-coefficient-requires-2
+coefficient-requires-2 c κs = search needs
 
-shared-slice-read-cubic-value-3 : tie.Need-shared-slice-read-cubic-value-3
-shared-slice-read-cubic-value-3 c = search needs
+coefficient-requires-3 : tie.Need-coefficient-requires-3
+coefficient-requires-3 c κs = search needs
 
-shared-slice-read-cubic-value-4 : tie.Need-shared-slice-read-cubic-value-4
-shared-slice-read-cubic-value-4 c = search needs
+coefficient-requires-4 : tie.Need-coefficient-requires-4
+coefficient-requires-4 c κs = search needs
+
+-- What was read at a place is a residue.
+small : (s : tie.Start) (k a : ℕ) → a ≡ getD (s .args .f .now) k 0 → a < primeOf (s .args .w)
+small s k a e =
+    subst (λ z. z < primeOf (s .args .w)) (sym e)
+    (coefficient-below (primeOf (s .args .w)) (s .args .f .now) k (positive (s .args .w)) (s .pre .0))
 
 cubic-value-requires : tie.Need-cubic-value-requires
-cubic-value-requires c κs = search needs
+cubic-value-requires c κs =
+    let s = c .before .before .before .before .before in (
+      small s 0 _ (c .before .before .before .coefficient .ensures),
+      small s 1 _ (c .before .before .coefficient2 .ensures),
+      small s 2 _ (c .before .coefficient3 .ensures),
+      small s 3 _ (c .coefficient4 .ensures),
+      s .pre .1,
+    )
 
 returns : tie.Need-returns
 returns c =
-    let t = c .before .before .before .before .before in
-    let a = t .before .before .args in
-    c .cubic-value .ensures ∙ value-four modulus (a .f .now) (a .x) (t .if1 .taken)
-
-shared-slice-read-cubic-value-5 : tie.Need-shared-slice-read-cubic-value-5
-shared-slice-read-cubic-value-5 c = search needs
-
-shared-slice-read-cubic-value-6 : tie.Need-shared-slice-read-cubic-value-6
-shared-slice-read-cubic-value-6 c = search needs
-
-cubic-value-requires-2 : tie.Need-cubic-value-requires-2
-cubic-value-requires-2 c κs = search needs
-
-returns-2 : tie.Need-returns-2
-returns-2 c =
-    let t = c .before .before .before in
-    let a = t .before .before .before .args in
-    c .cubic-value2 .ensures ∙ value-two modulus (a .f .now) (a .x) (t .if2 .taken)
-
-shared-slice-read-cubic-value-7 : tie.Need-shared-slice-read-cubic-value-7
-shared-slice-read-cubic-value-7 c = search needs
-
-shared-slice-read-cubic-value-8 : tie.Need-shared-slice-read-cubic-value-8
-shared-slice-read-cubic-value-8 c = search needs
-
-shared-slice-read-cubic-value-9 : tie.Need-shared-slice-read-cubic-value-9
-shared-slice-read-cubic-value-9 c = search needs
-
-cubic-value-requires-3 : tie.Need-cubic-value-requires-3
-cubic-value-requires-3 c κs = search needs
-
-returns-3 : tie.Need-returns-3
-returns-3 c =
-    let t = c .before .before .before .before in
-    let a = t .before .before .before .before .args in
-    c .cubic-value3 .ensures ∙ value-three modulus (a .f .now) (a .x) (t .if3 .taken)
-
-by-steps-requires : tie.Need-by-steps-requires
-by-steps-requires c κs = search needs
-
-returns-4 : tie.Need-returns-4
-returns-4 c = search needs
+    let s = c .before .before .before .before .before .before in
+    let p = primeOf (s .args .w) in
+    let f = s .args .f .now in
+    let read : (a b d e : ℕ) → a ≡ getD f 0 0 → b ≡ getD f 1 0 → d ≡ getD f 2 0 → e ≡ getD f 3 0
+    → cubicValue p a b d e (s .args .x) ≡ cubicValue p (getD f 0 0) (getD f 1 0) (getD f 2 0) (getD f 3 0) (s .args .x) =
+    λ a b d e i j k l. rw (i, j, k, l) in (
+      c .cubic-value .ensures .0
+          ∙ read _ _ _ _ (c .before .before .before .before .coefficient .ensures) (c .before .before .before .coefficient2 .ensures)
+          (c .before .before .coefficient3 .ensures) (c .before .coefficient4 .ensures)
+          ∙ value-few p f (s .args .x) (s .pre .2),
+      c .cubic-value .ensures .1,
+    )
 
 pub value-spec : {M : Type 1} → statement M
 value-spec =
     tie.close
     (tie.spec
-    shared-slice-read-cubic-value
-    shared-slice-read-cubic-value-2
-    shared-slice-read-cubic-value-3
-    shared-slice-read-cubic-value-4
+    coefficient-requires
+    coefficient-requires-2
+    coefficient-requires-3
+    coefficient-requires-4
     cubic-value-requires
-    returns
-    shared-slice-read-cubic-value-5
-    shared-slice-read-cubic-value-6
-    cubic-value-requires-2
-    returns-2
-    shared-slice-read-cubic-value-7
-    shared-slice-read-cubic-value-8
-    shared-slice-read-cubic-value-9
-    cubic-value-requires-3
-    returns-3
-    by-steps-requires
-    returns-4)
+    returns)

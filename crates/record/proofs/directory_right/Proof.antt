@@ -5,22 +5,22 @@ use native.Mathlib.Omega.{arith}
 use lib.ListN.{length, getD}
 use Rattle.record.specs.Record.{sectionStart, directory}
 use Rattle.record.proofs.Answers.{directory-no, directory-by}
-use Rattle.record.proofs.Sections.{sections-small, directory-legal, directory-end, record-head, length-directory}
+use Rattle.record.proofs.Sections.{record-small, directory-legal, directory-end, record-head, length-directory}
 use borrow.Author.Needs.{needs}
 use Rattle.record.proofs.directory_right.Statement.{statement}
 use Rattle.record.proofs.directory_right.Tie as tie
 
 -- The directory is that of legal sizes.
-whole : (c : tie.After-directory) → c .directory .result ≡ directory (c .before .before .args .n) (c .before .before .args .t)
-whole c = c .directory .ensures ∙ directory-legal _ _ (c .before .before .pre)
+whole : (c : tie.After-directory) → let a = c .before .before .args in c .directory .result ≡ directory (a .w) (a .n) (a .t)
+whole c = c .directory .ensures ∙ directory-legal _ _ _ (c .before .before .pre)
 
 -- Where the last section ends.
 ends : (c : tie.After-directory) → let a = c .before .before .args in
-    getD (c .directory .result) 6 0 + getD (c .directory .result) 7 0 ≡ sectionStart (a .n) (a .t) 4
-ends c = directory-end _ _ _ (whole c)
+    getD (c .directory .result) 6 0 + getD (c .directory .result) 7 0 ≡ sectionStart (a .w) (a .n) (a .t) 4
+ends c = directory-end _ _ _ _ (whole c)
 
-small : (c : tie.After-directory) → sectionStart (c .before .before .args .n) (c .before .before .args .t) 4 ≤ 2000
-small c = omega (arith, sections-small _ _ (c .before .before .pre))
+small : (c : tie.After-directory) → let a = c .before .before .args in sectionStart (a .w) (a .n) (a .t) 4 ≤ 2674
+small c = record-small _ _ (c .before .before .pre) (c .before .before .args .w)
 
 directory-requires : tie.Need-directory-requires
 directory-requires c κs = search needs
@@ -41,7 +41,7 @@ add-end : tie.Need-add-end
 add-end c = omega (arith, ends c, small c)
 
 returns : tie.Need-returns
-returns c = directory-no _ _ _ (λ e. c .if1 .taken (e ∙ sym (ends (c .before))))
+returns c = directory-no _ _ _ _ (λ e. c .if1 .taken (e ∙ sym (ends (c .before))))
 
 slice-aggregate-stand-at : tie.Need-slice-aggregate-stand-at
 slice-aggregate-stand-at c = search needs
@@ -50,12 +50,12 @@ stand-at-requires : tie.Need-stand-at-requires
 stand-at-requires c κs =
     let d = c .before .before in
     let a = d .before .before .args in
-    omega (arith, ends d, record-head (a .n) (a .t), ap length (whole d), length-directory (a .n) (a .t))
+    omega (arith, ends d, record-head (a .w) (a .n) (a .t), ap length (whole d), length-directory (a .w) (a .n) (a .t))
 
 returns-2 : tie.Need-returns-2
 returns-2 c =
     let d = c .before .before .before in
-    c .stand-at .ensures ∙ directory-by _ _ _ _ (whole d) (c .before .before .if1 .left ∙ ends d)
+    c .stand-at .ensures ∙ directory-by _ _ _ _ _ (whole d) (c .before .before .if1 .left ∙ ends d)
 
 pub directory-right-spec : {M : Type 1} → statement M
 directory-right-spec =

@@ -2,6 +2,7 @@
 use mathlib.Core.Path.{sym, _∙_}
 use native.Mathlib.Omega.{arith}
 use lib.ListN.{List·getD-eq-default}
+use Rattle.field.specs.declared.Width.the-variants.{Narrow}
 use Rattle.record.specs.Bytes.{numbers}
 use Rattle.record.proofs.Bytes.{length-numbers, number-place}
 use borrow.Author.Needs.{needs}
@@ -9,7 +10,9 @@ use Rattle.record.proofs.number.Statement.{statement}
 use Rattle.record.proofs.number.Tie as tie
 
 returns : tie.Need-returns
-returns c = sym (List·getD-eq-default (numbers _) 0 (omega (arith, length-numbers (c .before .before .args .part .now), c .if1 .taken)))
+returns c =
+    let long = length-numbers Narrow (c .before .before .args .part .now) in
+    sym (List·getD-eq-default (numbers _) 0 (omega (arith, long, c .if1 .taken)))
 
 mul-number-at : tie.Need-mul-number-at
 mul-number-at c = search needs

@@ -4,6 +4,7 @@ use mathlib.Core.Path.{sym, _∙_}
 use Prim.Native.Nat.{_-_}
 use native.Mathlib.Omega.{arith}
 use lib.ListN.{length, length-set}
+use Rattle.field.specs.declared.Width.the-variants.{Narrow}
 use Rattle.record.specs.Bytes.{numbers}
 use Rattle.record.proofs.Bytes.{length-numbers, number-place}
 use Rattle.record.proofs.Loops.{Overing, over-start, over-next, over-end, over-stop}
@@ -25,7 +26,8 @@ same-length c = search needs
 returns : tie.Need-returns Inv-loop μ-loop
 returns c =
     let k = c .before .before in
-    over-end _ _ (k .loop .out) (k .loop .i) (k .loop .inv) (omega (arith, length-numbers (k .before .before .before .args .part .now)))
+    let long = length-numbers Narrow (k .before .before .before .args .part .now) in
+    over-end _ _ (k .loop .out) (k .loop .i) (k .loop .inv) (omega (arith, long))
 
 mul-number-at : tie.Need-mul-number-at Inv-loop μ-loop
 mul-number-at c = search needs
@@ -48,7 +50,7 @@ loop-less c = simp length-set (omega arith)
 loop-again : tie.Need-loop-again Inv-loop μ-loop
 loop-again c =
     let k = c .before .before .before in
-    let long = length-numbers (k .before .before .before .args .part .now) in
+    let long = length-numbers Narrow (k .before .before .before .args .part .now) in
     over-next _ _ (k .loop .out) (k .loop .i) (k .loop .inv) _ (omega (arith, long)) (omega arith)
     (c .number-at .ensures ∙ sym (number-place _ _ (omega arith)))
 

@@ -2,7 +2,6 @@
 use mathlib.Core.Path.{refl, sym, _∙_}
 use native.Mathlib.Omega.{arith}
 use lib.Seq.{length-take-le}
-use Rattle.field.specs.Modulus.{modulus}
 use Rattle.tables.proofs.Tables.{table-points}
 use Rattle.recovery.proofs.Fitting.{fit-lent}
 use borrow.Author.Needs.{needs}
@@ -16,14 +15,14 @@ slice-aggregate-fit : tie.Need-slice-aggregate-fit
 slice-aggregate-fit c = let s = c .before .before in sym (s .pre .4 .size)
 
 fit-requires : tie.Need-fit-requires
-fit-requires c κs = let s = c .before .before in table-points modulus _ _ (s .pre .4)
+fit-requires c κs = let s = c .before .before in table-points _ _ _ (s .pre .4)
 
 returns : tie.Need-returns
 returns c =
     let s = c .before .before .before in
     let a = s .args in
     c .fit .ensures
-    ∙ fit-lent (a .n) (a .t) (a .need) _ _ (a .values .now) (s .pre .0) (s .pre .1) (s .pre .2) (s .pre .3)
+    ∙ fit-lent _ (a .n) (a .t) (a .need) _ _ (a .values .now) (s .pre .0) (s .pre .1) (s .pre .2) (s .pre .3)
     (s .pre .4 .size) refl
 
 pub fit-parties-spec : {M : Type 1} → statement M

@@ -1,6 +1,6 @@
 -- `recovery::heard_from` meets its contract: the first k numbers are written, and zeros stand behind them.
 use borrow.Author.Needs.{needs}
-use mathlib.Core.Path.{_≡_, _∙_}
+use mathlib.Core.Path.{_≡_, ap, _∙_}
 use Prim.Native.Nat.{ℕ, _+_, _-_, _≤_}
 use mathlib.Core.Logic.{⊎-elim}
 use native.Mathlib.Omega.{arith}
@@ -9,20 +9,21 @@ use Rattle.lists.specs.Masks.{bit}
 use Rattle.lists.specs.Tabulate.{tabulate, filled}
 use Rattle.lists.proofs.Padded.{fill-start, fill-next, fill-front}
 use Rattle.lists.specs.Choices.{hide}
-use Rattle.field.specs.Modulus.{modulus}
-use Rattle.parties.specs.Parties.{notSent}
 use Rattle.recovery.proofs.Arrays.{heardAt, length-heard, getD-heard, heard-member, heard-other}
 use Rattle.recovery.proofs.heard_from.Statement.{statement}
 use Rattle.recovery.proofs.heard_from.Tie as tie
 
 abbrev Inv-loop : tie.InvT-loop
-Inv-loop n set heard list₀ k₀ list k = (k ≤ n) × (list ≡ filled (heardAt (notSent modulus) set heard) 0 16 k)
+Inv-loop n set heard list₀ unsent k₀ list k = (k ≤ n) × (list ≡ filled (heardAt unsent set heard) 0 16 k)
 
 abbrev μ-loop : tie.MeasureT-loop
-μ-loop n set heard list₀ k₀ list k = n - k
+μ-loop n set heard list₀ unsent k₀ list k = n - k
+
+not-sent-requires : tie.Need-not-sent-requires Inv-loop μ-loop
+not-sent-requires c κs = search needs
 
 loop-holds : tie.Need-loop-holds Inv-loop μ-loop
-loop-holds c = let a = c .args in (search needs, fill-start (heardAt (notSent modulus) (a .set) (a .t3)) 16)
+loop-holds c = let a = c .before .args in (search needs, fill-start (heardAt (c .not-sent .result) (a .set) (a .t4)) 16)
 
 cast-place : tie.Need-cast-place Inv-loop μ-loop
 cast-place c = search needs
@@ -58,29 +59,33 @@ loop-less : tie.Need-loop-less Inv-loop μ-loop
 loop-less c = search needs
 
 loop-again : tie.Need-loop-again Inv-loop μ-loop
-unfolding notSent
 loop-again c =
     let k = c .before .before .loop in
-    let a = c .before .before .before .args in
-    let told : ℕ → ℕ = heardAt (notSent modulus) (a .set) (a .t3) in
+    let v = c .before .before .before in
+    let a = v .before .args in
+    let mark = v .not-sent .result in
+    let told : ℕ → ℕ = heardAt mark (a .set) (a .t4) in
     let turn : (v : ℕ) → v ≡ told (k .k) → set (k .list) (k .k) v ≡ filled told 0 16 (k .k + 1) =
     λ v e. fill-next told 16 (k .list) (k .k) v (k .inv .1) (omega arith) e in (
       search needs,
       ⊎-elim
-          (λ w. w .1 ∙ turn _ (heard-member (notSent modulus) (a .set) (a .t3) (k .k) (w .0 .taken)))
-          (λ w. w .1 ∙ turn _ (heard-other (notSent modulus) (a .set) (a .t3) (k .k) (w .0 .left)))
+          (λ w. w .1 ∙ turn _ (heard-member mark (a .set) (a .t4) (k .k) (w .0 .taken)))
+          (λ w. w .1 ∙ turn _ (heard-other mark (a .set) (a .t4) (k .k) (w .0 .left)))
           (c .if1 .came),
     )
 
 returns : tie.Need-returns Inv-loop μ-loop
 returns c =
-    let a = c .before .before .args in
+    let v = c .before .before in
+    let a = v .before .args in
     let k = c .before .loop in
-    let inside : a .n ≤ length (a .t3) = omega arith in
-    let told : ℕ → ℕ = heardAt (notSent modulus) (a .set) (a .t3) in
-    fill-front told 16 (k .list) (k .k) (a .n) (hide (notSent modulus) (tabulate (bit (a .set)) (a .n)) (take (a .n) (a .t3))) (k .inv .1)
+    let mark = v .not-sent .result in
+    let inside : a .n ≤ length (a .t4) = omega arith in
+    let told : ℕ → ℕ = heardAt mark (a .set) (a .t4) in
+    fill-front told 16 (k .list) (k .k) (a .n) (hide mark (tabulate (bit (a .set)) (a .n)) (take (a .n) (a .t4))) (k .inv .1)
     (omega arith)
-    (length-heard (notSent modulus) (a .set) (a .n) (a .t3) inside) (getD-heard (notSent modulus) (a .set) (a .n) (a .t3) inside)
+    (length-heard mark (a .set) (a .n) (a .t4) inside) (getD-heard mark (a .set) (a .n) (a .t4) inside)
+    ∙ ap (λ m. hide m (tabulate (bit (a .set)) (a .n)) (take (a .n) (a .t4))) (v .not-sent .ensures)
 
 pub heard-from-spec : {M : Type 1} → statement M
 heard-from-spec =
@@ -88,6 +93,7 @@ heard-from-spec =
     (tie.spec
     Inv-loop
     μ-loop
+    not-sent-requires
     loop-holds
     cast-place
     cast-if1

@@ -6,7 +6,7 @@ use native.Mathlib.Omega.{arith}
 use borrow.Author.Tests.{not-true, not-false}
 use lib.ListN.{take, set}
 use lib.Seq.{length-take-le}
-use Rattle.field.specs.Modulus.{modulus}
+use Rattle.field.specs.Modulus.{primeOf}
 use Rattle.answers.specs.Fits.{decoded}
 use Rattle.parties.specs.Parties.{sizes, isParty}
 use Rattle.parties.proofs.Parties.{sizes-facts, party-facts}
@@ -41,7 +41,7 @@ refused-fit-requires c κs = search needs
 returns : tie.Need-returns
 returns c =
     let s = c .before .before in
-    c .refused-fit .ensures ∙ opening-size _ _ _ _ _ _ (sym (s .sizes .ensures) ∙ not-true (s .sizes .result) (c .before .if1 .taken))
+    c .refused-fit .ensures ∙ opening-size _ _ _ _ _ _ _ (sym (s .sizes .ensures) ∙ not-true (s .sizes .result) (c .before .if1 .taken))
 
 is-party-requires : tie.Need-is-party-requires
 is-party-requires c κs = search needs
@@ -53,7 +53,7 @@ returns-2 : tie.Need-returns-2
 returns-2 c =
     let p = c .before .before in
     c .refused-fit2 .ensures
-    ∙ opening-number _ _ _ _ _ _ (sized (p .before)) (sym (p .is-party .ensures) ∙ not-true (p .is-party .result) (c .before .if2 .taken))
+    ∙ opening-number _ _ _ _ _ _ _ (sized (p .before)) (sym (p .is-party .ensures) ∙ not-true (p .is-party .result) (c .before .if2 .taken))
 
 refused-fit-requires-3 : tie.Need-refused-fit-requires-3
 refused-fit-requires-3 c κs = search needs
@@ -61,7 +61,7 @@ refused-fit-requires-3 c κs = search needs
 returns-3 : tie.Need-returns-3
 returns-3 c =
     let e = c .before .before in
-    c .refused-fit3 .ensures ∙ opening-length _ _ _ _ _ _ (sized (second e)) (numbered e) (c .before .if3 .taken)
+    c .refused-fit3 .ensures ∙ opening-length _ _ _ _ _ _ _ (sized (second e)) (numbered e) (c .before .if3 .taken)
 
 with-own-requires : tie.Need-with-own-requires
 with-own-requires c κs =
@@ -95,8 +95,9 @@ returns-4 c =
     let a = start (second e) .args in
     let own = ap (λ k. take k (w .with-own .result)) (sym (w .before .if3 .left)) ∙ w .with-own .ensures in
     c .fit-parties .ensures
-    ∙ ap (λ values. decoded (openingOf modulus (a .n) (a .t) (take (a .n) (a .table)) values)) own
-    ∙ sym (opening-admitted (a .n) (a .t) (take (a .n) (a .table)) (a .i) (a .share) (a .shares .now) (sized (second e)) (numbered e)
+    ∙ ap (λ values. decoded (openingOf (primeOf (a .w)) (a .n) (a .t) (take (a .n) (a .table)) values)) own
+    ∙ sym (opening-admitted (primeOf (a .w)) (a .n) (a .t) (take (a .n) (a .table)) (a .i) (a .share) (a .shares .now) (sized (second e))
+    (numbered e)
     (w .before .if3 .left))
 
 pub opening-spec : {M : Type 1} → statement M

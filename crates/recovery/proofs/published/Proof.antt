@@ -30,13 +30,13 @@ refused-fit-requires c κs = search needs
 returns : tie.Need-returns
 returns c =
     let s = c .before .before in
-    c .refused-fit .ensures ∙ published-size _ _ _ _ (sym (s .sizes .ensures) ∙ not-true (s .sizes .result) (c .before .if1 .taken))
+    c .refused-fit .ensures ∙ published-size _ _ _ _ _ (sym (s .sizes .ensures) ∙ not-true (s .sizes .result) (c .before .if1 .taken))
 
 refused-fit-requires-2 : tie.Need-refused-fit-requires-2
 refused-fit-requires-2 c κs = search needs
 
 returns-2 : tie.Need-returns-2
-returns-2 c = c .refused-fit2 .ensures ∙ published-length _ _ _ _ (sized (c .before .before)) (c .before .if2 .taken)
+returns-2 c = c .refused-fit2 .ensures ∙ published-length _ _ _ _ _ (sized (c .before .before)) (c .before .if2 .taken)
 
 sub-fit-parties : tie.Need-sub-fit-parties
 sub-fit-parties c = omega (arith, small (c .before))
@@ -50,7 +50,7 @@ fit-parties-requires c κs = let f = small (c .before) in (f .0, f .1, omega ari
 returns-3 : tie.Need-returns-3
 returns-3 c =
     let e = c .before in
-    c .fit-parties .ensures ∙ sym (published-admitted _ _ _ _ (sized (e .before)) (e .if2 .left))
+    c .fit-parties .ensures ∙ sym (published-admitted _ _ _ _ _ (sized (e .before)) (e .if2 .left))
 
 pub published-spec : {M : Type 1} → statement M
 published-spec =

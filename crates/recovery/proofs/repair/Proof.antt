@@ -7,7 +7,8 @@ use borrow.Author.Tests.{ltb-true, not-true, not-false}
 use lib.Dec.{ltb}
 use lib.ListN.{take}
 use lib.Seq.{length-take-le}
-use Rattle.field.specs.Modulus.{modulus}
+use Rattle.field.specs.Modulus.{primeOf}
+use Rattle.field.proofs.Primes.{positive}
 use Rattle.answers.specs.Fits.{decoded}
 use Rattle.fit.specs.Fit.{fit}
 use Rattle.parties.specs.Parties.{sizes}
@@ -46,7 +47,7 @@ refused-fit-requires c κs = search needs
 returns : tie.Need-returns
 returns c =
     let s = c .before .before in
-    c .refused-fit .ensures ∙ repair-size _ _ _ _ _ (sym (s .sizes .ensures) ∙ not-true (s .sizes .result) (c .before .if1 .taken))
+    c .refused-fit .ensures ∙ repair-size _ _ _ _ _ _ (sym (s .sizes .ensures) ∙ not-true (s .sizes .result) (c .before .if1 .taken))
 
 within-requires : tie.Need-within-requires
 within-requires c κs = small c .0
@@ -58,7 +59,7 @@ returns-2 : tie.Need-returns-2
 returns-2 c =
     let w = c .before .before in
     c .refused-fit2 .ensures
-    ∙ repair-number _ _ _ _ _ (sized (w .before)) (sym (w .within .ensures) ∙ not-true (w .within .result) (c .before .if2 .taken))
+    ∙ repair-number _ _ _ _ _ _ (sized (w .before)) (sym (w .within .ensures) ∙ not-true (w .within .result) (c .before .if2 .taken))
 
 count-requires : tie.Need-count-requires
 count-requires c κs = search needs
@@ -81,7 +82,7 @@ returns-3 c =
     let e = counted .before in
     let few : counted .count .result < 3 * start (second e) .args .t + 1 = c .before .if3 .taken in
     c .refused-fit3 .ensures
-    ∙ repair-few _ _ _ _ _ (sized (second e)) (inside e) (omega (arith, counted .count .ensures))
+    ∙ repair-few _ _ _ _ _ _ (sized (second e)) (inside e) (omega (arith, counted .count .ensures))
 
 heard-from-requires : tie.Need-heard-from-requires
 heard-from-requires c κs = small (second (third c)) .0
@@ -107,11 +108,12 @@ returns-4 c =
     let counted = h .before .before in
     let a = start (second e) .args in
     c .fit-parties .ensures
-    ∙ ap₂ (λ m ys. decoded (fit modulus (a .t) m (take (a .n) (a .table)) ys))
+    ∙ ap₂ (λ m ys. decoded (fit (primeOf (a .w)) (a .t) m (take (a .n) (a .table)) ys))
     (ap (λ k. k - a .t) (counted .count .ensures)) (h .heard-from .ensures)
-    ∙ ap decoded (repair-hidden (a .n) (a .t) (take (a .n) (a .table)) (a .set) (a .heard))
+    ∙ ap decoded (repair-hidden (primeOf (a .w)) (a .n) (a .t) (take (a .n) (a .table)) (a .set) (a .heard) (positive (a .w)))
     ∙ sym
-    (repair-admitted (a .n) (a .t) (take (a .n) (a .table)) (a .set) (a .heard) (sized (second e)) (ltb-true (a .set) (2 ^ a .n) (inside e))
+    (repair-admitted (primeOf (a .w)) (a .n) (a .t) (take (a .n) (a .table)) (a .set) (a .heard) (sized (second e))
+    (ltb-true (a .set) (2 ^ a .n) (inside e))
     (omega (arith, counted .count .ensures, h .before .if3 .left)))
 
 pub repair-spec : {M : Type 1} → statement M

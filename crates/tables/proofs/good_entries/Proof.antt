@@ -1,5 +1,5 @@
 -- `tables::good_entries` meets its contract. The loop goes from the end: the numbers from i on are distinct residues, and `low` is the
--- lowest of them, or the modulus where there are none.
+-- lowest of them, or p where there are none.
 use borrow.Author.Needs.{needs}
 use native.Mathlib.Omega.{arith}
 use mathlib.Core.Path.{_≡_, refl, sym, ap, ap₂, subst, _∙_}
@@ -13,23 +13,23 @@ use borrow.Author.Tests.{lt-ltb, le-ltb, eq-eqb, ne-eqb, not-true, not-false}
 use Rattle.lists.specs.All.{All}
 use Rattle.lists.proofs.InPlace.{lent-rest, drop-back}
 use Rattle.lists.proofs.FromEnd.{Passed, passed-start, passed-next, passed-not, passed-end}
-use Rattle.field.specs.Modulus.{modulus}
 use Rattle.tables.specs.Tables.{absent, distinctResidues, isTable}
 use Rattle.tables.proofs.good_entries.Statement.{statement}
 use Rattle.tables.proofs.good_entries.Tie as tie
 
 -- What is asked of one number, before the rest.
-abbrev fine : ℕ → List ℕ → Bool
-fine a rest = ltb a modulus && absent a rest
+abbrev fine : ℕ → ℕ → List ℕ → Bool
+fine p a rest = ltb a p && absent a rest
 
-large : (a : ℕ) (rest : List ℕ) → modulus ≤ a → fine a rest ≡ false
-large a rest h = ap (λ b. b && absent a rest) (le-ltb a modulus h)
+module _ (p a : ℕ) (rest : List ℕ) where
+  large : p ≤ a → fine p a rest ≡ false
+  large h = ap (λ b. b && absent a rest) (le-ltb a p h)
 
-twice : (a : ℕ) (rest : List ℕ) → absent a rest ≡ false → fine a rest ≡ false
-twice a rest e = ap (λ b. ltb a modulus && b) e ∙ and-false (ltb a modulus)
+  twice : absent a rest ≡ false → fine p a rest ≡ false
+  twice e = ap (λ b. ltb a p && b) e ∙ and-false (ltb a p)
 
-fresh : (a : ℕ) (rest : List ℕ) → a < modulus → absent a rest ≡ true → fine a rest ≡ true
-fresh a rest h e = ap₂ _&&_ (lt-ltb a modulus h) e
+  fresh : a < p → absent a rest ≡ true → fine p a rest ≡ true
+  fresh h e = ap₂ _&&_ (lt-ltb a p h) e
 
 -- Every number is at least low.
 abbrev Above : ℕ → List ℕ → Type 0
@@ -50,16 +50,16 @@ later-absent : (x a : ℕ) (xs : List ℕ) → absent x xs ≡ false → absent 
 later-absent x a xs e = ap (λ b. not (eqb a x) && b) e ∙ and-false (not (eqb a x))
 
 -- What is left to be said of a list: no number stands twice, or is no residue, and the lowest is not 0.
-module _ (xs : List ℕ) where
-  no-table : false ≡ distinctResidues modulus xs → false ≡ isTable modulus (length xs) xs
+module _ (p : ℕ) (xs : List ℕ) where
+  no-table : false ≡ distinctResidues p xs → false ≡ isTable p (length xs) xs
   unfolding isTable
   no-table e = rw (eq-eqb (length xs) (length xs) refl, sym e)
 
-  a-table : (low : ℕ) → true ≡ distinctResidues modulus xs → Above low xs → (low < modulus → absent low xs ≡ false)
-      → ltb 0 low ≡ isTable modulus (length xs) xs
+  a-table : (low : ℕ) → 0 < p → true ≡ distinctResidues p xs → Above low xs → (low < p → absent low xs ≡ false)
+      → ltb 0 low ≡ isTable p (length xs) xs
   unfolding isTable
-  a-table zero e above there = rw (eq-eqb (length xs) (length xs) refl, sym e, there (omega arith))
-  a-table (suc low) e above there =
+  a-table zero q e above there = rw (eq-eqb (length xs) (length xs) refl, sym e, there (omega arith))
+  a-table (suc low) q e above there =
       rw (lt-ltb 0 (suc low) (omega arith), eq-eqb (length xs) (length xs) refl, sym e, below-absent 0 (suc low) xs (omega arith) above)
 
 -- With the number before place i.
@@ -67,32 +67,36 @@ above-back : (low i : ℕ) (xs : List ℕ) → 0 < i → i ≤ length xs → low
     → Above low (drop (i - 1) xs)
 above-back low i xs h l e k = subst (Above low) (sym (drop-back xs i 0 h l)) (e, k)
 
-record Rising (xs : List ℕ) (low i : ℕ) : Type 0 where
-  passed : Passed (distinctResidues modulus) xs i
-  residue : low ≤ modulus
+record Rising (p : ℕ) (xs : List ℕ) (low i : ℕ) : Type 0 where
+  passed : Passed (distinctResidues p) xs i
+  residue : low ≤ p
   above : Above low (drop i xs)
-  there : low < modulus → absent low (drop i xs) ≡ false
+  there : low < p → absent low (drop i xs) ≡ false
 
 abbrev Inv-loop : tie.InvT-loop
-Inv-loop list low₀ i₀ low i = Rising list low i
+Inv-loop p list low₀ i₀ low i = Rising p list low i
 
 abbrev μ-loop : tie.MeasureT-loop
-μ-loop list low₀ i₀ low i = i
+μ-loop p list low₀ i₀ low i = i
 
--- The places that the proof names: the turn of the loop in which a number is looked for, and the list.
+-- The places that the proof names: the turn of the loop in which a number is looked for, the list, and the bound.
 abbrev turn : tie.After-absent Inv-loop μ-loop → tie.At-loop Inv-loop μ-loop
 turn looked = looked .before .before .before .before .before .before
 
 abbrev listOf : tie.At-loop Inv-loop μ-loop → List ℕ
 listOf k = k .before .before .args .table .now
 
+abbrev boundOf : tie.At-loop Inv-loop μ-loop → ℕ
+boundOf k = k .before .before .args .p
+
 loop-holds : tie.Need-loop-holds Inv-loop μ-loop
 loop-holds c =
     let xs = c .before .args .table .now in
+    let p = c .before .args .p in
     record {
-      passed = passed-start fine (distinctResidues modulus) refl (λ a xs. refl) xs;
+      passed = passed-start (fine p) (distinctResidues p) refl (λ a xs. refl) xs;
       residue = omega arith;
-      above = subst (Above modulus) (sym (drop-length xs)) tt;
+      above = subst (Above p) (sym (drop-length xs)) tt;
       there = λ h. absurd (omega arith);
     }
 
@@ -112,26 +116,28 @@ loop-again : tie.Need-loop-again Inv-loop μ-loop
 loop-again c =
     let k = c .before .before .before .loop in
     let xs = listOf (c .before .before .before) in
-    let p = k .inv .passed in
+    let p = boundOf (c .before .before .before) in
+    let passed = k .inv .passed in
     let x : ℕ = getD xs (k .i - 1) 0 in
     let lower : x < k .low = c .if1 .taken in
     record {
       passed =
-          passed-next fine (distinctResidues modulus) refl (λ a xs. refl) xs (k .i) (omega arith) (p .within) (p .rest)
-          (fresh x (drop (k .i) xs) (omega (arith, k .inv .residue)) (below-absent x (k .low) (drop (k .i) xs) lower (k .inv .above)));
+          passed-next (fine p) (distinctResidues p) refl (λ a xs. refl) xs (k .i) (omega arith) (passed .within) (passed .rest)
+          (fresh p x (drop (k .i) xs) (omega (arith, k .inv .residue)) (below-absent x (k .low) (drop (k .i) xs) lower (k .inv .above)));
       residue = omega (arith, k .inv .residue);
       above =
-          above-back x (k .i) xs (omega arith) (p .within) (omega arith)
+          above-back x (k .i) xs (omega arith) (passed .within) (omega arith)
           (lowered x (k .low) (drop (k .i) xs) (omega arith) (k .inv .above));
-      there = λ h. ap (absent x) (drop-back xs (k .i) 0 (omega arith) (p .within)) ∙ not-absent x (drop (k .i) xs);
+      there = λ h. ap (absent x) (drop-back xs (k .i) 0 (omega arith) (passed .within)) ∙ not-absent x (drop (k .i) xs);
     }
 
 returns : tie.Need-returns Inv-loop μ-loop
 returns c =
     let k = c .before .before .before .before .loop in
     let xs = listOf (c .before .before .before .before) in
-    no-table xs (passed-not fine (distinctResidues modulus) refl (λ a xs. refl) xs (k .i) (omega arith) (k .inv .passed .within)
-    (large _ (drop (k .i) xs) (c .if2 .taken)))
+    let p = boundOf (c .before .before .before .before) in
+    no-table p xs (passed-not (fine p) (distinctResidues p) refl (λ a xs. refl) xs (k .i) (omega arith) (k .inv .passed .within)
+    (large p _ (drop (k .i) xs) (c .if2 .taken)))
 
 mul-absent : tie.Need-mul-absent Inv-loop μ-loop
 mul-absent c = search needs
@@ -153,8 +159,9 @@ returns-2 c =
     let looked = c .before in
     let k = turn looked .loop in
     let xs = listOf (turn looked) in
-    no-table xs (passed-not fine (distinctResidues modulus) refl (λ a xs. refl) xs (k .i) (omega arith) (k .inv .passed .within)
-    (twice _ (drop (k .i) xs)
+    let p = boundOf (turn looked) in
+    no-table p xs (passed-not (fine p) (distinctResidues p) refl (λ a xs. refl) xs (k .i) (omega arith) (k .inv .passed .within)
+    (twice p _ (drop (k .i) xs)
     (ap (absent _) (sym (lent-rest (k .i) xs)) ∙ sym (looked .absent .ensures) ∙ not-true (looked .absent .result) (c .if3 .taken))))
 
 loop-less-2 : tie.Need-loop-less-2 Inv-loop μ-loop
@@ -165,16 +172,17 @@ loop-again-2 c =
     let looked = c .before in
     let k = turn looked .loop in
     let xs = listOf (turn looked) in
-    let p = k .inv .passed in
+    let p = boundOf (turn looked) in
+    let passed = k .inv .passed in
     record {
       passed =
-          passed-next fine (distinctResidues modulus) refl (λ a xs. refl) xs (k .i) (omega arith) (p .within) (p .rest)
-          (fresh _ (drop (k .i) xs) (c .before .before .before .if2 .left)
+          passed-next (fine p) (distinctResidues p) refl (λ a xs. refl) xs (k .i) (omega arith) (passed .within) (passed .rest)
+          (fresh p _ (drop (k .i) xs) (c .before .before .before .if2 .left)
           (ap (absent _) (sym (lent-rest (k .i) xs)) ∙ sym (looked .absent .ensures) ∙ not-false (looked .absent .result) (c .if3 .left)));
       residue = k .inv .residue;
-      above = above-back (k .low) (k .i) xs (omega arith) (p .within) (c .before .before .before .before .if1 .left) (k .inv .above);
+      above = above-back (k .low) (k .i) xs (omega arith) (passed .within) (c .before .before .before .before .if1 .left) (k .inv .above);
       there = λ h.
-          ap (absent (k .low)) (drop-back xs (k .i) 0 (omega arith) (p .within))
+          ap (absent (k .low)) (drop-back xs (k .i) 0 (omega arith) (passed .within))
           ∙ later-absent (k .low) (getD xs (k .i - 1) 0) (drop (k .i) xs) (k .inv .there h);
     }
 
@@ -182,8 +190,10 @@ returns-3 : tie.Need-returns-3 Inv-loop μ-loop
 returns-3 c =
     let k = c .before .loop in
     let xs = listOf (c .before) in
+    let p = boundOf (c .before) in
     let all : k .i ≡ 0 = omega arith in
-    a-table xs (k .low) (passed-end fine (distinctResidues modulus) refl (λ a xs. refl) xs (k .i) all (k .inv .passed))
+    a-table p xs (k .low) (c .before .before .before .pre)
+    (passed-end (fine p) (distinctResidues p) refl (λ a xs. refl) xs (k .i) all (k .inv .passed))
     (subst (λ z. Above (k .low) (drop z xs)) all (k .inv .above))
     (λ h. ap (λ z. absent (k .low) (drop z xs)) (sym all) ∙ k .inv .there h)
 

@@ -12,13 +12,13 @@ returns c = kept-many _ (c .before .before .args .table .now) (c .if1 .taken)
 returns-2 : tie.Need-returns-2
 returns-2 c = kept-not _ (c .before .before .before .args .table .now) (omega arith) (c .if2 .taken)
 
-padded-requires : tie.Need-padded-requires
-padded-requires c κs = search needs
+sixteen-of-requires : tie.Need-sixteen-of-requires
+sixteen-of-requires c κs = search needs
 
 returns-3 : tie.Need-returns-3
 returns-3 c =
     let s = c .before .before .before .before in
-    c .padded .ensures ∙ kept-whole (s .args .n) (s .args .table .now) (omega arith) (c .before .if2 .left)
+    c .sixteen-of .ensures ∙ kept-whole (s .args .n) (s .args .table .now) (omega arith) (c .before .if2 .left)
 
 pub in-array-spec : {M : Type 1} → statement M
-in-array-spec = tie.close (tie.spec returns returns-2 padded-requires returns-3)
+in-array-spec = tie.close (tie.spec returns returns-2 sixteen-of-requires returns-3)

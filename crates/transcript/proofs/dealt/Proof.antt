@@ -1,77 +1,128 @@
--- `transcript::dealt` meets its contract: the lamp as made takes its own part of the deals.
-use mathlib.Core.Path.{sym, ap, ap₂, _∙_}
-use Prim.Native.Nat.{_+_, _*_, _-_, _≤_}
+-- `transcript::dealt` meets its contract: the lamp as made takes its own part of the deals, by the call of the record's width.
+use mathlib.Core.Path.{_≡_, refl, sym, ap, ap₂, _∙_}
+use mathlib.Core.List.{List, [], _∷_}
+use Prim.Native.Nat.{ℕ, _+_, _*_, _-_, _≤_}
 use native.Mathlib.Omega.{arith}
 use lib.ListN.{length}
 use lib.Seq.{length-take-le}
-use Rattle.field.specs.Modulus.{modulus}
-use Rattle.tables.specs.Tables.{oneTo}
+use Rattle.field.specs.declared.Width.{Width}
+use Rattle.field.specs.declared.Width.the-variants.{Narrow, Wide}
+use Rattle.dealer.specs.Desk.{stretch}
+use Rattle.lamp.specs.declared.Lamp.{Lamp}
 use Rattle.lamp.specs.declared.Reply.{Reply}
-use Rattle.lamp.specs.Lamp.{takeDeal, step}
-use Rattle.record.specs.Record.{numbersOf}
-use Rattle.lamp.proofs.Calls.{make-lamp}
-use Rattle.transcript.proofs.Runs.{fine-facts, deals-count, part-room}
+use Rattle.lamp.specs.Lamp.{made, takeDeal, step, after}
+use Rattle.record.specs.Bytes.{numbersBy}
+use Rattle.record.specs.Record.{sectionOf, numbersOf}
+use Rattle.transcript.specs.Transcript.{dealCall}
+use Rattle.transcript.proofs.Runs.{fine-facts, read-as, deals-count, part-fits}
 use borrow.Author.Needs.{needs}
 use Rattle.transcript.proofs.dealt.Statement.{statement}
 use Rattle.transcript.proofs.dealt.Tie as tie
 
--- The lamp's own part lies within the section, and an array holds it.
-room : (s : tie.Start) → let a = s .args in
-    ((a .i - 1) * (2 * (a .t + 1)) + 2 * (a .t + 1) ≤ length (numbersOf (a .bytes .now) 0))
+-- The lamp's own part lies within the section, read with the record's width, and an array holds it.
+room : (s : tie.Start) (v : Width) → s .args .w ≡ v → let a = s .args in
+    ((a .i - 1) * (2 * (a .t + 1)) + 2 * (a .t + 1) ≤ length (numbersBy v (sectionOf (a .bytes .now) 0)))
     × ((a .i - 1) * (2 * (a .t + 1)) ≤ 512) × (2 * (a .t + 1) ≤ 32)
-room s =
+room s v e =
     let a = s .args in
-    let f = fine-facts (a .bytes .now) (a .n) (a .t) (s .pre .0) in
-    let r = part-room (a .n) (a .t + 1) (a .i) (f .3) (omega arith) (s .pre .1) (s .pre .2) in
-    let e = deals-count (a .bytes .now) (a .n) (a .t) (s .pre .0) in
-    (omega arith, omega arith, omega arith)
+    let f = fine-facts (a .bytes .now) (a .w) (a .n) (a .t) (s .pre .0) in
+    part-fits (a .n) (a .t + 1) (a .i) _ _ (f .3) (omega arith) (s .pre .1) (s .pre .2)
+    (deals-count (a .bytes .now) (a .w) (a .n) (a .t) (s .pre .0)) (read-as (a .bytes .now) (a .w) (a .n) (a .t) (s .pre .0) 0 v e)
 
-add-width : tie.Need-add-width
-add-width c = search needs
+-- The lamp that takes it is the one that the definition says.
+taken : (s : tie.Start) (v : Width) → s .args .w ≡ v → let a = s .args in
+    (l : Lamp) (xs : List ℕ) → l ≡ made (a .w) (a .n) (a .t) (a .i)
+    → xs ≡ stretch (a .t + 1) (numbersBy v (sectionOf (a .bytes .now) 0)) (a .i)
+    → step l (takeDeal v xs) .lamp ≡ after (made (a .w) (a .n) (a .t) (a .i)) (dealCall (a .bytes .now) (a .w) (a .t) (a .i) ∷ [])
+taken s v e l xs fresh own =
+    let a = s .args in
+    let all = read-as (a .bytes .now) (a .w) (a .n) (a .t) (s .pre .0) 0 v e in
+    ap₂ (λ l d. step l (takeDeal v d) .lamp) fresh (own ∙ ap (λ ys. stretch (a .t + 1) ys (a .i)) all)
+    ∙ ap (λ u. step (made (a .w) (a .n) (a .t) (a .i)) (takeDeal u (stretch (a .t + 1) (numbersOf (a .bytes .now) 0) (a .i))) .lamp) (sym e)
 
-mul-width : tie.Need-mul-width
-mul-width c = search needs
+add-count : tie.Need-add-count
+add-count c = search needs
 
-sub-part : tie.Need-sub-part
-sub-part c = search needs
+mul-count : tie.Need-mul-count
+mul-count c = search needs
 
-mul-part : tie.Need-mul-part
-mul-part c = omega (arith, room (c .before))
+sub-from : tie.Need-sub-from
+sub-from c = search needs
+
+mul-from : tie.Need-mul-from
+mul-from c = let s = c .before in omega (arith, room s (s .args .w) refl)
+
+made-requires : tie.Need-made-requires
+made-requires c κs = search needs
+
+enum-told : tie.Need-enum-told
+enum-told c = search needs
 
 part-requires : tie.Need-part-requires
-part-requires c κs = room (c .before)
-
-make-requires : tie.Need-make-requires
-make-requires c κs = search needs
+part-requires c κs = room (c .before .before .before .before) Narrow (c .enum-told .given .1)
 
 array-share-prefix-list : tie.Need-array-share-prefix-list
-array-share-prefix-list c = omega (arith, room (c .before .before .before .before))
+array-share-prefix-list c =
+    omega (arith, room (c .before .before .before .before .before) Narrow (c .before .enum-told .given .1))
 
 slice-aggregate-take-deal : tie.Need-slice-aggregate-take-deal
-slice-aggregate-take-deal c = sym (length-take-le _ _ (omega (arith, room (c .before .before .before .before .before))))
+slice-aggregate-take-deal c =
+    let p = c .before in
+    sym (length-take-le _ _ (omega (arith, room (p .before .before .before .before .before) Narrow (p .before .enum-told .given .1))))
 
 take-deal-requires : tie.Need-take-deal-requires
 take-deal-requires c κs = search needs
 
+enum-told-2 : tie.Need-enum-told-2
+enum-told-2 c = search needs
+
+wide-part-requires : tie.Need-wide-part-requires
+wide-part-requires c κs = room (c .before .before .before .before) Wide (c .enum-told2 .given .1)
+
+array-share-prefix-list-2 : tie.Need-array-share-prefix-list-2
+array-share-prefix-list-2 c =
+    omega (arith, room (c .before .before .before .before .before) Wide (c .before .enum-told2 .given .1))
+
+slice-aggregate-take-deal-wide : tie.Need-slice-aggregate-take-deal-wide
+slice-aggregate-take-deal-wide c =
+    let p = c .before in
+    sym (length-take-le _ _ (omega (arith, room (p .before .before .before .before .before) Wide (p .before .enum-told2 .given .1))))
+
+take-deal-wide-requires : tie.Need-take-deal-wide-requires
+take-deal-wide-requires c κs = search needs
+
 returns : tie.Need-returns
 returns c =
-    let m = c .before .before .before .before in
-    let a = m .before .before .before .args in
-    let fresh = ap (λ (r : Reply). r .lamp) (m .make .ensures) ∙ make-lamp modulus (a .n) (a .t) (a .i) (oneTo (a .n)) in
+    let p = c .before .before .before in
+    let m = p .before .before .before in
     ap (λ (r : Reply). r .lamp) (c .before .take-deal .ensures)
-    ∙ ap₂ (λ l d. step modulus l (takeDeal d) .lamp) fresh (m .before .part .ensures)
+    ∙ taken (m .before .before) Narrow (p .before .enum-told .given .1) _ _ (m .made .ensures) (p .part .ensures)
+
+returns-2 : tie.Need-returns-2
+returns-2 c =
+    let p = c .before .before .before in
+    let m = p .before .before .before in
+    ap (λ (r : Reply). r .lamp) (c .before .take-deal-wide .ensures)
+    ∙ taken (m .before .before) Wide (p .before .enum-told2 .given .1) _ _ (m .made .ensures) (p .wide-part .ensures)
 
 pub dealt-spec : {M : Type 1} → statement M
 dealt-spec =
     tie.close
     (tie.spec
-    add-width
-    mul-width
-    sub-part
-    mul-part
+    add-count
+    mul-count
+    sub-from
+    mul-from
+    made-requires
+    enum-told
     part-requires
-    make-requires
     array-share-prefix-list
     slice-aggregate-take-deal
     take-deal-requires
-    returns)
+    enum-told-2
+    wide-part-requires
+    array-share-prefix-list-2
+    slice-aggregate-take-deal-wide
+    take-deal-wide-requires
+    returns
+    returns-2)

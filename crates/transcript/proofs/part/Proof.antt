@@ -3,6 +3,7 @@ use mathlib.Core.Path.{ap, _∙_}
 use Prim.Native.Nat.{_+_, _*_, _-_}
 use native.Mathlib.Omega.{arith}
 use lib.ListN.{length, take, drop, replicate}
+use Rattle.field.specs.declared.Width.the-variants.{Narrow}
 use Rattle.record.specs.Bytes.{numbers, over}
 use Rattle.record.specs.Record.{sectionOf}
 use Rattle.record.proofs.Bytes.{length-numbers}
@@ -32,7 +33,7 @@ part-numbers-start c = search needs
 part-numbers-end : tie.Need-part-numbers-end
 part-numbers-end c =
     let a = c .before .before .args in
-    omega (arith, c .before .before .pre, length-numbers (sectionOf (a .bytes .now) (a .k)), ap length (c .section .ensures))
+    omega (arith, c .before .before .pre, length-numbers Narrow (sectionOf (a .bytes .now) (a .k)), ap length (c .section .ensures))
 
 slice-aggregate-numbers : tie.Need-slice-aggregate-numbers
 slice-aggregate-numbers c = search needs
@@ -48,7 +49,7 @@ returns c =
     ap (take (a .count))
     (c .before .numbers .ensures
     ∙ ap (λ p. over (numbers (take (2 * a .from + 2 * a .count - 2 * a .from) (drop (2 * a .from) p))) (replicate 32 0)) whole)
-    ∙ part-read (sectionOf (a .bytes .now) (a .k)) (replicate 32 0) (a .from) (a .count) (s .pre .0) (omega (arith, s .pre .2))
+    ∙ part-read Narrow (sectionOf (a .bytes .now) (a .k)) (replicate 32 0) (a .from) (a .count) (s .pre .0) (omega (arith, s .pre .2))
 
 pub part-spec : {M : Type 1} → statement M
 part-spec =

@@ -1,11 +1,12 @@
 -- `transcript::put_lamp` meets its contract: the line is put by the number of what the lamp answered.
-use mathlib.Core.Path.{subst}
+use mathlib.Core.Path.{sym, subst}
+use Prim.Native.Nat.{_<_}
 use native.Mathlib.Omega.{arith}
 use Rattle.text.specs.Letters.{Added}
 use Rattle.text.proofs.Letters.{puts-within}
 use Rattle.lines.specs.Lines.{lampWords}
 use Rattle.lines.proofs.Lines.{lamp-short}
-use Rattle.transcript.proofs.Outcomes.{reply-by}
+use Rattle.transcript.proofs.Outcomes.{answer-small, reply-by}
 use borrow.Author.Needs.{needs}
 use Rattle.transcript.proofs.put_lamp.Statement.{statement}
 use Rattle.transcript.proofs.put_lamp.Tie as tie
@@ -26,8 +27,9 @@ returns c =
     let a = k .before .before .before .before .args in
     let number = k .answer-number in
     let share = a .reply .lamp .sharing .share in
-    let short = lamp-short (a .i) (number .result) share (omega arith) in
-    let put = puts-within (lampWords (a .i) (number .result) share) _ _ _ _ 22 (p .ensures) short (omega arith) in
+    let small = subst (λ k. k < 100) (sym (number .ensures)) (answer-small (a .reply .answer)) in
+    let short = lamp-short (a .i) (number .result) share (omega arith) small in
+    let put = puts-within (lampWords (a .i) (number .result) share) _ _ _ _ 25 (p .ensures) short (omega arith) in
     let line = reply-by (a .i) (number .result) (a .reply) (number .ensures) in
     (subst (λ w. Added (a .out .now) (a .at) w (p .last .0) (p .result)) line (put .0), put .1)
 

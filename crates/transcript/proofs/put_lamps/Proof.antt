@@ -14,11 +14,11 @@ use Rattle.transcript.proofs.put_lamps.Statement.{statement}
 use Rattle.transcript.proofs.put_lamps.Tie as tie
 
 abbrev Inv-loop : tie.InvT-loop
-Inv-loop out₀ at bytes reports n t next₀ k₀ out next k =
-    (k ≤ n) × (next ≤ at + 22 * k) × (length out ≡ length out₀) × Added out₀ at (lampLines bytes n t k) out next
+Inv-loop out₀ at bytes reports w n t next₀ k₀ out next k =
+    (k ≤ n) × (next ≤ at + 25 * k) × (length out ≡ length out₀) × Added out₀ at (lampLines bytes w n t k) out next
 
 abbrev μ-loop : tie.MeasureT-loop
-μ-loop out₀ at bytes reports n t next₀ k₀ out next k = n - k
+μ-loop out₀ at bytes reports w n t next₀ k₀ out next k = n - k
 
 loop-holds : tie.Need-loop-holds Inv-loop μ-loop
 unfolding lampLines
@@ -49,12 +49,13 @@ loop-again c =
     let turn = c .before .before .before .before .before .before in
     let l = turn .loop in
     let a = turn .before .before .before .before .args in
-    let bytes = a .bytes .now in (
+    let bytes = a .bytes .now in
+    let more = lamps-more bytes (a .w) (a .n) (a .t) (l .k) in (
       search needs,
       search needs,
       p .kept .0 ∙ l .inv .2,
       subst (λ w. Added (a .out .now) (a .at) w (p .last .0) (p .result))
-          (ap (λ z. lampLines bytes (a .n) (a .t) (l .k) ++ replyLine (l .k + 1) z) (r .ensures) ∙ lamps-more bytes (a .n) (a .t) (l .k))
+          (ap (λ z. lampLines bytes (a .w) (a .n) (a .t) (l .k) ++ replyLine (l .k + 1) z) (r .ensures) ∙ more)
           (then _ _ _ _ _ _ _ _ (l .inv .3) (p .ensures .0)),
     )
 
@@ -66,7 +67,8 @@ returns c =
     let a = c .before .before .before .before .before .args in
     let l = c .before .loop in
     let e : l .k ≡ a .n = omega arith in
-    (subst (λ m. Added (a .out .now) (a .at) (lampLines (a .bytes .now) (a .n) (a .t) m) (l .out) (l .next)) e (l .inv .3), search needs)
+    let bytes = a .bytes .now in
+    (subst (λ m. Added (a .out .now) (a .at) (lampLines bytes (a .w) (a .n) (a .t) m) (l .out) (l .next)) e (l .inv .3), search needs)
 
 pub put-lamps-spec : {M : Type 1} → statement M
 put-lamps-spec =

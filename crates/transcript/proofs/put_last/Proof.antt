@@ -27,8 +27,9 @@ returns c =
     let k = c .before .before .before .refusal-number in
     let b = c .before .before .before .before .before in
     let a = b .before .before .before .args in
-    let put = puts-within (openedWords (k .result) 0) _ _ _ _ 21 (p .ensures) (opened-short (k .result) 0) (omega arith) in
-    let line = last-rejected (a .n) (a .t) (numbersOf (a .bytes .now) 3) (a .accepted) (b .if1 .taken) (k .result) (k .ensures) in
+    let short = opened-short (k .result) 0 (omega (arith, k .ensures)) in
+    let put = puts-within (openedWords (k .result) 0) _ _ _ _ 18 (p .ensures) short (omega arith) in
+    let line = last-rejected (a .w) (a .n) (a .t) (numbersOf (a .bytes .now) 3) (a .accepted) (b .if1 .taken) (k .result) (k .ensures) in
     (subst (λ w. Added (a .out .now) (a .at) w (p .last .0) (p .result)) line (put .0), put .1)
 
 fitted-requires : tie.Need-fitted-requires
@@ -72,9 +73,10 @@ returns-2 c =
     let a = q .before .before .before .before .args in
     let f = q .fitted in
     let v = getD (f .result .coefficients) 0 0 in
-    let put = puts-within (openedWords 0 v) _ _ _ _ 21 (p .ensures) (opened-short 0 v) (omega arith) in
+    let put = puts-within (openedWords 0 v) _ _ _ _ 18 (p .ensures) (opened-short 0 v (omega arith)) (omega arith) in
     let shares = numbersOf (a .bytes .now) 3 in
-    let line = last-found (a .n) (a .t) shares (a .accepted) (q .before .if1 .left) (f .result) (f .ensures) (m .enum-told .given .1) in
+    let yes = q .before .if1 .left in
+    let line = last-found (a .w) (a .n) (a .t) shares (a .accepted) yes (f .result) (f .ensures) (m .enum-told .given .1) in
     (subst (λ w. Added (a .out .now) (a .at) w (p .last .0) (p .result)) line (put .0), put .1)
 
 same-length-3 : tie.Need-same-length-3
@@ -88,11 +90,12 @@ returns-3 c =
     let q = m .before .before in
     let a = q .before .before .before .before .args in
     let f = q .fitted in
-    let put = puts-within (openedWords (k .result) 0) _ _ _ _ 21 (p .ensures) (opened-short (k .result) 0) (omega arith) in
+    let short = opened-short (k .result) 0 (omega (arith, k .ensures)) in
+    let put = puts-within (openedWords (k .result) 0) _ _ _ _ 18 (p .ensures) short (omega arith) in
     let shares = numbersOf (a .bytes .now) 3 in
     let yes = q .before .if1 .left in
     let none = m .enum-told2 .given .1 in
-    let line = last-nothing (a .n) (a .t) shares (a .accepted) yes (f .result) (f .ensures) none (k .result) (k .ensures) in
+    let line = last-nothing (a .w) (a .n) (a .t) shares (a .accepted) yes (f .result) (f .ensures) none (k .result) (k .ensures) in
     (subst (λ w. Added (a .out .now) (a .at) w (p .last .0) (p .result)) line (put .0), put .1)
 
 same-length-4 : tie.Need-same-length-4
@@ -105,7 +108,7 @@ returns-4 c =
     let a = q .before .before .before .before .args in
     let f = q .fitted in
     let shares = numbersOf (a .bytes .now) 3 in
-    last-never (a .n) (a .t) shares (a .accepted) (q .before .if1 .left) (f .result) (f .ensures) _ (m .outcome .given .1)
+    last-never (a .w) (a .n) (a .t) shares (a .accepted) (q .before .if1 .left) (f .result) (f .ensures) _ (m .outcome .given .1)
 
 pub put-last-spec : {M : Type 1} → statement M
 put-last-spec =

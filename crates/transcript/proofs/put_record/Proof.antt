@@ -14,7 +14,7 @@ use Rattle.transcript.proofs.put_record.Tie as tie
 facts : (s : tie.Start) → (s .args .n ≤ 16) × (length (numbersOf (s .args .bytes .now) 2) ≡ s .args .n)
 facts s =
     let a = s .args in
-    (fine-facts (a .bytes .now) (a .n) (a .t) (s .pre .0) .3, reports-count (a .bytes .now) (a .n) (a .t) (s .pre .0))
+    (fine-facts (a .bytes .now) (a .w) (a .n) (a .t) (s .pre .0) .3, reports-count (a .bytes .now) (a .w) (a .n) (a .t) (s .pre .0))
 
 part-requires : tie.Need-part-requires
 part-requires c κs = let f = facts (c .before .before) in (omega arith, omega arith, omega arith)

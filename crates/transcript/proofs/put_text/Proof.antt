@@ -39,7 +39,7 @@ returns c =
     let m = c .before .before .before .before .before in
     let q = m .before .before .read in
     let a = m .before .before .before .before .before .args in
-    let line = text-fine (q .result) (a .bytes .now) (q .ensures) _ _ (m .answer .given .1) in
+    let line = text-fine (q .result) (a .bytes .now) (q .ensures) _ _ _ (m .answer .given .1) in
     (subst (λ w. Added (a .out .now) 0 w (p .last .0) (p .result)) line (p .ensures .0), p .ensures .1)
 
 same-length-2 : tie.Need-same-length-2
@@ -52,7 +52,7 @@ returns-2 c =
     let m = c .before .before .before .before .before .before in
     let q = m .before .before .read in
     let a = m .before .before .before .before .before .args in
-    let put = puts-within (refusedWords (k .result)) _ _ _ _ 21 (p .ensures) (refused-short (k .result)) (omega arith) in
+    let put = puts-within (refusedWords (k .result)) _ _ _ _ 26 (p .ensures) (refused-short (k .result)) (omega arith) in
     let line = text-refused (q .result) (a .bytes .now) (q .ensures) _ (m .answer2 .given .1) (k .result) (k .ensures) in
     (subst (λ w. Added (a .out .now) 0 w (p .last .0) (p .result)) line (put .0), omega (arith, put .1))
 

@@ -1,6 +1,5 @@
 -- `transcript::run` meets its contract: the lamp that has reported settles on the reports.
 use mathlib.Core.Path.{ap₂, _∙_}
-use Rattle.field.specs.Modulus.{modulus}
 use Rattle.lamp.specs.Lamp.{settle, step}
 use Rattle.transcript.specs.Transcript.{run}
 use borrow.Author.Needs.{needs}
@@ -16,7 +15,7 @@ settle-requires c κs = search needs
 returns : tie.Need-returns
 unfolding run
 returns c =
-    c .settle .ensures ∙ ap₂ (λ l d. step modulus l (settle d)) (c .before .reported .ensures) (c .before .before .before .before .pre .1)
+    c .settle .ensures ∙ ap₂ (λ l d. step l (settle d)) (c .before .reported .ensures) (c .before .before .before .before .pre .1)
 
 pub run-spec : {M : Type 1} → statement M
 run-spec = tie.close (tie.spec reported-requires settle-requires returns)

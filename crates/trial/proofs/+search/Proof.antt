@@ -1,15 +1,15 @@
 -- `trial::search` meets its contract. Its measure is the number of points from place i on; each answer is one law of proofs/Arrays.
--- The parameter cx, which is lent on, is called t8 here.
+-- The parameter cx, which is lent on, is called t9 here.
 use mathlib.Core.Path.{_≡_, sym, ap, _∙_}
 use Prim.Native.Nat.{ℕ, _-_, _<_}
 use native.Mathlib.Nat.{pos-of-ne-zero}
 use native.Mathlib.Omega.{arith}
 use borrow.Author.Needs.{needs}
 use lib.ListN.{length, take}
-use Rattle.field.specs.Modulus.{modulus}
+use Rattle.field.specs.Modulus.{primeOf}
 use Rattle.trial.specs.Results.{resultOf}
 use Rattle.trial.specs.Search.{found}
-use Rattle.trial.proofs.Arrays.{found-one, found-none, found-unsent, Branches, branches, zeros-next}
+use Rattle.trial.proofs.Arrays.{found-one, found-none, found-unsent, Branches, branches, searching-next}
 use borrow.Fn.Kinds.{In}
 use borrow.Fn.PlainCycle.{Measures, is, falls, and}
 use Rattle.trial.proofs.search.Reads as search′
@@ -20,11 +20,12 @@ use Rattle.trial.proofs.nothing.Reads as nothing-reads
 use Rattle.trial.proofs.straight.Reads as straight-reads
 use Rattle.trial.proofs.test.Reads as test-reads
 use Rattle.trial.proofs.given.Reads as given-reads
+use Rattle.field.proofs.modulus.Reads as modulus-reads
 use Rattle.trial.proofs.+search.{statement}
 use Rattle.trial.proofs.+search.Tie.{close}
 
 abbrev μ-search : Measures 2 search-kinds.ps ℕ
-μ-search κs a = length (a .0 .now) - a .1 .1 .1 .0
+μ-search κs a = length (a .1 .0 .now) - a .1 .1 .1 .1 .0
 
 abbrev search-at : ℕ → In 2 search-kinds.ps
 search-at t = and 2 search-kinds.ps (is 2 search-kinds.ps μ-search t) search′.Pre
@@ -45,6 +46,8 @@ claims t = (
   given-reads.Learnt,
   nothing-reads.Asked,
   nothing-reads.Learnt,
+  modulus-reads.Asked,
+  modulus-reads.Learnt,
   search-below t,
   search′.Post,
 )
@@ -55,25 +58,25 @@ start t e = e .before .before .before .before .before
 
 abbrev left : (t : ℕ) → search-lts.After-search2 (claims t) (search-at t) search′.Post
     → search-lts.Else3 (claims t) (search-at t) search′.Post
-left t a = a .before .before .before .before
+left t a = a .before .before .before .before .before
 
 -- The arrays hold four numbers each.
-widths : (t : ℕ) (s : search-lts.Start (claims t) (search-at t) search′.Post) → (length (s .args .t8) ≡ 4) × (length (s .args .cy) ≡ 4)
+widths : (t : ℕ) (s : search-lts.Start (claims t) (search-at t) search′.Post) → (length (s .args .t9) ≡ 4) × (length (s .args .cy) ≡ 4)
 widths t s = (omega arith, omega arith)
 
 -- The call that takes the point has answered.
 taken : (t : ℕ) (a : search-lts.After-search2 (claims t) (search-at t) search′.Post)
     → let s = start t (left t a) .args in
-    Branches modulus (s .need) (s .xs .now) (s .ys .now) (s .i) (s .c) (s .t8) (s .cy) (s .more) (s .spare) (a .search2 .result)
+    Branches (primeOf (s .w)) (s .need) (s .xs .now) (s .ys .now) (s .i) (s .c) (s .t9) (s .cy) (s .more) (s .spare) (a .search2 .result)
 taken t a =
     let tested = left t a in
     let s = start t tested in
     let l = widths t s in
     let more = tested .before .if2 .left in
-    branches modulus (s .args .need) (s .args .xs .now) (s .args .ys .now) (s .args .i) (s .args .c) (s .args .t8) (s .args .cy)
-    (s .args .more) (s .args .spare) _ (s .pre .1 .bounded .lengths) (tested .if3 .left)
+    branches (primeOf (s .args .w)) (s .args .need) (s .args .xs .now) (s .args .ys .now) (s .args .i) (s .args .c) (s .args .t9)
+    (s .args .cy) (s .args .more) (s .args .spare) _ (s .pre .1 .bounded .lengths) (tested .if3 .left)
     (omega (arith, s .pre .1 .room, pos-of-ne-zero more)) (l .0) (l .1) more (tested .before .before .if1 .left)
-    (a .before .before .if4 .left) (a .search2 .ensures)
+    (omega arith) (a .search2 .ensures)
 
 module _ (t : ℕ) where
   straight-requires : search-lts.Need-straight-requires (claims t) (search-at t) search′.Post
@@ -85,10 +88,11 @@ module _ (t : ℕ) where
   returns : search-lts.Need-returns (claims t) (search-at t) search′.Post
   returns c =
       let s = c .before .before .before .before .before .args in
+      let p = primeOf (s .w) in
       c .copied .ensures
       ∙ c .before .straight .ensures
       ∙ ap
-      (λ n. resultOf (found modulus (s .need) (s .xs .now) (s .ys .now) (s .more) n (take (s .c) (s .t8)) (take (s .c) (s .cy)) (s .i)))
+      (λ n. resultOf (found p (s .need) (s .xs .now) (s .ys .now) (s .more) n (take (s .c) (s .t9)) (take (s .c) (s .cy)) (s .i)))
       (sym (c .before .before .if1 .taken))
 
   slice-aggregate-test : search-lts.Need-slice-aggregate-test (claims t) (search-at t) search′.Post
@@ -102,7 +106,7 @@ module _ (t : ℕ) where
       let s = c .before .before .before .before .before .before in
       let k = s .pre .1 in
       let l = widths t s in
-      (k .bounded .lengths, ((omega (arith, k .room), l .0, l .1), k .zeros))
+      (k .bounded .lengths, ((omega (arith, k .room), l .0, l .1), (k .points, k .taken-x, k .taken-y)))
 
   given-requires : search-lts.Need-given-requires (claims t) (search-at t) search′.Post
   given-requires c κs = search needs
@@ -112,7 +116,7 @@ module _ (t : ℕ) where
       let tested = c .before .before in
       let last = tested .before .before .before in
       let s = last .before .before .before .before in
-      c .given .ensures ∙ tested .test .ensures ∙ ap resultOf (found-one modulus _ _ _ _ _ _ _ (s .args .i) (last .if2 .taken))
+      c .given .ensures ∙ tested .test .ensures ∙ ap resultOf (found-one _ _ _ _ _ _ _ _ (s .args .i) (last .if2 .taken))
 
   nothing-requires : search-lts.Need-nothing-requires (claims t) (search-at t) search′.Post
   nothing-requires c κs = search needs
@@ -121,7 +125,7 @@ module _ (t : ℕ) where
   returns-3 c =
       let s = c .before .before .before .before .before .before in
       c .nothing .ensures
-      ∙ ap resultOf (found-none modulus _ _ _ _ _ _ _ (s .args .i) (c .before .before .if2 .left) (c .before .if3 .taken))
+      ∙ ap resultOf (found-none _ _ _ _ _ _ _ _ (s .args .i) (c .before .before .if2 .left) (c .before .if3 .taken))
 
   mul-y : search-lts.Need-mul-y (claims t) (search-at t) search′.Post
   mul-y c = search needs
@@ -129,23 +133,26 @@ module _ (t : ℕ) where
   shared-slice-read-y : search-lts.Need-shared-slice-read-y (claims t) (search-at t) search′.Post
   shared-slice-read-y c = search needs
 
+  modulus-requires : search-lts.Need-modulus-requires (claims t) (search-at t) search′.Post
+  modulus-requires c κs = search needs
+
   add-search : search-lts.Need-add-search (claims t) (search-at t) search′.Post
   add-search c = search needs
 
   search-requires : search-lts.Need-search-requires (claims t) (search-at t) search′.Post
   search-requires c κs =
-      let s = start t (c .before .before) in
-      (omega arith, record { bounded = s .pre .1 .bounded; room = omega arith; zeros = s .pre .1 .zeros })
+      let s = start t (c .before .before .before) in
+      (omega arith, s .pre .1)
 
   copied-requires-2 : search-lts.Need-copied-requires-2 (claims t) (search-at t) search′.Post
   copied-requires-2 c κs = search needs
 
   returns-4 : search-lts.Need-returns-4 (claims t) (search-at t) search′.Post
   returns-4 c =
-      let s = start t (c .before .before .before .before) in
+      let s = start t (c .before .before .before .before .before) in
       c .copied2 .ensures
       ∙ c .before .search .ensures
-      ∙ ap resultOf (found-unsent modulus _ _ _ (omega arith) (s .args .i) (omega arith) _ _ _ _ (c .before .before .if4 .taken))
+      ∙ ap resultOf (found-unsent _ _ _ _ (omega arith) (s .args .i) (omega arith) _ _ _ _ (omega arith))
 
   mul-dx : search-lts.Need-mul-dx (claims t) (search-at t) search′.Post
   mul-dx c = search needs
@@ -176,9 +183,10 @@ module _ (t : ℕ) where
 
   search-requires-2 : search-lts.Need-search-requires-2 (claims t) (search-at t) search′.Post
   search-requires-2 c κs =
-      let s = start t (c .before .before .before) in
-      let zeros = zeros-next (s .args .c) _ (s .args .cy) (omega arith) (widths t s .1) (s .pre .1 .zeros) in
-      (omega arith, record { bounded = s .pre .1 .bounded; room = omega arith; zeros = zeros })
+      let s = start t (c .before .before .before .before) in (
+        omega arith,
+        searching-next _ _ _ (s .args .more) (s .args .c) (s .args .i) _ _ (s .pre .1) (omega arith) (omega arith) (omega arith),
+      )
 
   copied-requires-3 : search-lts.Need-copied-requires-3 (claims t) (search-at t) search′.Post
   copied-requires-3 c κs = search needs
@@ -195,7 +203,7 @@ module _ (t : ℕ) where
   search-requires-3 : search-lts.Need-search-requires-3 (claims t) (search-at t) search′.Post
   search-requires-3 c κs =
       let s = start t (left t (c .before)) in
-      (omega arith, record { bounded = s .pre .1 .bounded; room = omega arith; zeros = s .pre .1 .zeros })
+      (omega arith, s .pre .1)
 
   copied-requires-4 : search-lts.Need-copied-requires-4 (claims t) (search-at t) search′.Post
   copied-requires-4 c κs = search needs
@@ -220,6 +228,7 @@ pub +search-spec : {M : Type 1} → statement M
     (returns-3 t)
     (mul-y t)
     (shared-slice-read-y t)
+    (modulus-requires t)
     (add-search t)
     (search-requires t)
     (copied-requires-2 t)

@@ -2,15 +2,13 @@
 use mathlib.Core.Path.{_≡_, refl, sym, _∙_}
 use native.Mathlib.Omega.{arith}
 use lib.ListN.{length}
-use Rattle.lists.proofs.InPlace.{drop-end}
-use Rattle.field.specs.Modulus.{modulus}
 use Rattle.trial.proofs.Arrays.{four-taken}
 use borrow.Author.Needs.{needs}
 use Rattle.trial.proofs.four.Statement.{statement}
 use Rattle.trial.proofs.four.Tie as tie
 
 -- The arrays hold four numbers each.
-widths : (s : tie.Start) → (length (s .args .t4) ≡ 4) × (length (s .args .cy) ≡ 4)
+widths : (s : tie.Start) → (length (s .args .t5) ≡ 4) × (length (s .args .cy) ≡ 4)
 widths s = (omega arith, omega arith)
 
 slice-aggregate-test : tie.Need-slice-aggregate-test
@@ -23,7 +21,7 @@ test-requires : tie.Need-test-requires
 test-requires c κs =
     let s = c .before .before .before .before in
     let l = widths s in
-    (s .pre .lengths, ((omega arith, l .0, l .1), drop-end (s .args .cy) 4 (omega (arith, l .1))))
+    (s .pre .0 .lengths, ((omega arith, l .0, l .1), s .pre .1))
 
 given-requires : tie.Need-given-requires
 given-requires c κs = search needs
@@ -35,7 +33,7 @@ returns c =
     let l = widths s in
     c .given .ensures
     ∙ tested .test .ensures
-    ∙ sym (four-taken modulus (s .args .need) _ _ 4 (s .args .t4) (s .args .cy) refl (l .0) (l .1))
+    ∙ sym (four-taken _ (s .args .need) _ _ 4 (s .args .t5) (s .args .cy) refl (l .0) (l .1))
 
 pub four-spec : {M : Type 1} → statement M
 four-spec =

@@ -4,7 +4,7 @@ use Prim.Native.Nat.{_-_}
 use native.Mathlib.Omega.{arith}
 use borrow.Author.Needs.{needs}
 use lib.ListN.{length, take}
-use Rattle.field.specs.Modulus.{modulus}
+use Rattle.field.specs.Modulus.{primeOf}
 use Rattle.trial.specs.Results.{resultOf}
 use Rattle.trial.specs.Search.{found}
 use Rattle.trial.proofs.Arrays.{found-one, found-none, Straight, straight-sent, straight-unsent}
@@ -12,18 +12,21 @@ use Rattle.trial.proofs.straight.Statement.{statement}
 use Rattle.trial.proofs.straight.Tie as tie
 
 abbrev Inv-loop : tie.InvT-loop
-Inv-loop xs ys need i more c j₀ left₀ d₀ dx₀ dy₀ j left d dx dy =
-    Straight modulus need xs ys (found modulus need xs ys more 0 (take c dx₀) (take c dy₀) i) j left d dx dy
+Inv-loop w xs ys need i more c p j₀ left₀ d₀ dx₀ dy₀ j left d dx dy =
+    Straight (primeOf w) need xs ys (found (primeOf w) need xs ys more 0 (take c dx₀) (take c dy₀) i) j left d dx dy
 
 abbrev μ-loop : tie.MeasureT-loop
-μ-loop xs ys need i more c j₀ left₀ d₀ dx₀ dy₀ j left d dx dy = length xs - j
+μ-loop w xs ys need i more c p j₀ left₀ d₀ dx₀ dy₀ j left d dx dy = length xs - j
 
 -- The loop's turn in which a point is read.
 abbrev turn : tie.After-shared-slice-known4 Inv-loop μ-loop → tie.At-loop Inv-loop μ-loop
 turn read = read .before .before .before .before
 
 loop-holds : tie.Need-loop-holds Inv-loop μ-loop
-loop-holds c = record { searching = c .before .before .pre; width-x = omega arith; width-y = omega arith; finds = refl }
+loop-holds c = record { searching = c .before .before .before .pre; width-x = omega arith; width-y = omega arith; finds = refl }
+
+modulus-requires : tie.Need-modulus-requires Inv-loop μ-loop
+modulus-requires c κs = search needs
 
 nothing-requires : tie.Need-nothing-requires Inv-loop μ-loop
 nothing-requires c κs = search needs
@@ -32,7 +35,7 @@ returns : tie.Need-returns Inv-loop μ-loop
 returns c =
     let k = c .before .before .before .loop in
     c .nothing .ensures
-    ∙ ap resultOf (found-none modulus _ _ _ (k .left) 0 _ _ (k .j) (λ z. omega arith) (c .before .if1 .taken) ∙ k .inv .finds)
+    ∙ ap resultOf (found-none _ _ _ _ (k .left) 0 _ _ (k .j) (λ z. omega arith) (c .before .if1 .taken) ∙ k .inv .finds)
 
 mul-x : tie.Need-mul-x Inv-loop μ-loop
 mul-x c = search needs
@@ -73,7 +76,7 @@ loop-less c = search needs
 loop-again : tie.Need-loop-again Inv-loop μ-loop
 loop-again c =
     let k = turn (c .before) .loop in
-    straight-sent modulus _ _ _ _ (k .j) (k .left) (k .d) (k .dx) (k .dy) (k .inv) (omega arith) (omega arith) (c .if2 .taken)
+    straight-sent _ _ _ _ _ (k .j) (k .left) (k .d) (k .dx) (k .dy) (k .inv) (omega arith) (omega arith) (omega arith)
 
 loop-less-2 : tie.Need-loop-less-2 Inv-loop μ-loop
 loop-less-2 c = search needs
@@ -81,7 +84,7 @@ loop-less-2 c = search needs
 loop-again-2 : tie.Need-loop-again-2 Inv-loop μ-loop
 loop-again-2 c =
     let k = turn (c .before) .loop in
-    straight-unsent modulus _ _ _ _ (k .j) (k .left) (k .d) (k .dx) (k .dy) (k .inv) (omega arith) (c .if2 .left)
+    straight-unsent _ _ _ _ _ (k .j) (k .left) (k .d) (k .dx) (k .dy) (k .inv) (omega arith) (omega arith)
 
 slice-aggregate-test : tie.Need-slice-aggregate-test Inv-loop μ-loop
 slice-aggregate-test c = search needs
@@ -92,7 +95,8 @@ slice-aggregate-test-2 c = search needs
 test-requires : tie.Need-test-requires Inv-loop μ-loop
 test-requires c κs =
     let k = c .before .before .before .loop .inv in
-    (k .searching .bounded .lengths, ((omega (arith, k .searching .room), k .width-x, k .width-y), k .searching .zeros))
+    let s = k .searching in
+    (s .bounded .lengths, ((omega (arith, s .room), k .width-x, k .width-y), (s .points, s .taken-x, s .taken-y)))
 
 given-requires : tie.Need-given-requires Inv-loop μ-loop
 given-requires c κs = search needs
@@ -101,7 +105,7 @@ returns-2 : tie.Need-returns-2 Inv-loop μ-loop
 returns-2 c =
     let tested = c .before .before in
     let k = tested .before .before .before .before .loop in
-    c .given .ensures ∙ tested .test .ensures ∙ ap resultOf (found-one modulus _ _ _ (k .left) 0 _ _ (k .j) (omega arith) ∙ k .inv .finds)
+    c .given .ensures ∙ tested .test .ensures ∙ ap resultOf (found-one _ _ _ _ (k .left) 0 _ _ (k .j) (omega arith) ∙ k .inv .finds)
 
 pub straight-spec : {M : Type 1} → statement M
 straight-spec =
@@ -109,6 +113,7 @@ straight-spec =
     (tie.spec
     Inv-loop
     μ-loop
+    modulus-requires
     loop-holds
     nothing-requires
     returns

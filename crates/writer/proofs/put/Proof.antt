@@ -3,18 +3,19 @@ use borrow.Author.Needs.{needs}
 use Prim.Native.Nat.{_-_}
 use native.Mathlib.Omega.{arith}
 use lib.ListN.{length, length-set}
+use Rattle.field.specs.declared.Width.the-variants.{Narrow}
 use Rattle.writer.proofs.Loops.{Putting, put-start, put-next, put-end}
 use Rattle.writer.proofs.put.Statement.{statement}
 use Rattle.writer.proofs.put.Tie as tie
 
 abbrev Inv-loop : tie.InvT-loop
-Inv-loop list at out₀ i₀ place₀ out i place = Putting list at out₀ out i place
+Inv-loop list at out₀ i₀ place₀ out i place = Putting Narrow list at out₀ out i place
 
 abbrev μ-loop : tie.MeasureT-loop
 μ-loop list at out₀ i₀ place₀ out i place = length list - i
 
 loop-holds : tie.Need-loop-holds Inv-loop μ-loop
-loop-holds c = put-start _ _ _ (c .before .before .pre)
+loop-holds c = put-start Narrow _ _ _ (c .before .before .pre)
 
 mul-x : tie.Need-mul-x Inv-loop μ-loop
 mul-x c = search needs
@@ -55,7 +56,7 @@ same-length : tie.Need-same-length Inv-loop μ-loop
 same-length c = search needs
 
 returns : tie.Need-returns Inv-loop μ-loop
-returns c = let k = c .before .loop in put-end _ _ _ (k .out) (k .i) (k .place) (k .inv) (omega arith)
+returns c = let k = c .before .loop in put-end Narrow _ _ _ (k .out) (k .i) (k .place) (k .inv) (omega arith)
 
 pub put-spec : {M : Type 1} → statement M
 put-spec =

@@ -6,6 +6,7 @@ use Prim.Native.Nat.{ℕ}
 use lib.ListN.{length}
 use borrow.Author.Needs.{needs}
 use borrow.Author.Tests.{not-true, not-false}
+use Rattle.field.specs.declared.Width.the-variants.{Narrow}
 use Rattle.parties.specs.Parties.{sizes}
 use Rattle.answers.specs.declared.Writing.{Writing}
 use Rattle.answers.specs.declared.Writing.the-variants.{Written}
@@ -24,7 +25,7 @@ sized c = sym (c .before .sizes .ensures) ∙ not-false _ (c .if1 .left)
 
 -- The lengths have passed, too.
 fit : (c : tie.Else2) → let a = start (c .before .before .before) .args in
-    writable (a .n) (a .t) (a .deals .now) (a .pairs .now) (a .reports .now) (a .shares .now) (length (a .out .now)) ≡ true
+    writable Narrow (a .n) (a .t) (a .deals .now) (a .pairs .now) (a .reports .now) (a .shares .now) (length (a .out .now)) ≡ true
 unfolding writable
 fit c = simp (sized (c .before .before), sym (c .before .lists-fit .ensures) ∙ not-false _ (c .if2 .left))
 
@@ -32,14 +33,14 @@ sizes-requires : tie.Need-sizes-requires
 sizes-requires c κs = search needs
 
 returns : tie.Need-returns
-returns c = sym (writing-size _ _ _ _ _ _ _ (sym (c .before .sizes .ensures) ∙ not-true _ (c .if1 .taken)))
+returns c = sym (writing-size _ _ _ _ _ _ _ _ (sym (c .before .sizes .ensures) ∙ not-true _ (c .if1 .taken)))
 
 lists-fit-requires : tie.Need-lists-fit-requires
 lists-fit-requires c κs = sized c
 
 returns-2 : tie.Need-returns-2
 returns-2 c =
-    sym (writing-length _ _ _ _ _ _ _ (sized (c .before .before)) (sym (c .before .lists-fit .ensures) ∙ not-true _ (c .if2 .taken)))
+    sym (writing-length _ _ _ _ _ _ _ _ (sized (c .before .before)) (sym (c .before .lists-fit .ensures) ∙ not-true _ (c .if2 .taken)))
 
 fill-requires : tie.Need-fill-requires
 fill-requires c κs = fit (c .before)
@@ -50,7 +51,7 @@ same-length c = search needs
 returns-3 : tie.Need-returns-3
 returns-3 c =
     ap₂ {C = List ℕ × Writing} (λ a b. (a, Written b)) (c .before .before .fill .ensures .1) (c .before .before .fill .ensures .0)
-    ∙ sym (writing-written _ _ _ _ _ _ _ (fit (c .before .before .before .before)))
+    ∙ sym (writing-written _ _ _ _ _ _ _ _ (fit (c .before .before .before .before)))
 
 pub write-spec : {M : Type 1} → statement M
 write-spec =

@@ -2,14 +2,14 @@
 use mathlib.Core.Path.{sym}
 use native.Mathlib.Omega.{arith}
 use lib.Seq.{length-take-le}
-use Rattle.field.specs.Modulus.{modulus}
+use Rattle.field.specs.Modulus.{primeOf}
 use Rattle.tables.proofs.Tables.{short-not}
 use borrow.Author.Needs.{needs}
 use Rattle.lamp.proofs.admission.is_table.Statement.{statement}
 use Rattle.lamp.proofs.admission.is_table.Tie as tie
 
 returns : tie.Need-returns
-returns c = let a = c .before .args in short-not modulus (a .n) (a .t2) (omega arith)
+returns c = let a = c .before .args in short-not (primeOf (a .w)) (a .n) (a .t3) (omega arith)
 
 array-share-prefix-table : tie.Need-array-share-prefix-table
 array-share-prefix-table c = search needs

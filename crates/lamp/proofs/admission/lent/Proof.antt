@@ -1,6 +1,6 @@
 -- `lamp::admission::lent` meets its contract: three tests more behind those of the party.
 use mathlib.Core.Path.{sym, _∙_}
-use Rattle.field.specs.Modulus.{modulus}
+use mathlib.Core.List.{_++_}
 use Rattle.answers.proofs.Tests.{in-order}
 use Rattle.lamp.specs.Lamp.{partyTests, lentTests}
 use borrow.Author.Needs.{needs}
@@ -10,18 +10,23 @@ use Rattle.lamp.proofs.admission.lent.Tie as tie
 legal-requires : tie.Need-legal-requires
 legal-requires c κs = search needs
 
+-- src/admission.rt:55:9
 also-requires : tie.Need-also-requires
 also-requires c κs = search needs
 
+-- src/admission.rt:56:29
 is-table-requires : tie.Need-is-table-requires
 is-table-requires c κs = search needs
 
+-- src/admission.rt:56:9
 also-requires-2 : tie.Need-also-requires-2
 also-requires-2 c κs = search needs
 
+-- src/admission.rt:57:5
 also-requires-3 : tie.Need-also-requires-3
 also-requires-3 c κs = search needs
 
+-- src/admission.rt:50:1
 returns : tie.Need-returns
 returns c =
     let table = c .before .before in
@@ -34,7 +39,7 @@ returns c =
       table .before .also .ensures,
       legal .legal .ensures ∙ sym (in-order (partyTests (a .party))),
     )
-    (in-order (lentTests modulus (a .party) (a .fits) (a .takes)))
+    (in-order (partyTests (a .party) ++ lentTests (a .party) (a .fits) (a .takes)))
 
 pub lent-spec : {M : Type 1} → statement M
 lent-spec =

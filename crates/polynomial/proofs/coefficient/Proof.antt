@@ -1,0 +1,21 @@
+-- `polynomial::coefficient` meets its contract.
+use mathlib.Core.Path.{sym}
+use lib.ListN.{List·getD-eq-default}
+use borrow.Author.Needs.{needs}
+use Rattle.polynomial.proofs.coefficient.Statement.{statement}
+use Rattle.polynomial.proofs.coefficient.Tie as tie
+
+returns : tie.Need-returns
+returns c = sym (List·getD-eq-default (c .before .args .f .now) 0 (c .if1 .taken))
+
+mul-result : tie.Need-mul-result
+mul-result c = search needs
+
+shared-slice-read-result : tie.Need-shared-slice-read-result
+shared-slice-read-result c = search needs
+
+returns-2 : tie.Need-returns-2
+returns-2 c = search needs
+
+pub coefficient-spec : {M : Type 1} → statement M
+coefficient-spec = tie.close (tie.spec returns mul-result shared-slice-read-result returns-2)
