@@ -1,5 +1,5 @@
 -- Laws of the tables of points: the test is right, 1 to n is a table, and what a lamp keeps of one.
---   table-facts, table-true, length-not, short-not, table-points   what the test says of a list; tests-pass: the tests of one that is lent
+--   table-facts, table-true, length-not, short-not, table-points   what the test says of a list; tests-pass, tests-length: those of one lent
 --   points-of, point-at                     the table is the list of its parties' points
 --   point-not-zero, point-once              no party's point is 0, and no two parties have one
 --   point-below                             a point is a residue, also that of none
@@ -22,7 +22,8 @@ use Rattle.lists.specs.Tabulate.{tabulate, pad}
 use Rattle.lists.proofs.All.{all-getD, distinct-getD}
 use Rattle.lists.proofs.Padded.{getD-zeros}
 use Rattle.lists.proofs.Tabulate.{length-tabulate, getD-tabulate, all-tabulate, map-tabulate, distinct-tabulate}
-use Rattle.answers.specs.declared.Admission.the-variants.{Pass}
+use Rattle.answers.specs.declared.Refusal.the-variants.{WrongLength}
+use Rattle.answers.specs.declared.Admission.the-variants.{Pass, Fail}
 use Rattle.answers.specs.Refusals.{lowest}
 use Rattle.polynomial.specs.Polynomial.{Residues, Points}
 use Rattle.parties.specs.Parties.{isParty, parties}
@@ -86,6 +87,10 @@ module _ (p n : ℕ) (T : List ℕ) where
   -- All tests of a table that is lent pass.
   pub tests-pass : IsTable p n T → lowest (tableTests p n T) ≡ Pass
   tests-pass h = rw (eq-eqb (length T) n (h .size), table-true h)
+
+  -- One of another length is 3, whatever its entries are.
+  pub tests-length : (length T ≡ n → ⊥) → lowest (tableTests p n T) ≡ Fail WrongLength
+  tests-length h = rw (ne-eqb (length T) n h)
 
 -- ---- the points
 pub point-at : (T : List ℕ) (k : ℕ) → getD T k 0 ≡ pointAt T (suc k)
