@@ -26,7 +26,7 @@
 
 /* The version of this header and of the library built from the same tree; as one number, 10203 is 1.2.3. */
 #define DOUMBAHT_VERSION_MAJOR 0
-#define DOUMBAHT_VERSION_MINOR 4
+#define DOUMBAHT_VERSION_MINOR 5
 #define DOUMBAHT_VERSION_PATCH 0
 #define DOUMBAHT_VERSION (10000 * DOUMBAHT_VERSION_MAJOR + 100 * DOUMBAHT_VERSION_MINOR + DOUMBAHT_VERSION_PATCH)
 
@@ -80,7 +80,7 @@ enum doumbaht_refusal {
     DOUMBAHT_ALTERED_REPORT = 7,   /* a lamp's report in the list of reports is not the one it gave */
     DOUMBAHT_DEALER_REJECTED = 8,  /* no n - t lamps all agree */
     DOUMBAHT_NO_COLUMN = 9,        /* no polynomial fits the points of a repair */
-    DOUMBAHT_NO_OPENING = 10,      /* no polynomial fits the published shares */
+    DOUMBAHT_NO_OPENING = 10,      /* no polynomial fits the published shares: over t are wrong, or under 2t+1 true */
     DOUMBAHT_WRONG_TABLE = 14,     /* a table's number, or a point of a repair, is 0, the prime or above, or there twice */
     DOUMBAHT_WRONG_WIDTH = 18      /* a call of the other prime than the lamp's */
 };
@@ -135,12 +135,15 @@ uint8_t doumbaht_repair_wide(uint8_t t, const uint32_t *xs, size_t xs_count, con
 
 /*
  * Opens the published shares of lamps 1 to n, by themselves: writes to `opened` the constant of the polynomial of
- * degree at most t from which at most t of them differ; one that was not sent always differs. At most one polynomial
- * fits. Refused with WRONG_SIZE, WRONG_LENGTH unless there are n shares, NO_OPENING.
+ * degree at most t with which at least 2t+1 of them agree, and from which at most t of those sent differ; a lamp that is
+ * dark has NOT_SENT, or any number from the prime up, and never 0, which is a share. At most one polynomial fits. A lamp
+ * that holds a share puts it into its own place first. Refused with WRONG_SIZE, WRONG_LENGTH unless there are n shares,
+ * NO_OPENING: more than t shares are wrong, or fewer than 2t+1 are there and true. With 3t+1 shares there, at most t of
+ * them wrong, it always opens. More than t wrong shares that lie on a polynomial of their own may open its constant.
  */
 uint8_t doumbaht_open(uint8_t n, uint8_t t, const uint16_t *shares, size_t shares_count, uint16_t *opened);
 
-/* The same, wide. */
+/* The same, wide: a lamp that is dark has WIDE_NOT_SENT; 65,535 is a share like any other. */
 uint8_t doumbaht_open_wide(uint8_t n, uint8_t t, const uint32_t *shares, size_t shares_count, uint32_t *opened);
 
 /*

@@ -6,9 +6,10 @@ use crate::inputs::{Dealing, Reports, Tabled};
 use crate::measure::Bench;
 use crate::plain::field::Number;
 use crate::plain::{happy_new, happy_old};
-use crate::points::{any_points, any_shares, any_table, any_tabled_shares, bad_points, raised, sometimes_spoilt};
+use crate::points::{any_dark_shares, any_dark_tabled_shares, any_points, any_shares, any_table, any_tabled_shares};
+use crate::points::{any_size, bad_points, raised, sometimes_spoilt};
 use crate::proved::Library;
-use crate::records::any_record;
+use crate::records::{any_dark_record, any_record};
 use crate::rng::Rng;
 
 /// Asks so many questions of each kind; answers how many in all.
@@ -19,20 +20,27 @@ pub fn check(seed: u64, count: usize) -> Result<usize, String> {
     happy("", "random reports", reports).compare()?;
     check_prime::<u16>(&mut rng, count, "")?;
     check_prime::<u32>(&mut rng, count, ", wide")?;
-    Ok(13 * count + count / 4 * 2)
+    Ok(17 * count + count / 4 * 4)
 }
 
 /// The questions that there are for each prime.
 fn check_prime<N: Library>(rng: &mut Rng, count: usize, width: &str) -> Result<(), String> {
     let title = |what| format!("random {what}{width}");
-    let rows: [Box<dyn Bench>; 7] = [
+    let rows: [Box<dyn Bench>; 10] = [
         Box::new(dealing::<N>("", &title("dealing"), many(rng, count, any_dealing))),
         Box::new(dealing_with::<N>("", &title("dealing with a table"), many(rng, count, any_tabled))),
         Box::new(repairing::<N>("", &title("points"), many(rng, count, any_points))),
         Box::new(repairing::<N>("", &title("bad points"), many(rng, count, bad_points))),
         Box::new(opening::<N>("", &title("shares"), many(rng, count, any_shares))),
         Box::new(opening_with::<N>("", &title("shares with a table"), many(rng, count, any_tabled_shares))),
+        Box::new(opening::<N>("", &title("shares, many dark"), many(rng, count, any_dark_shares))),
+        Box::new(opening_with::<N>(
+            "",
+            &title("shares with a table, many dark"),
+            many(rng, count, any_dark_tabled_shares),
+        )),
         Box::new(writing("", &title("record"), many(rng, count / 4, any_record::<N>))),
+        Box::new(writing("", &title("record, many dark"), many(rng, count / 4, any_dark_record::<N>))),
     ];
     rows.iter().try_for_each(|row| row.compare())
 }
@@ -43,8 +51,7 @@ fn many<I>(rng: &mut Rng, count: usize, any: fn(&mut Rng) -> I) -> Vec<I> {
 
 /// Any dealing: mostly right, else a size, a length or a number that is refused.
 fn any_dealing<N: Number>(rng: &mut Rng) -> Dealing<N> {
-    let t = 1 + rng.below(3);
-    let n = 4 * t + 1 + rng.below(16 - 4 * t);
+    let (n, t) = any_size(rng);
     let width = t + 1;
     let mut f: Vec<N> = (0..width * width).map(|_| rng.edge()).collect();
     let mut dealing = Dealing { n: n as u8, t: t as u8, f: Vec::new(), room: 2 * n * width };

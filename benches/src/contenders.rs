@@ -20,6 +20,8 @@ type DealWith<N> = fn(u8, u8, &[N], &[N], &mut [N]) -> u8;
 
 type Fit<N> = fn(usize, usize, &[N], &[N]) -> Option<[N; 4]>;
 
+type Open<N> = fn(usize, &[N], &[N]) -> Option<[N; 4]>;
+
 /// A row with the library's function, that of the older library, if it is there, and the others.
 fn row<I, O>(
     (key, title): (&str, &str),
@@ -100,7 +102,15 @@ fn fit_by_one_inverse<N: Number>(t: usize, need: usize, xs: &[N], ys: &[N]) -> O
     fit_groups::fit_by(differences_once::differences::<N>, t, need, xs, ys)
 }
 
-/// A repair by a fit: lengths are right; points that no table may hold are refused.
+fn open_by_slopes<N: Number>(t: usize, xs: &[N], ys: &[N]) -> Option<[N; 4]> {
+    fit_groups::open_by(differences_slopes::differences::<N>, t, xs, ys)
+}
+
+fn open_by_one_inverse<N: Number>(t: usize, xs: &[N], ys: &[N]) -> Option<[N; 4]> {
+    fit_groups::open_by(differences_once::differences::<N>, t, xs, ys)
+}
+
+/// A repair by a fit of all points but t: lengths are right; points that no table may hold are refused.
 #[inline(always)]
 fn repaired<N: Number>(input: &Points<N>, out: &mut (u8, [N; 4]), fit: Fit<N>) {
     let t = usize::from(input.t);
@@ -137,11 +147,10 @@ pub fn repairing<N: Library>(key: &str, title: &str, inputs: Vec<Points<N>>) -> 
     )
 }
 
-/// An opening by a fit: sizes and lengths are right.
+/// An opening: sizes and lengths are right.
 #[inline(always)]
-fn opened<N: Number>(input: &Shares<N>, out: &mut (u8, N), fit: Fit<N>) {
-    let (n, t) = (usize::from(input.n), usize::from(input.t));
-    match fit(t, n - t, &N::ONE_TO[..n], &input.shares) {
+fn opened<N: Number>(input: &Shares<N>, out: &mut (u8, N), open: Open<N>) {
+    match open(usize::from(input.t), &N::ONE_TO[..usize::from(input.n)], &input.shares) {
         Some(f) => *out = (0, f[0]),
         None => out.0 = 10,
     }
@@ -155,29 +164,28 @@ pub fn opening<N: Library>(key: &str, title: &str, inputs: Vec<Shares<N>>) -> Ro
         N::NOW.open,
         N::OLD.map(|old| old.open),
         &[
-            (Role::Plain, "plain", |input, out| opened(input, out, fit_now::fit)),
-            (Role::Special, "Gao", |input, out| opened(input, out, gao::fit)),
-            (Role::Naive, "all choices", |input, out| opened(input, out, naive::fit)),
-            (Role::Version, fit_old::NAME, |input, out| opened(input, out, fit_old::fit)),
-            (Role::Version, fit_newton::NAME, |input, out| opened(input, out, fit_newton::fit)),
-            (Role::Version, fit_groups::NAME, |input, out| opened(input, out, fit_groups::fit)),
-            (Role::Version, differences_slopes::NAME, |input, out| opened(input, out, fit_by_slopes)),
-            (Role::Version, differences_once::NAME, |input, out| opened(input, out, fit_by_one_inverse)),
+            (Role::Plain, "plain", |input, out| opened(input, out, fit_now::open)),
+            (Role::Special, "Gao", |input, out| opened(input, out, gao::open)),
+            (Role::Naive, "all choices", |input, out| opened(input, out, naive::open)),
+            (Role::Version, fit_old::NAME, |input, out| opened(input, out, fit_old::open)),
+            (Role::Version, fit_newton::NAME, |input, out| opened(input, out, fit_newton::open)),
+            (Role::Version, fit_groups::NAME, |input, out| opened(input, out, fit_groups::open)),
+            (Role::Version, differences_slopes::NAME, |input, out| opened(input, out, open_by_slopes)),
+            (Role::Version, differences_once::NAME, |input, out| opened(input, out, open_by_one_inverse)),
         ],
     )
 }
 
 /// The same at the points of a table, which may be refused.
 #[inline(always)]
-fn opened_with<N: Number>(input: &Tabled<N, Shares<N>>, out: &mut (u8, N), fit: Fit<N>) {
+fn opened_with<N: Number>(input: &Tabled<N, Shares<N>>, out: &mut (u8, N), open: Open<N>) {
     let Shares { n, t, shares } = &input.question;
     let bad = refusal(*n, &input.table);
     if bad != 0 {
         out.0 = bad;
         return;
     }
-    let t = usize::from(*t);
-    match fit(t, shares.len() - t, &input.table, shares) {
+    match open(usize::from(*t), &input.table, shares) {
         Some(f) => *out = (0, f[0]),
         None => out.0 = 10,
     }
@@ -193,14 +201,14 @@ pub fn opening_with<N: Library>(key: &str, title: &str, inputs: Openings<N>) -> 
         N::NOW.open_with,
         N::OLD.map(|old| old.open_with),
         &[
-            (Role::Plain, "plain", |input, out| opened_with(input, out, fit_now::fit)),
-            (Role::Special, "Gao", |input, out| opened_with(input, out, gao::fit)),
-            (Role::Naive, "all choices", |input, out| opened_with(input, out, naive::fit)),
-            (Role::Version, fit_old::NAME, |input, out| opened_with(input, out, fit_old::fit)),
-            (Role::Version, fit_newton::NAME, |input, out| opened_with(input, out, fit_newton::fit)),
-            (Role::Version, fit_groups::NAME, |input, out| opened_with(input, out, fit_groups::fit)),
-            (Role::Version, differences_slopes::NAME, |input, out| opened_with(input, out, fit_by_slopes)),
-            (Role::Version, differences_once::NAME, |input, out| opened_with(input, out, fit_by_one_inverse)),
+            (Role::Plain, "plain", |input, out| opened_with(input, out, fit_now::open)),
+            (Role::Special, "Gao", |input, out| opened_with(input, out, gao::open)),
+            (Role::Naive, "all choices", |input, out| opened_with(input, out, naive::open)),
+            (Role::Version, fit_old::NAME, |input, out| opened_with(input, out, fit_old::open)),
+            (Role::Version, fit_newton::NAME, |input, out| opened_with(input, out, fit_newton::open)),
+            (Role::Version, fit_groups::NAME, |input, out| opened_with(input, out, fit_groups::open)),
+            (Role::Version, differences_slopes::NAME, |input, out| opened_with(input, out, open_by_slopes)),
+            (Role::Version, differences_once::NAME, |input, out| opened_with(input, out, open_by_one_inverse)),
         ],
     )
 }
@@ -216,6 +224,9 @@ impl Ways for Plain {
     fn fit<N: Number>(t: usize, need: usize, xs: &[N], ys: &[N]) -> Option<[N; 4]> {
         fit_now::fit(t, need, xs, ys)
     }
+    fn open<N: Number>(t: usize, xs: &[N], ys: &[N]) -> Option<[N; 4]> {
+        fit_now::open(t, xs, ys)
+    }
 }
 
 /// The specialists, and one happy set for all lamps.
@@ -229,6 +240,9 @@ impl Ways for Special {
     fn fit<N: Number>(t: usize, need: usize, xs: &[N], ys: &[N]) -> Option<[N; 4]> {
         gao::fit(t, need, xs, ys)
     }
+    fn open<N: Number>(t: usize, xs: &[N], ys: &[N]) -> Option<[N; 4]> {
+        gao::open(t, xs, ys)
+    }
 }
 
 /// The naive ways, each lamp for itself.
@@ -241,6 +255,9 @@ impl Ways for Naive {
     }
     fn fit<N: Number>(t: usize, need: usize, xs: &[N], ys: &[N]) -> Option<[N; 4]> {
         naive::fit(t, need, xs, ys)
+    }
+    fn open<N: Number>(t: usize, xs: &[N], ys: &[N]) -> Option<[N; 4]> {
+        naive::open(t, xs, ys)
     }
 }
 

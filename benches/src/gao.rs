@@ -2,6 +2,7 @@
 //! half way; the remainder divided by its cofactor is the polynomial that fits. What was not sent is left out.
 
 use crate::plain::field::Number;
+use crate::plain::fit::needed;
 
 /// Coefficients, the constant first, with zeros behind them: a product of 16 factors has 17, and one is to spare.
 type Polynomial = [u32; 18];
@@ -14,10 +15,20 @@ struct Sent {
 }
 
 pub fn fit<N: Number>(t: usize, need: usize, xs: &[N], ys: &[N]) -> Option<[N; 4]> {
+    decode(t, Some(need), xs, ys)
+}
+
+pub fn open<N: Number>(t: usize, xs: &[N], ys: &[N]) -> Option<[N; 4]> {
+    decode(t, None, xs, ys)
+}
+
+/// Where no need is named, it is that of an opening, which those sent say.
+fn decode<N: Number>(t: usize, need: Option<usize>, xs: &[N], ys: &[N]) -> Option<[N; 4]> {
     if 3 < t || xs.len() != ys.len() || 16 < xs.len() {
         return None;
     }
     let sent = Sent::of(xs, ys);
+    let need = need.unwrap_or(needed(t, sent.count));
     if sent.count < need || sent.count <= t {
         return None;
     }

@@ -57,8 +57,10 @@ pub struct Times {
 pub trait Bench {
     fn key(&self) -> &str;
     fn title(&self) -> &str;
-    /// Whether all contenders answer alike on every input.
+    /// Whether all contenders, but for an older library's function, answer alike on every input.
     fn compare(&self) -> Result<(), String>;
+    /// Whether the older library's function answers as the library's does.
+    fn compare_old(&self) -> Result<(), String>;
     /// Times the contenders of these roles.
     fn measure(&self, pace: Pace, roles: &[Role]) -> Vec<Times>;
     /// Calls one contender over and over; nothing is called where there is no such role.
@@ -75,22 +77,11 @@ impl<I, O: Clone + PartialEq + Debug> Bench for Row<I, O> {
     }
 
     fn compare(&self) -> Result<(), String> {
-        for (k, input) in self.inputs.iter().enumerate() {
-            let mut first = None;
-            for contender in &self.contenders {
-                let mut out = self.blank.clone();
-                (contender.call)(input, &mut out);
-                let (name, answer) = first.get_or_insert((contender.name, out.clone()));
-                if *answer != out {
-                    let title = &self.title;
-                    return Err(format!(
-                        "{title}, input {k}: {name} answers {answer:?}, {} answers {out:?}",
-                        contender.name
-                    ));
-                }
-            }
-        }
-        Ok(())
+        self.alike(|role| role != Role::Old)
+    }
+
+    fn compare_old(&self) -> Result<(), String> {
+        self.alike(|role| role == Role::Proved || role == Role::Old)
     }
 
     fn measure(&self, pace: Pace, roles: &[Role]) -> Vec<Times> {
@@ -120,7 +111,27 @@ impl<I, O: Clone + PartialEq + Debug> Bench for Row<I, O> {
     }
 }
 
-impl<I, O: Clone> Row<I, O> {
+impl<I, O: Clone + PartialEq + Debug> Row<I, O> {
+    /// Whether the contenders of some roles answer alike on every input.
+    fn alike(&self, asked: impl Fn(Role) -> bool) -> Result<(), String> {
+        for (k, input) in self.inputs.iter().enumerate() {
+            let mut first = None;
+            for contender in self.contenders.iter().filter(|c| asked(c.role)) {
+                let mut out = self.blank.clone();
+                (contender.call)(input, &mut out);
+                let (name, answer) = first.get_or_insert((contender.name, out.clone()));
+                if *answer != out {
+                    let title = &self.title;
+                    return Err(format!(
+                        "{title}, input {k}: {name} answers {answer:?}, {} answers {out:?}",
+                        contender.name
+                    ));
+                }
+            }
+        }
+        Ok(())
+    }
+
     /// Nanoseconds per call, over some inputs from a place on, in turn, and that for some rounds.
     fn time(&self, call: fn(&I, &mut O), from: usize, batch: Batch) -> f64 {
         let call = black_box(call);

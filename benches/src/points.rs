@@ -45,6 +45,18 @@ pub fn shares<N: Number>(rng: &mut Rng, n: u8, t: u8, lies: Lies) -> Shares<N> {
     Shares { n, t, shares }
 }
 
+/// Shares of which so many, in random places, were not sent, and so many of those sent are lies.
+pub fn dark_shares<N: Number>(rng: &mut Rng, n: u8, t: u8, dark: usize, lies: usize) -> Shares<N> {
+    let Shares { mut shares, .. } = shares(rng, n, t, Lies::At(&[]));
+    let order = rng.order(shares.len());
+    let (dark, sent) = order.split_at(dark);
+    dark.iter().for_each(|&place| shares[place] = N::NOT_SENT);
+    for &place in &sent[..lies] {
+        shares[place] = rng.wrong(shares[place]);
+    }
+    Shares { n, t, shares }
+}
+
 /// Shares at the points of a random table.
 pub fn tabled_shares<N: Number>(rng: &mut Rng, n: u8, t: u8, lies: Lies) -> Tabled<N, Shares<N>> {
     let table = rng.table(usize::from(n));
@@ -112,12 +124,12 @@ pub fn sometimes_spoilt<N: Number>(rng: &mut Rng, mut table: Vec<N>) -> Vec<N> {
     table
 }
 
-/// Any distinct points, and values with more or fewer lies than may be, some not sent.
+/// Any distinct points, and values with more or fewer lies than may be, some not sent, sometimes many.
 pub fn any_points<N: Number>(rng: &mut Rng) -> Points<N> {
     let t = 1 + rng.below(3);
     let count = 3 * t + 1 + rng.below(16 - 3 * t);
     let xs = any_table(rng, count);
-    let ys = disturbed(rng, t, &xs);
+    let ys = if rng.chance(25) { darkened(rng, t, &xs) } else { disturbed(rng, t, &xs) };
     Points { t: t as u8, xs, ys }
 }
 
@@ -128,21 +140,46 @@ pub fn bad_points<N: Number>(rng: &mut Rng) -> Points<N> {
     points
 }
 
+/// Makes values at the points for a degree.
+type Values<N> = fn(&mut Rng, usize, &[N]) -> Vec<N>;
+
 /// Any published shares of any size, likewise.
 pub fn any_shares<N: Number>(rng: &mut Rng) -> Shares<N> {
-    let t = 1 + rng.below(3);
-    let n = 4 * t + 1 + rng.below(16 - 4 * t);
-    let shares = disturbed(rng, t, &lamps(n));
-    Shares { n: n as u8, t: t as u8, shares }
+    shares_by(rng, disturbed)
+}
+
+/// The same with many not sent.
+pub fn any_dark_shares<N: Number>(rng: &mut Rng) -> Shares<N> {
+    shares_by(rng, darkened)
 }
 
 /// Any shares at the points of any table, the table sometimes bad.
 pub fn any_tabled_shares<N: Number>(rng: &mut Rng) -> Tabled<N, Shares<N>> {
-    let t = 1 + rng.below(3);
-    let n = 4 * t + 1 + rng.below(16 - 4 * t);
+    tabled_by(rng, disturbed)
+}
+
+/// The same with many not sent.
+pub fn any_dark_tabled_shares<N: Number>(rng: &mut Rng) -> Tabled<N, Shares<N>> {
+    tabled_by(rng, darkened)
+}
+
+fn shares_by<N: Number>(rng: &mut Rng, values: Values<N>) -> Shares<N> {
+    let (n, t) = any_size(rng);
+    let shares = values(rng, t, &lamps(n));
+    Shares { n: n as u8, t: t as u8, shares }
+}
+
+fn tabled_by<N: Number>(rng: &mut Rng, values: Values<N>) -> Tabled<N, Shares<N>> {
+    let (n, t) = any_size(rng);
     let table = any_table(rng, n);
-    let shares = disturbed(rng, t, &table);
+    let shares = values(rng, t, &table);
     Tabled { table: sometimes_spoilt(rng, table), question: Shares { n: n as u8, t: t as u8, shares } }
+}
+
+/// Any n and t within the sizes.
+pub fn any_size(rng: &mut Rng) -> (usize, usize) {
+    let t = 1 + rng.below(3);
+    (4 * t + 1 + rng.below(16 - 4 * t), t)
 }
 
 /// Values of any polynomial, sometimes a constant one: some lie, some lie by little, some were not sent.
@@ -158,4 +195,49 @@ fn disturbed<N: Number>(rng: &mut Rng, t: usize, xs: &[N]) -> Vec<N> {
         ys[place] = if rng.chance(70) { raised(rng, ys[place]) } else { rng.edge() };
     }
     ys
+}
+
+/// Values of any polynomial, many of them not sent.
+fn darkened<N: Number>(rng: &mut Rng, t: usize, xs: &[N]) -> Vec<N> {
+    let f: Vec<N> = (0..=t).map(|_| rng.edge()).collect();
+    let mut ys = values_of(rng, &f, xs, Lies::At(&[]));
+    darken(rng, t, xs, &mut ys);
+    ys
+}
+
+/// Takes away many of the values, in random places, and makes lies of some others. Mostly about 2t + 1 are left, the fewest
+/// that an opening needs, or about 3t + 1, the fewest among which t may lie; and none lie, or about t. Half of the time the
+/// liars agree with each other, on a polynomial that t of the others agree with too.
+pub fn darken<N: Number>(rng: &mut Rng, t: usize, xs: &[N], ys: &mut [N]) {
+    let order = rng.order(xs.len());
+    let count = match rng.below(4) {
+        0 => rng.below(xs.len() + 1),
+        1 => 3 * t + rng.below(3),
+        _ => 2 * t + rng.below(3),
+    };
+    let (sent, dark) = order.split_at(count.min(xs.len()));
+    dark.iter().for_each(|&place| ys[place] = raised(rng, ys[place]));
+    let lies = [0, t, t + 1, rng.below(t + 3)][rng.below(4)].min(sent.len());
+    let (liars, others) = sent.split_at(lies);
+    let kept: Vec<N> = others.iter().take(t).map(|&place| xs[place]).collect();
+    let (change, as_one) = (zero_at(rng, &kept), rng.chance(50));
+    for &place in liars {
+        let away = value(&change, xs[place].into());
+        ys[place] = if as_one { N::lent(N::mul_add(1, away, ys[place].into())) } else { rng.wrong(ys[place]) };
+    }
+}
+
+/// A polynomial that is 0 at these points.
+pub fn zero_at<N: Number>(rng: &mut Rng, points: &[N]) -> Vec<N> {
+    let mut product: Vec<N> = vec![rng.element()];
+    for &x in points {
+        let minus = N::P - x.into();
+        let mut raised = vec![N::from(0); product.len() + 1];
+        for (k, &c) in product.iter().enumerate() {
+            raised[k] = N::lent(N::mul_add(minus, c.into(), raised[k].into()));
+            raised[k + 1] = c;
+        }
+        product = raised;
+    }
+    product
 }

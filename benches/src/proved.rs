@@ -136,7 +136,6 @@ impl Library for u16 {
     const OLD: Option<Calls<u16>> = None;
 }
 
-/// Without an older library: there may be one without these functions.
 impl Library for u32 {
     const NOW: Calls<u32> = calls!(
         u32,
@@ -146,5 +145,15 @@ impl Library for u32 {
         doumbaht_open_wide,
         doumbaht_open_wide_with
     );
+    #[cfg(old)]
+    const OLD: Option<Calls<u32>> = Some(calls!(
+        u32,
+        old_doumbaht_deal_wide,
+        old_doumbaht_deal_wide_with,
+        old_doumbaht_repair_wide,
+        old_doumbaht_open_wide,
+        old_doumbaht_open_wide_with
+    ));
+    #[cfg(not(old))]
     const OLD: Option<Calls<u32>> = None;
 }

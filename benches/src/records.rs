@@ -8,7 +8,7 @@ use crate::plain::deal::deal;
 use crate::plain::field::{value, Number};
 use crate::plain::lamp::report;
 use crate::plain::record::{lengths, read};
-use crate::points::raised;
+use crate::points::{any_size, darken, lamps, raised, zero_at};
 use crate::rng::Rng;
 
 pub const EXAMPLE: &[u8] = include_bytes!("../../crates/bench/stdin");
@@ -115,8 +115,35 @@ pub fn widened(record: &[u8]) -> Vec<u8> {
 /// Any record, sometimes of F = 0: some numbers altered, reports mostly in keeping with them, sometimes a damaged head
 /// or end.
 pub fn any_record<N: Number>(rng: &mut Rng) -> Bytes {
-    let t = 1 + rng.below(3);
-    let n = 4 * t + 1 + rng.below(16 - 4 * t);
+    let mut bytes = any_until_reports::<N>(rng);
+    let (n, t) = sizes::<N>(&bytes);
+    let (from, end) = (starts::<N>(n, t)[3], bytes.len());
+    for _ in 0..rng.below(usize::from(t) + 2) {
+        alter::<N>(rng, &mut bytes, from, end);
+    }
+    damage(rng, &mut bytes);
+    Bytes(bytes)
+}
+
+/// The same with many shares not sent; in half of them nothing else is altered, so that the dealer is accepted.
+pub fn any_dark_record<N: Number>(rng: &mut Rng) -> Bytes {
+    let (n, t) = any_size(rng);
+    let Bytes(honest) = honest::<N>(rng, n as u8, t as u8);
+    let mut bytes = if rng.chance(50) { honest } else { any_until_reports::<N>(rng) };
+    let (n, t) = sizes::<N>(&bytes);
+    let from = starts::<N>(n, t)[3];
+    let mut shares: Vec<N> = bytes[from..].chunks_exact(N::BYTES).map(N::read).collect();
+    darken(rng, usize::from(t), &lamps(usize::from(n)), &mut shares);
+    for (k, &share) in shares.iter().enumerate() {
+        put(&mut bytes, from + N::BYTES * k, share);
+    }
+    damage(rng, &mut bytes);
+    Bytes(bytes)
+}
+
+/// Any record of which nothing is altered but deals, pairs and reports.
+fn any_until_reports<N: Number>(rng: &mut Rng) -> Vec<u8> {
+    let (n, t) = any_size(rng);
     let (n, t) = (n as u8, t as u8);
     let mut bytes = if rng.chance(25) { zero::<N>(n, t) } else { honest::<N>(rng, n, t).0 };
     alter_deals_and_pairs::<N>(rng, &mut bytes);
@@ -125,16 +152,11 @@ pub fn any_record<N: Number>(rng: &mut Rng) -> Bytes {
         let bits = report(&read::<N>(&bytes).ok().unwrap(), i);
         put(&mut bytes, starts[2] + 2 * (usize::from(i) - 1), bits);
     }
-    let end = bytes.len();
     for _ in 0..rng.below(6).saturating_sub(3) {
         let at = starts[2] + 2 * rng.below(usize::from(n));
         put(&mut bytes, at, rng.any());
     }
-    for _ in 0..rng.below(usize::from(t) + 2) {
-        alter::<N>(rng, &mut bytes, starts[3], end);
-    }
-    damage(rng, &mut bytes);
-    Bytes(bytes)
+    bytes
 }
 
 fn alter_deals_and_pairs<N: Number>(rng: &mut Rng, bytes: &mut [u8]) {
@@ -161,16 +183,8 @@ fn alter_deals_and_pairs<N: Number>(rng: &mut Rng, bytes: &mut [u8]) {
 fn alter_slyly<N: Number>(rng: &mut Rng, bytes: &mut [u8]) {
     let (n, t) = sizes::<N>(bytes);
     let (n, t) = (usize::from(n), usize::from(t));
-    let mut change: Vec<N> = vec![rng.element()];
-    for s in rng.order(n).into_iter().take(t) {
-        let minus = N::P - 1 - s as u32;
-        let mut raised = vec![N::from(0); change.len() + 1];
-        for (k, &c) in change.iter().enumerate() {
-            raised[k] = N::lent(N::mul_add(minus, c.into(), raised[k].into()));
-            raised[k + 1] = c;
-        }
-        change = raised;
-    }
+    let points: Vec<N> = rng.order(n).into_iter().take(t).map(|k| N::ONE_TO[k]).collect();
+    let change = zero_at(rng, &points);
     let half = rng.below(2 * n);
     for (k, &c) in change.iter().enumerate() {
         add(bytes, 18 + N::BYTES * (half * (t + 1) + k), c);

@@ -3,11 +3,11 @@
 use crate::contenders::{dealing, dealing_with, happy, opening, opening_with, repairing, writing};
 use crate::graphs::{self, Graph};
 use crate::hunt::{calls, neighbours};
-use crate::inputs::{Bytes, Dealing, Tabled, Text};
+use crate::inputs::{Bytes, Dealing, Shares, Tabled, Text};
 use crate::measure::{Bench, Row};
 use crate::plain::field::Number;
 use crate::plain::happy_now;
-use crate::points::{happy_points, shares, tabled_points, tabled_shares, Lies};
+use crate::points::{dark_shares, happy_points, shares, tabled_points, tabled_shares, Lies};
 use crate::proved::Library;
 use crate::records::{honest, shifted, widened, EXAMPLE, LIARS};
 use crate::rng::Rng;
@@ -126,6 +126,22 @@ const SIZES: [Size; 4] =
 /// One lie in each of the first three pairs: the worst for decoding by pairs, where the last choice is the first right one.
 const PAIRS: &[usize] = &[0, 2, 4];
 
+/// Openings with other lamps dark in each input: the word in the key, n and t, how many are dark, how many of those sent
+/// lie, and that in words. Nine dark of sixteen are the most with which a cubic opens.
+type Dark = (&'static str, (u8, u8), usize, usize, &'static str);
+const DARK: [Dark; 5] = [
+    ("dark2", (5, 1), 2, 0, "2 dark"),
+    ("dark3", (16, 3), 3, 0, "3 dark"),
+    ("dark9", (16, 3), 9, 0, "9 dark"),
+    ("dark6-lies", (16, 3), 6, 3, "6 dark, lies at 3 of those sent"),
+    ("dark10", (16, 3), 10, 0, "10 dark, refused"),
+];
+
+/// Whether a row of this key has dark lamps.
+pub fn has_dark(key: &str) -> bool {
+    key.contains("-dark")
+}
+
 /// Lies at `places`, in words that count from 1.
 fn lies_at(places: &[usize]) -> String {
     let named: Vec<String> = places.iter().map(|place| (place + 1).to_string()).collect();
@@ -161,8 +177,8 @@ fn repair_rows<N: Library>(count: usize) -> Vec<Box<dyn Bench>> {
     REPAIRS.map(row).into()
 }
 
-fn open_row<N: Library>(key: &str, (n, t): (u8, u8), count: usize, lies: Lies, title: &str) -> Box<dyn Bench> {
-    let inputs = made(count, |rng| shares::<N>(rng, n, t, lies));
+/// A row of openings, with a word for them in the key and some in the title.
+fn open_row<N: Library>(key: &str, (n, t): (u8, u8), title: &str, inputs: Vec<Shares<N>>) -> Box<dyn Bench> {
     let (key, title) = named::<N>(&format!("open{n}-{key}"), &format!("opening, n = {n}, t = {t}, {title}"));
     Box::new(opening(&key, &title, inputs))
 }
@@ -182,10 +198,15 @@ fn openings() -> Vec<(&'static str, (u8, u8), &'static [usize])> {
 }
 
 fn open_rows<N: Library>(count: usize) -> Vec<Box<dyn Bench>> {
-    let at = |(key, size, places)| open_row::<N>(key, size, count, Lies::At(places), &lies_at(places));
+    let lying =
+        |key, (n, t), lies, title: &str| open_row::<N>(key, (n, t), title, made(count, |rng| shares(rng, n, t, lies)));
+    let at = |(key, size, places)| lying(key, size, Lies::At(places), &lies_at(places));
     let mut rows: Vec<_> = openings().into_iter().map(at).collect();
-    rows.push(open_row::<N>("any", (16, 3), count, Lies::Any(3), "3 lies anywhere"));
-    rows.push(open_row::<N>("refused", (16, 3), count, Lies::At(&[0, 4, 8, 12]), "4 lies, refused"));
+    rows.push(lying("any", (16, 3), Lies::Any(3), "3 lies anywhere"));
+    rows.push(lying("refused", (16, 3), Lies::At(&[0, 4, 8, 12]), "4 lies, refused"));
+    rows.extend(DARK.map(|(key, (n, t), dark, lies, title)| {
+        open_row::<N>(key, (n, t), title, made(count, |rng| dark_shares(rng, n, t, dark, lies)))
+    }));
     rows
 }
 

@@ -46,7 +46,7 @@ static void print_opened(uint8_t refusal, uint32_t opened)
     printf("opened %lu\n", (unsigned long)opened);
 }
 
-/* Without a table: a dealing, an opening in which lamp 3 lies, and one in which lamps 3 and 4 do. */
+/* Without a table: a dealing, an opening in which lamp 3 lies, one in which lamp 4 is dark besides, and one in which both lie. */
 static void without(void)
 {
     uint32_t deals[DOUMBAHT_DEALS(N, T)] = {0}, shares[N] = {0}, opened = 0;
@@ -59,6 +59,9 @@ static void without(void)
     uint8_t refusal = doumbaht_open_wide(N, T, shares, N, &opened);
     print_opened(refusal, opened);
     shares[3] = DOUMBAHT_WIDE_NOT_SENT;
+    refusal = doumbaht_open_wide(N, T, shares, N, &opened);
+    print_opened(refusal, opened);
+    shares[3] = 998;
     refusal = doumbaht_open_wide(N, T, shares, N, &opened);
     print_opened(refusal, opened);
 }

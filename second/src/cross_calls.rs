@@ -3,11 +3,13 @@
 //! must print the same lines.
 
 use crate::calls::{call_name, call_text, Call, Step};
+use crate::dark::{self, Dark};
 use crate::field::Width;
 use crate::lists::random_lists;
 use crate::outcome::all_met;
 use crate::program::{self, Ran};
 use crate::short_inputs::short_inputs;
+use crate::stations::one_to;
 use crate::wire;
 use std::collections::BTreeMap;
 use std::path::Path;
@@ -16,8 +18,9 @@ use std::path::Path;
 const BATCH_LIMIT: usize = 60_000;
 
 /// Every kind of answer there is, by call; 0 stands for "ok". Saying a pair and
-/// settling are counted by the width of the party.
-pub const ANSWERS: [(&str, &[u8]); 18] = [
+/// settling are counted by the width of the party. Openings with many parties
+/// dark are counted once more under names of their own.
+pub const ANSWERS: [(&str, &[u8]); 30] = [
     ("make", &[0, 1, 2]),
     ("deal", &[0, 1, 2, 3, 4, 14, 18]),
     ("say", &[0, 1, 2, 4, 14]),
@@ -36,6 +39,18 @@ pub const ANSWERS: [(&str, &[u8]); 18] = [
     ("wide-desk", &[0, 1, 3, 5]),
     ("wide-make-table", &[0, 1, 2, 3, 14]),
     ("wide-desk-table", &[0, 1, 3, 5, 14]),
+    ("open-dark", &[0]),
+    ("open-dark-lies", &[0, 10]),
+    ("open-few", &[10]),
+    ("open-dark-table", &[0]),
+    ("open-dark-lies-table", &[0, 10]),
+    ("open-few-table", &[10]),
+    ("wide-open-dark", &[0]),
+    ("wide-open-dark-lies", &[0, 10]),
+    ("wide-open-few", &[10]),
+    ("wide-open-dark-table", &[0]),
+    ("wide-open-dark-lies-table", &[0, 10]),
+    ("wide-open-few-table", &[10]),
 ];
 
 /// How often each call had each answer.
@@ -54,6 +69,7 @@ struct Batch {
 #[derive(Default)]
 pub struct Done {
     pub lists: usize,
+    pub calls: usize,
     pub runs: usize,
     pub counts: Counts,
 }
@@ -73,11 +89,10 @@ pub fn cross_calls(seed: u64, count: usize, program: &Path) -> Result<String, St
 /// The text of success, unless some kind of answer should have come.
 pub fn success(seed: u64, done: &Done, short: usize) -> Result<String, String> {
     all_met(done.lists, "lists", &never_met(&done.counts))?;
-    let calls: usize = done.counts.values().sum();
     let answers = counts_text(&done.counts);
     Ok(format!(
-        "calls: {} lists of {calls} calls in {} runs of seed {seed}, all alike; {answers}; and {short} short inputs\n",
-        done.lists, done.runs
+        "calls: {} lists of {} calls in {} runs of seed {seed}, all alike; {answers}; and {short} short inputs\n",
+        done.lists, done.calls, done.runs
     ))
 }
 
@@ -87,6 +102,7 @@ fn cross_lists(seed: u64, count: usize, program: &Path) -> Result<Done, String> 
     let mut batch = Batch::default();
     for (number, list) in random_lists(seed, count).enumerate() {
         count_answers(&mut done.counts, &list);
+        done.calls += list.len();
         let bytes: Vec<u8> = list.iter().flat_map(|s| wire::write(&s.call)).collect();
         if batch.stream.len() + bytes.len() > BATCH_LIMIT {
             run_batch(&batch, program)?;
@@ -111,7 +127,40 @@ pub fn count_answers(counts: &mut Counts, list: &[Step]) {
     for step in list {
         let answer = step.answer.result.as_ref().err().copied().unwrap_or(0);
         *counts.entry((counted_as(step), answer)).or_default() += 1;
+        if let Some(name) = dark_name(step) {
+            *counts.entry((name, answer)).or_default() += 1;
+        }
     }
+}
+
+/// What an opening with many parties dark is counted as besides: by what was
+/// sent, the own share among it, by the width, and by whether the points are
+/// others than 1 to n.
+fn dark_name(step: &Step) -> Option<&'static str> {
+    let Call::Open(width, list) = &step.call else {
+        return None;
+    };
+    let opened = match &step.answer.result {
+        Ok(values) => Ok(values[0]),
+        Err(10) => Err(10),
+        Err(_) => return None,
+    };
+    let party = &step.before;
+    let mut published = list.clone();
+    published[party.number - 1] = party.share;
+    let kind = dark::kind_of(*width, &party.table, party.t, &published, opened)?;
+    let names = match kind {
+        Dark::Opened => ["open-dark", "open-dark-table"],
+        Dark::ThroughLies | Dark::Lies => ["open-dark-lies", "open-dark-lies-table"],
+        Dark::TooFew => ["open-few", "open-few-table"],
+    };
+    let name = names[usize::from(party.table != one_to(party.n))];
+    let listed = ANSWERS.iter().map(|&(listed, _)| listed);
+    let mut of_width = listed.filter(|listed| match width {
+        Width::Narrow => *listed == name,
+        Width::Wide => listed.strip_prefix("wide-") == Some(name),
+    });
+    of_width.next()
 }
 
 /// The call's name, with the party's width if it has none of its own.

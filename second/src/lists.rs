@@ -9,6 +9,7 @@ use crate::follow;
 use crate::lies::{about_t, enlarge, garble, garble_reports, wrong};
 use crate::party::{Party, Stage};
 use crate::poly::value;
+use crate::published::share_list;
 use crate::random_runs::random_run;
 use crate::record::{pair_place, Record};
 use crate::rng::Rng;
@@ -164,7 +165,10 @@ fn random_call(rng: &mut Rng, party: &Party, world: &Scenario) -> Call {
         1 => Call::Say(said_for(rng, party)),
         2 => Call::Hear(party.width, pair_list(rng, party, world)),
         3 => Call::Settle(report_list(rng, party, world)),
-        _ => Call::Open(party.width, share_list(rng, world)),
+        _ => {
+            let own = number_in(party, world);
+            Call::Open(party.width, share_list(rng, world, own))
+        }
     };
     if rng.chance(if usable { 12 } else { 30 }) {
         spoil_length(rng, &mut call);
@@ -311,31 +315,6 @@ fn report_list(rng: &mut Rng, party: &Party, world: &Scenario) -> Vec<u16> {
         if other != own {
             list[other] |= 1 << other | !((1u32 << n) - 1) as u16;
         }
-    }
-    list
-}
-
-/// Published shares: all true, about t wrong, another polynomial, or worse.
-fn share_list(rng: &mut Rng, world: &Scenario) -> Vec<u32> {
-    let Record { width, n, t, .. } = world.record;
-    let mut list = world.record.shares.clone();
-    let count = about_t(rng, n, t);
-    let some = rng.some_of(n, count);
-    match rng.below(10) {
-        0..=1 => {}
-        2..=6 => {
-            for j in some {
-                list[j - 1] = wrong(rng, width, list[j - 1]);
-            }
-        }
-        7 => {
-            let poly: Vec<u64> = (0..=t).map(|_| rng.element(width).into()).collect();
-            for j in (1..=n).filter(|j| !some.contains(j)) {
-                list[j - 1] = value(width, &poly, point(&world.table, j)) as u32;
-            }
-        }
-        8 => enlarge(rng, width, &mut list),
-        _ => garble(rng, width, &mut list),
     }
     list
 }

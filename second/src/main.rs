@@ -5,9 +5,13 @@ mod bench;
 mod calls;
 mod check;
 mod check_calls;
+mod check_open;
 mod clique;
 mod cross;
 mod cross_calls;
+mod dark;
+#[cfg(test)]
+mod dark_tests;
 mod dealer;
 mod desk_calls;
 mod field;
@@ -19,6 +23,9 @@ mod lists;
 mod lists_tests;
 mod make;
 mod named;
+mod named_dark;
+#[cfg(test)]
+mod named_dark_tests;
 mod named_wide;
 mod outcome;
 mod party;
@@ -26,6 +33,7 @@ mod poly;
 mod program;
 #[cfg(test)]
 mod program_tests;
+mod published;
 mod random_runs;
 mod record;
 mod rng;
@@ -56,6 +64,9 @@ mod story_wide;
 #[cfg(test)]
 mod story_wide_tests;
 mod story_widths;
+mod story_winter;
+#[cfg(test)]
+mod story_winter_tests;
 mod tables;
 #[cfg(test)]
 mod tables_tests;

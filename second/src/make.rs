@@ -4,7 +4,8 @@ use crate::field::Width;
 use crate::record::{head, lengths, write, Record, HEAD};
 use crate::rng::Rng;
 use crate::scenario::{
-    build, legal_size, Plan, DEAL_FAULTS, HONEST, PAIR_FAULTS, REPORT_FAULTS, SHARE_FAULTS,
+    build, legal_size, PairFault, Plan, ShareFault, DEAL_FAULTS, HONEST, PAIR_FAULTS,
+    REPORT_FAULTS, SHARE_FAULTS,
 };
 use std::fs;
 use std::io;
@@ -19,6 +20,8 @@ pub enum Kind {
     BadPairs,
     BadReports,
     BadShares,
+    /// Many parties publish nothing.
+    Dark,
     Mixed,
     Sections,
     RandomBytes,
@@ -32,7 +35,7 @@ pub enum Kind {
 const TWO_WIDTHS: usize = 4;
 
 /// Each other kind as often as it stands here.
-const KINDS: [Kind; 21] = [
+const KINDS: [Kind; 27] = [
     Kind::Honest,
     Kind::FewLiars,
     Kind::FewLiars,
@@ -47,6 +50,12 @@ const KINDS: [Kind; 21] = [
     Kind::BadReports,
     Kind::BadReports,
     Kind::BadShares,
+    Kind::Dark,
+    Kind::Dark,
+    Kind::Dark,
+    Kind::Dark,
+    Kind::Dark,
+    Kind::Dark,
     Kind::Mixed,
     Kind::Mixed,
     Kind::Sections,
@@ -75,6 +84,12 @@ pub fn plan(rng: &mut Rng, kind: Kind, n: usize, t: usize) -> Plan {
         }
         Kind::BadReports => plan.reports = rng.pick(&REPORT_FAULTS),
         Kind::BadShares => plan.shares = rng.pick(&SHARE_FAULTS),
+        Kind::Dark => {
+            plan.shares = ShareFault::Dark;
+            if rng.chance(20) {
+                plan.pairs = rng.pick(&[PairFault::Graph, PairFault::Repair]);
+            }
+        }
         Kind::Mixed | Kind::Directory => plan = mixed_plan(rng, n),
         _ => {}
     }

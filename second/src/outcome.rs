@@ -1,10 +1,13 @@
 //! The kinds of outcome that a record's text shows, to be counted for narrow and
 //! for wide records apart.
 
+use crate::dark::{self, Dark};
 use crate::field::Width;
+use crate::record;
+use crate::stations::one_to;
 
 /// How many kinds there are for each width.
-const OF_WIDTH: usize = 12;
+const OF_WIDTH: usize = 16;
 
 /// Every kind, in the order of the lines; first those of narrow records.
 pub const OUTCOMES: [&str; 2 * OF_WIDTH] = [
@@ -20,6 +23,10 @@ pub const OUTCOMES: [&str; 2 * OF_WIDTH] = [
     "opened",
     "opened refused 8",
     "opened refused 10",
+    "opened, more than t dark",
+    "opened through lies, more than t dark",
+    "opened refused 10, 2t lit and no lie",
+    "opened refused 10, more than t dark and lies",
     "wide record refused 1",
     "wide record refused 6",
     "wide dealer accepted",
@@ -32,6 +39,10 @@ pub const OUTCOMES: [&str; 2 * OF_WIDTH] = [
     "wide opened",
     "wide opened refused 8",
     "wide opened refused 10",
+    "wide opened, more than t dark",
+    "wide opened through lies, more than t dark",
+    "wide opened refused 10, 2t lit and no lie",
+    "wide opened refused 10, more than t dark and lies",
 ];
 
 /// How often each kind was met.
@@ -50,8 +61,28 @@ fn kind_of(line: &str, happy: &[&str]) -> String {
     }
 }
 
+/// How the opening of a record with many parties dark is called, if it is one
+/// that is counted.
+fn dark_kind(bytes: &[u8], text: &str) -> Option<&'static str> {
+    let record = record::read(bytes).ok()?;
+    let opened = match text.lines().last()?.strip_prefix("opened ")? {
+        "refused 8" => return None,
+        "refused 10" => Err(10),
+        number => Ok(number.parse().ok()?),
+    };
+    let table = one_to(record.n);
+    let kind = dark::kind_of(record.width, &table, record.t, &record.shares, opened)?;
+    Some(match kind {
+        Dark::Opened => "opened, more than t dark",
+        Dark::ThroughLies => "opened through lies, more than t dark",
+        Dark::TooFew => "opened refused 10, 2t lit and no lie",
+        Dark::Lies => "opened refused 10, more than t dark and lies",
+    })
+}
+
 /// Adds the outcomes of a record's text. The lines of size and of happy lamps
-/// are none. A record is wide if its first byte says so.
+/// are none; that of the opening may be two. A record is wide if its first byte
+/// says so.
 pub fn count(counts: &mut Counts, record: &[u8], text: &str) {
     let first = match record.first().map(|&byte| Width::of_byte(byte)) {
         Some(Width::Wide) => OF_WIDTH,
@@ -62,8 +93,8 @@ pub fn count(counts: &mut Counts, record: &[u8], text: &str) {
         .filter(|line| line.starts_with("happy "))
         .flat_map(|line| line.split(' ').skip(1))
         .collect();
-    for line in text.lines() {
-        let kind = kind_of(line, &happy);
+    let dark = dark_kind(record, text).map(str::to_string);
+    for kind in text.lines().map(|line| kind_of(line, &happy)).chain(dark) {
         let kinds = &OUTCOMES[..OF_WIDTH];
         if let Some(k) = kinds.iter().position(|&name| name == kind) {
             counts[first + k] += 1;

@@ -6,7 +6,7 @@
 use crate::clique::{members, verdict};
 use crate::dealer::legal_size;
 use crate::field::Width;
-use crate::fit::{fit, open_with, Point};
+use crate::fit::{fit, open_with, Point, Rule};
 use crate::poly::{from_numbers, value};
 use crate::stations::{check_table, one_to, point};
 
@@ -230,7 +230,7 @@ impl Party {
             .into_iter()
             .map(|j| (point(&self.table, j), self.pairs[2 * (j - 1)]))
             .collect();
-        fit(self.width, &points, self.t).map(|column| column[0] as u32)
+        fit(self.width, Rule::Column, &points, self.t).map(|column| column[0] as u32)
     }
 
     fn end(&mut self, stage: Stage, share: u32, happy: u16) {
@@ -239,7 +239,8 @@ impl Party {
         self.happy = happy;
     }
 
-    /// Opens from n published shares, with the own share in the own place.
+    /// Opens from n published shares, with the own share in the own place. It is
+    /// below the prime, so it counts as sent.
     pub fn open(&self, list: &[u32]) -> Result<u32, u8> {
         self.check_call(list.len(), self.n, Stage::Holding)?;
         let mut published = list.to_vec();

@@ -8,6 +8,7 @@ use crate::desk_calls::random_desk_call;
 use crate::field::Width;
 use crate::lies::wrong;
 use crate::party::Party;
+use crate::published::dark_list;
 use crate::record::{pair_place, Record};
 use crate::rng::Rng;
 use crate::scenario::{build, build_on, legal_size, DealFault, PairFault, Plan, Scenario, HONEST};
@@ -103,8 +104,9 @@ fn desk_call(world: &Scenario, table: Option<&[u32]>) -> Call {
     }
 }
 
-/// Party i from its making to two openings, the second with one more number
-/// wrong, and some of its pairs on the way.
+/// Party i from its making to four openings, the second with one more number
+/// wrong and the last two with many parties dark, and some of its pairs on the
+/// way.
 fn party_calls(rng: &mut Rng, world: &Scenario, table: Option<&[u32]>, i: usize) -> Vec<Call> {
     let record = &world.record;
     let Record { width, n, t, .. } = *record;
@@ -128,5 +130,6 @@ fn party_calls(rng: &mut Rng, world: &Scenario, table: Option<&[u32]>, i: usize)
         Call::Open(width, record.shares.clone()),
         Call::Open(width, shares),
     ]);
+    calls.extend((0..2).map(|_| Call::Open(width, dark_list(rng, world, i))));
     calls
 }

@@ -75,6 +75,8 @@ pub enum ShareFault {
     Wrong,
     /// All but about t numbers on another polynomial.
     Other,
+    /// Many not sent, and some wrong: near the borders of an opening.
+    Dark,
     Large,
     /// All the same: not sent, or zero, or another number.
     Flat,
@@ -124,9 +126,10 @@ pub const REPORT_FAULTS: [ReportFault; 5] = [
     ReportFault::Garbage,
 ];
 
-pub const SHARE_FAULTS: [ShareFault; 5] = [
+pub const SHARE_FAULTS: [ShareFault; 6] = [
     ShareFault::Wrong,
     ShareFault::Other,
+    ShareFault::Dark,
     ShareFault::Large,
     ShareFault::Flat,
     ShareFault::Garbage,

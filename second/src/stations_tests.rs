@@ -260,6 +260,8 @@ fn opening_by_the_table() {
         one_wrong[j] = 999;
         assert_eq!(open_with(Narrow, &STATIONS, &one_wrong, 1), Ok(7));
         one_wrong[(j + 1) % 5] = NOT_SENT;
+        assert_eq!(open_with(Narrow, &STATIONS, &one_wrong, 1), Ok(7));
+        one_wrong[(j + 2) % 5] = NOT_SENT;
         assert_eq!(open_with(Narrow, &STATIONS, &one_wrong, 1), Err(10));
     }
     let reversed: Vec<u32> = SHARES.iter().rev().copied().collect();

@@ -10,6 +10,12 @@ use crate::store::{collection, Entry, LEGAL, RANDOM, RANDOM_WIDE, REFUSED, SEED}
 use std::collections::BTreeMap;
 use std::sync::OnceLock;
 
+/// How many narrow records are made for one thing each.
+const MADE: usize = 490;
+
+/// How many wide ones.
+const MADE_WIDE: usize = 226;
+
 /// Building the collection takes a while, so the tests share one.
 fn entries() -> &'static [Entry] {
     static ENTRIES: OnceLock<Vec<Entry>> = OnceLock::new();
@@ -41,8 +47,8 @@ fn short(name: &str) -> String {
 #[test]
 fn names_are_plain_and_sorted() {
     let names: Vec<&str> = entries().iter().map(|entry| entry.0.as_str()).collect();
-    let narrow = 391 + RANDOM;
-    assert_eq!(names.len(), narrow + 124 + RANDOM_WIDE);
+    let narrow = MADE + RANDOM;
+    assert_eq!(names.len(), narrow + MADE_WIDE + RANDOM_WIDE);
     let is_wide = |name: &str| name.starts_with("wide-");
     assert!(names[narrow..].iter().all(|name| is_wide(name)));
     assert!(!names[..narrow].iter().any(|name| is_wide(name)));
@@ -71,8 +77,8 @@ fn hash(entries: &[Entry]) -> String {
 /// Who changes the collection sees it here. The narrow ones come first.
 #[test]
 fn the_collection_is_fixed() {
-    assert_eq!(hash(&entries()[..391 + RANDOM]), "22f92cfec9f4e190");
-    assert_eq!(hash(entries()), "45d9b625d8c229a6");
+    assert_eq!(hash(&entries()[..MADE + RANDOM]), "1d7ca9ad602c3f32");
+    assert_eq!(hash(entries()), "7e339fb910f63688");
 }
 
 #[test]
@@ -99,7 +105,7 @@ fn the_random_ones_are_of_every_kind() {
             assert_eq!(bytes_of(&format!("{name}-{k:03}")), bytes);
             *kinds.entry(kind).or_default() += 1;
         }
-        assert_eq!(kinds.len(), 12, "{kinds:?}");
+        assert_eq!(kinds.len(), 13, "{kinds:?}");
         assert!(kinds.values().all(|&times| times >= least), "{kinds:?}");
     }
 }
@@ -244,8 +250,8 @@ fn m7_hears_what_it_must() {
 const PIECES: [(&str, &str); 64] = [
     ("m12-secret-65520", "lamp 5 share 14|opened 65520"),
     ("open-one-not-sent", "opened 7"),
-    ("open-two-not-sent", "opened refused 10"),
-    ("open-wrong-and-not-sent", "opened refused 10"),
+    ("open-two-not-sent", "|opened 7"),
+    ("open-wrong-and-not-sent", "|opened 7"),
     ("open-other-line-all", "lamp 5 share 22|opened 1000"),
     ("open-09-1-wrong-2", "opened refused 10"),
     ("open-16-1-wrong-2", "opened refused 10"),
@@ -271,10 +277,7 @@ const PIECES: [(&str, &str); 64] = [
         "lamp-9-two-lies-of-4",
         "lamp 4 share 19|lamp 5 refused 9|opened 7",
     ),
-    (
-        "lamp-9-published-wrong",
-        "lamp 5 refused 9|opened refused 10",
-    ),
+    ("lamp-9-published-wrong", "lamp 5 refused 9|opened 7"),
     ("lamp-9-two-not-sent", "lamp 5 refused 9"),
     ("repair-one-not-sent", "happy 1 2 3 4|"),
     ("repair-one-not-sent", "lamp 5 share 22"),
@@ -307,7 +310,7 @@ const PIECES: [(&str, &str); 64] = [
     ("repair-firsts-on-a-line", "lamp 5 share 1000"),
     ("repair-foreign-deal", "lamp 5 share 22"),
     ("edge-everywhere-65520", "lamp 5 share 65520|opened 65520"),
-    ("edge-two-shares-65521", "opened refused 10"),
+    ("edge-two-shares-65521", "|opened 0"),
     (
         "wide-example",
         "dealer accepted|happy 1 2 3 4 5|lamp 1 share 10|",
@@ -332,10 +335,10 @@ const PIECES: [(&str, &str); 64] = [
     ),
     ("wide-trap", "dealer rejected|lamp 1 refused 8"),
     ("wide-open-one-not-sent", "|opened 7"),
-    ("wide-open-two-not-sent", "|opened refused 10"),
+    ("wide-open-two-not-sent", "|opened 7"),
     ("wide-open-none-sent", "|opened refused 10"),
     ("wide-open-all-65535", "|opened 65535"),
-    ("wide-open-prime-added-twice", "|opened refused 10"),
+    ("wide-open-prime-added-twice", "|opened 7"),
     (
         "wide-open-one-wrong-of-a-line",
         "lamp 5 share 22|opened 1000000000",

@@ -3,7 +3,7 @@
 //! desk is called where a dealing is asked for.
 
 use crate::calls::{line, step, Call, Step};
-use crate::field::Width::Narrow;
+use crate::field::Width::{Narrow, Wide};
 use crate::party::Party;
 use crate::story_refusals as refusals;
 use crate::story_runs as runs;
@@ -11,6 +11,7 @@ use crate::story_stations as stations;
 use crate::story_tables as tables;
 use crate::story_wide as wide;
 use crate::story_widths as widths;
+use crate::story_winter as winter;
 use crate::wire;
 
 /// A story's name and its calls.
@@ -18,6 +19,10 @@ pub type Story = (&'static str, Vec<Call>);
 
 /// All of them, in the order in which they are shown and sent.
 pub fn all() -> Vec<Story> {
+    [without_tables(), with_tables(), of_wide_parties()].concat()
+}
+
+fn without_tables() -> Vec<Story> {
     vec![
         ("honest", runs::honest()),
         ("liar", runs::liar()),
@@ -29,8 +34,17 @@ pub fn all() -> Vec<Story> {
         ("refused-made", refusals::badly_made(Narrow)),
         ("refused-stages", refusals::stages(Narrow)),
         ("refused-closed", refusals::closed(Narrow)),
+        ("winter", winter::winter(Narrow)),
+        ("winter-liar", winter::liar()),
+        ("winter-sixteen", winter::sixteen(Narrow)),
+        ("winter-repair", winter::repair()),
         ("trap", runs::trap()),
         ("trap-liar", runs::trap_liar()),
+    ]
+}
+
+fn with_tables() -> Vec<Story> {
+    vec![
         ("stations-liar", stations::liar()),
         ("stations-repair", stations::repair()),
         ("stations-two-liars", stations::two_liars()),
@@ -39,11 +53,19 @@ pub fn all() -> Vec<Story> {
         ("stations-trap", stations::trap()),
         ("stations-other-table", stations::other_table()),
         ("stations-one-entry", stations::one_entry()),
+        ("winter-stations", winter::stations(Narrow)),
+        ("winter-stations-nine", winter::stations_nine(Narrow)),
         ("refused-tables", tables::makings()),
         ("refused-tables-desk", tables::desks()),
         ("refused-tables-calls", tables::calls()),
         ("one-to-n-unsound", tables::one_to_n_unsound()),
         ("one-to-n-stages", tables::one_to_n_stages()),
+    ]
+}
+
+/// With tables and without, and such as are about both widths.
+fn of_wide_parties() -> Vec<Story> {
+    vec![
         ("wide-honest", wide::honest()),
         ("wide-liar", wide::liar()),
         ("wide-repair", wide::repair()),
@@ -64,6 +86,11 @@ pub fn all() -> Vec<Story> {
         ("widths-narrow-party", widths::narrow_party()),
         ("widths-order", widths::order()),
         ("widths-desks", widths::desks()),
+        ("wide-winter", winter::winter(Wide)),
+        ("wide-winter-liar", winter::wide_liar()),
+        ("wide-winter-sixteen", winter::sixteen(Wide)),
+        ("wide-winter-stations", winter::stations(Wide)),
+        ("wide-winter-stations-nine", winter::stations_nine(Wide)),
     ]
 }
 

@@ -222,7 +222,7 @@ pub fn unsound() -> Vec<Call> {
 }
 
 /// Two lie to party 5, one more than may be: it is closed and publishes
-/// nothing. The others open through that alone, not through a lie as well.
+/// nothing. The others open through that and a lie, not through two lies.
 pub fn unsound_two_liars() -> Vec<Call> {
     let liars = [(2, 4321, 998), (3, 1234, 999)].map(|(number, first, share)| Liar {
         number,

@@ -129,7 +129,7 @@ fn unsound_with_two_liars_fits_no_column() {
             "open 10 13 16 19 65535",
         ];
         assert_eq!(asked(name, i, "open"), lists);
-        let opened = ["refused 10", "refused 10", "refused 10", "ok 7"];
+        let opened = ["refused 10", "refused 10", "ok 7", "ok 7"];
         let wanted = opened.map(|answer| format!("{answer} ; {state}"));
         assert_eq!(answers(name, i, "open"), wanted);
     }

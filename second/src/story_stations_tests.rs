@@ -124,7 +124,7 @@ fn stations_two_liars_fit_no_column() {
     assert_eq!(only_answer(name, 5, "open"), "refused 4 ; 4 0 15");
     for i in [1, 4] {
         let state = format!("3 {} 15", SHARES[i - 1]);
-        let opened = ["refused 10", "refused 10", "ok 7"];
+        let opened = ["refused 10", "ok 7", "ok 7"];
         let wanted = opened.map(|answer| format!("{answer} ; {state}"));
         assert_eq!(answers(name, i, "open"), wanted);
     }

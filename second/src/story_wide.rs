@@ -146,7 +146,7 @@ pub fn stations() -> Vec<Call> {
 }
 
 /// Two lie to party 5, one more than may be: it is closed. The others open if
-/// its number alone is missing, not with a lie as well.
+/// its number is missing, also with a lie as well, not with two.
 pub fn two_liars() -> Vec<Call> {
     let liars = [(2, 4321, 998), (3, PRIME, 999)].map(|(number, first, share)| Liar {
         number,

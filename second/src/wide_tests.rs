@@ -181,8 +181,10 @@ fn wide_openings() {
     for (shares, opened) in [
         ([10, 13, 999, 19, 22], Ok(7)),
         ([10, 13, PRIME, 19, 22], Ok(7)),
-        ([10, 13, PRIME, WIDE_NOT_SENT, 22], Err(10)),
-        ([10 + PRIME, 13 + PRIME, 16, 19, 22], Err(10)),
+        ([10, 13, PRIME, WIDE_NOT_SENT, 22], Ok(7)),
+        ([10, 13, PRIME, WIDE_NOT_SENT, PRIME + 1], Err(10)),
+        ([10 + PRIME, 13 + PRIME, 16, 19, 22], Ok(7)),
+        ([10 + PRIME, 13 + PRIME, 16 + PRIME, 19, 22], Err(10)),
         ([65_535; 5], Ok(65_535)),
         ([PRIME - 1; 5], Ok(PRIME - 1)),
         ([PRIME; 5], Err(10)),

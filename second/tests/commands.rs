@@ -107,13 +107,14 @@ fn stored_stream_has_the_stories_first() {
     let text = String::from_utf8(second(&["stories"])).unwrap();
     let (names, lines): (Vec<&str>, Vec<&str>) =
         text.lines().partition(|line| line.starts_with("# "));
-    assert_eq!((names.len(), lines.len()), (45, 3278));
-    assert_eq!((names[0], names[11]), ("# honest", "# trap-liar"));
+    assert_eq!((names.len(), lines.len()), (56, 4746));
+    assert_eq!((names[0], names[15]), ("# honest", "# trap-liar"));
     assert_eq!(
-        (names[12], names[24]),
+        (names[16], names[30]),
         ("# stations-liar", "# one-to-n-stages")
     );
-    assert_eq!((names[25], names[44]), ("# wide-honest", "# widths-desks"));
+    assert_eq!((names[31], names[50]), ("# wide-honest", "# widths-desks"));
+    assert_eq!(names[55], "# wide-winter-stations-nine");
     let bytes = second(&["story-stream"]);
     assert_eq!(words_of(&bytes), calls_words(&(lines.join("\n") + "\n")));
     let answered = out(&answer(&bytes));

@@ -34,10 +34,10 @@ fn cross_passes_with_the_same_program() {
     let first = "bench: 60 records and 12 long inputs of seed 3, all alike";
     assert_eq!(lines.next(), Some(first));
     let counts: Vec<&str> = lines.collect();
-    assert_eq!(counts.len(), 24);
+    assert_eq!(counts.len(), 32);
     let number = |line: &str| -> usize { line[..8].trim().parse().unwrap() };
     // Every record is refused, accepted or rejected, narrow or wide.
-    let ends = counts[..4].iter().chain(&counts[12..16]);
+    let ends = counts[..4].iter().chain(&counts[16..20]);
     assert_eq!(ends.map(|line| number(line)).sum::<usize>(), 60);
 }
 

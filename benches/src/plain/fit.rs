@@ -121,8 +121,15 @@ pub fn search<N: Number>(
     search(xs, ys, test, i + 1, more, spare - 1, taken)
 }
 
-/// How many of the values sent may be wrong.
+/// How many values were sent.
 #[inline]
-pub fn surplus<N: Number>(need: usize, ys: &[N]) -> usize {
-    ys.iter().filter(|y| y.is_sent()).count().saturating_sub(need)
+pub fn sent<N: Number>(ys: &[N]) -> usize {
+    ys.iter().filter(|y| y.is_sent()).count()
+}
+
+/// How many must agree where so many shares were sent for an opening: at least 2t + 1, and all of those sent but t. A repair
+/// needs all of its points but t, sent or not. Either way at most one polynomial fits.
+#[inline(always)]
+pub fn needed(t: usize, sent: usize) -> usize {
+    (2 * t + 1).max(sent.saturating_sub(t))
 }

@@ -1,10 +1,13 @@
 //! Decoding by groups: where at most one polynomial fits, t + 1 points that fail hold a wrong one, so they are dropped,
 //! and one fewer may be wrong among the rest. Where the rest gets short, its choices are tried as in the first
 //! algorithm. A cubic with three wrong points among fewer than 16 is looked for by pairs of points.
+//!
+//! An opening first asks whether all lamps but t agree with the first t + 1 sent: then it opens, whoever is dark. Only
+//! where they do not, those sent are counted.
 
 use super::differences_now;
 use super::field::Number;
-use super::fit::{cubic, enough, interpolate, search, surplus, Taken};
+use super::fit::{cubic, enough, interpolate, needed, search, sent, Taken};
 
 pub const NAME: &str = "groups of t + 1, or pairs";
 
@@ -13,6 +16,10 @@ const CHOICES: [(usize, usize); 9] = [(4, 6), (0, 4), (0, 6), (2, 4), (2, 6), (0
 
 pub fn fit<N: Number>(t: usize, need: usize, xs: &[N], ys: &[N]) -> Option<[N; 4]> {
     fit_by(differences_now::differences::<N>, t, need, xs, ys)
+}
+
+pub fn open<N: Number>(t: usize, xs: &[N], ys: &[N]) -> Option<[N; 4]> {
+    open_by(differences_now::differences::<N>, t, xs, ys)
 }
 
 /// With Newton's coefficients of four points taken so.
@@ -24,41 +31,95 @@ pub fn fit_by<N: Number>(
     xs: &[N],
     ys: &[N],
 ) -> Option<[N; 4]> {
-    if 3 < t || xs.len() != ys.len() {
-        return None;
-    }
-    // Four points have their own way, as in the library.
-    let differences = &differences;
-    let test = |taken: &Taken| {
-        let f = if taken.count == 4 { cubic(taken.xs, differences(taken.xs, taken.ys)) } else { interpolate(taken) };
-        enough(&f, need, xs, ys).then_some(f)
-    };
-    let next = |i| test(&taken_from(i, t + 1, xs, ys)?);
-    let first = next(0);
+    let points = Points::new(differences, t, xs, ys)?;
+    let first = points.next(need, 0);
     if first.is_some() {
         return first;
     }
-    let spare = surplus(need, ys);
-    if spare == 0 {
-        return None;
+    points.later(need, sent(ys))
+}
+
+/// The same for an opening, in the library's order: where some lamps are dark, the first points are tried again with the
+/// need of those sent, and then the others.
+#[inline(always)]
+pub fn open_by<N: Number>(
+    differences: impl Fn([u32; 4], [u32; 4]) -> [u32; 4],
+    t: usize,
+    xs: &[N],
+    ys: &[N],
+) -> Option<[N; 4]> {
+    let points = Points::new(differences, t, xs, ys)?;
+    let first = points.next(needed(t, ys.len()), 0);
+    if first.is_some() {
+        return first;
     }
-    if need <= spare + t {
-        return search(xs, ys, &test, 0, t + 1, spare, Taken::default());
-    }
-    if t == 3 && spare == 3 && spare + need < 16 {
-        return pairs(differences, need, xs, ys);
-    }
-    let (mut i, mut left, mut wrong) = (0, spare + need, spare);
-    while 2 * t + 1 + wrong <= left {
-        i = behind(ys, i, t + 1);
-        left -= t + 1;
-        wrong -= 1;
-        let group = next(i);
-        if group.is_some() || wrong == 0 {
-            return group;
+    let sent = sent(ys);
+    let need = needed(t, sent);
+    if sent < ys.len() {
+        let again = points.next(need, 0);
+        if again.is_some() {
+            return again;
         }
     }
-    search(xs, ys, &test, i, t + 1, wrong, Taken::default())
+    points.later(need, sent)
+}
+
+/// What is decoded: a polynomial of degree t, and the points.
+struct Points<'a, N, D> {
+    differences: D,
+    t: usize,
+    xs: &'a [N],
+    ys: &'a [N],
+}
+
+impl<'a, N: Number, D: Fn([u32; 4], [u32; 4]) -> [u32; 4]> Points<'a, N, D> {
+    #[inline(always)]
+    fn new(differences: D, t: usize, xs: &'a [N], ys: &'a [N]) -> Option<Self> {
+        (t <= 3 && xs.len() == ys.len()).then_some(Points { differences, t, xs, ys })
+    }
+
+    /// The polynomial through the points taken, if enough agree. Four points have their own way, as in the library. It is
+    /// called: written out in the loop over groups, it is short of registers.
+    #[inline(never)]
+    fn test(&self, need: usize, taken: &Taken) -> Option<[N; 4]> {
+        let four = || cubic(taken.xs, (self.differences)(taken.xs, taken.ys));
+        let f = if taken.count == 4 { four() } else { interpolate(taken) };
+        enough(&f, need, self.xs, self.ys).then_some(f)
+    }
+
+    /// That through the next t + 1 points sent from place i on.
+    #[inline(always)]
+    fn next(&self, need: usize, i: usize) -> Option<[N; 4]> {
+        self.test(need, &taken_from(i, self.t + 1, self.xs, self.ys)?)
+    }
+
+    /// The search where the first t + 1 of so many points sent have failed.
+    #[inline(always)]
+    fn later(&self, need: usize, sent: usize) -> Option<[N; 4]> {
+        let (t, xs, ys) = (self.t, self.xs, self.ys);
+        let test = |taken: &Taken| self.test(need, taken);
+        if sent <= need {
+            return None;
+        }
+        let spare = sent - need;
+        if need <= spare + t {
+            return search(xs, ys, &test, 0, t + 1, spare, Taken::default());
+        }
+        if t == 3 && spare == 3 && sent < 16 {
+            return pairs(&self.differences, need, xs, ys);
+        }
+        let (mut i, mut left, mut wrong) = (0, sent, spare);
+        while 2 * t + 1 + wrong <= left {
+            i = behind(ys, i, t + 1);
+            left -= t + 1;
+            wrong -= 1;
+            let group = self.next(need, i);
+            if group.is_some() || wrong == 0 {
+                return group;
+            }
+        }
+        search(xs, ys, &test, i, t + 1, wrong, Taken::default())
+    }
 }
 
 /// Of five pairs of points two have no wrong one, where three of the ten are wrong.

@@ -2,7 +2,7 @@
 //! points taken so far, and the count stops where too many have differed.
 
 use super::field::Number;
-use super::fit::{multiplied_out, surplus};
+use super::fit::{multiplied_out, needed, sent};
 
 pub const NAME: &str = "every choice in order, with Newton's form carried along";
 
@@ -24,8 +24,13 @@ pub fn fit<N: Number>(t: usize, need: usize, xs: &[N], ys: &[N]) -> Option<[N; 4
     if 3 < t || xs.len() != ys.len() || xs.len() < need {
         return None;
     }
-    let form = Search { need, xs, ys }.from(0, t + 1, surplus(need, ys), Form::default())?;
+    let spare = sent(ys).saturating_sub(need);
+    let form = Search { need, xs, ys }.from(0, t + 1, spare, Form::default())?;
     Some(multiplied_out(&form.xs, form.coefficients, form.count))
+}
+
+pub fn open<N: Number>(t: usize, xs: &[N], ys: &[N]) -> Option<[N; 4]> {
+    fit(t, needed(t, sent(ys)), xs, ys)
 }
 
 impl Form {

@@ -2,12 +2,16 @@
 //! and all points are counted.
 
 use super::field::Number;
-use super::fit::{interpolate, search, surplus, value, Taken};
+use super::fit::{interpolate, needed, search, sent, value, Taken};
 
 pub const NAME: &str = "every choice in order";
 
 pub fn fit<N: Number>(t: usize, need: usize, xs: &[N], ys: &[N]) -> Option<[N; 4]> {
-    choices(t, need, xs, ys, surplus(need, ys))
+    choices(t, need, xs, ys, sent(ys).saturating_sub(need))
+}
+
+pub fn open<N: Number>(t: usize, xs: &[N], ys: &[N]) -> Option<[N; 4]> {
+    fit(t, needed(t, sent(ys)), xs, ys)
 }
 
 /// The choices of t + 1 among the first t + 1 + spare points sent, in order, until one fits.

@@ -55,11 +55,13 @@ pub fn report<N: Number>(record: &Record<N>, i: u8) -> u16 {
     bits
 }
 
-/// How the happy set and a fit are found. With `ONCE` the happy set of the reports is found once for all lamps.
+/// How the happy set, the fit of a repair and that of an opening are found. With `ONCE` the happy set of the reports is
+/// found once for all lamps.
 pub trait Ways {
     const ONCE: bool;
     fn happy_set(reports: &[u16]) -> u16;
     fn fit<N: Number>(t: usize, need: usize, xs: &[N], ys: &[N]) -> Option<[N; 4]>;
+    fn open<N: Number>(t: usize, xs: &[N], ys: &[N]) -> Option<[N; 4]>;
 }
 
 /// The constant of the column that fits what the happy lamps said first.

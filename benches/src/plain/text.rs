@@ -64,7 +64,7 @@ fn put_last<W: Ways, N: Number>(record: &Record<N>, accepted: bool, letters: &mu
     }
     let (n, t) = (usize::from(record.n), usize::from(record.t));
     let shares: [N; 16] = numbers(record.shares);
-    match W::fit(t, n - t, &N::ONE_TO[..n], &shares[..n]) {
+    match W::open(t, &N::ONE_TO[..n], &shares[..n]) {
         Some(f) => letters.put_line(b"opened ", f[0]),
         None => letters.put_line(b"opened refused ", 10u16),
     }

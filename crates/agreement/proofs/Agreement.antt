@@ -3,23 +3,22 @@
 use mathlib.Core.Path.{_≡_, refl, sym, ap, ap₂, subst, _∙_}
 use mathlib.Core.Logic.{_≢_, _⊎_, inl, inr, ⊎-elim}
 use mathlib.Core.Bool.{true, false}
-use mathlib.Core.Option.{none, some}
-use mathlib.Core.List.{List}
-use Prim.Native.Nat.{ℕ, _-_, _^_, _≤_, _<_}
-use native.Mathlib.Decide.{ℕ-discrete}
+use mathlib.Core.Option.{Option, none, some}
+use mathlib.Core.List.{List, [], _∷_}
+use Prim.Native.Nat.{ℕ, _+_, _*_, _-_, _^_, _≤_, _<_}
 use native.Mathlib.Omega.{arith}
 use lib.Count.{ones}
-use lib.ListN.{length, getD, set, take, drop, length-set}
-use lib.Seq.{getD-set-same, getD-set-other}
+use lib.ListN.{length, getD, set, take, drop}
 use Rattle.lists.specs.Tabulate.{pad}
 use Rattle.lists.proofs.Cases.{true-or-false, not-both, le-or-lt}
 use Rattle.field.specs.declared.Width.{Width}
 use Rattle.field.proofs.Primes.{prime-of}
-use Rattle.polynomial.specs.Polynomial.{value}
+use Rattle.polynomial.specs.Polynomial.{Poly, value}
 use Rattle.bivariate.proofs.Crossing.{row-poly, column-poly, crossing}
 use Rattle.bivariate.proofs.Terms.{row-at, at-secret}
 use Rattle.happy.specs.Happy.{happySet}
-use Rattle.parties.specs.Parties.{parties, member, entry}
+use Rattle.fit.specs.Opening.{openingOf}
+use Rattle.parties.specs.Parties.{isParty, parties, member, entry}
 use Rattle.parties.proofs.Parties.{sizes-facts, party-facts, party-true, mem-parties}
 use Rattle.dealer.specs.Desk as desks
 use Rattle.dealer.proofs.Desk.{take-deal, drop-deal, desk-written, desk-stretch}
@@ -30,13 +29,16 @@ use Rattle.lamp.specs.declared.Reply.{Reply}
 use Rattle.answers.specs.Answers.{numberOf, valuesOf}
 use Rattle.recovery.specs.Recovery.{repair, openingWith}
 use Rattle.answers.specs.Fits.{constant}
-use Rattle.lamp.specs.Lamp.{tableOf, openShares, reply, firsts, withDeal, withPairs, atEnd, settled, opening, step}
+use Rattle.lamp.specs.Lamp.{Call, tableOf, openShares, reply, firsts, withDeal, withPairs, atEnd, settled, opening, opened, step}
 use Rattle.agreement.specs.Setting.{Setting, setting, withTable, Legal, prime, terms, point, valueOf, rowFor, columnFor, zeroRow}
-use Rattle.agreement.specs.Setting.{deskFor, dealtRow, dealtColumn, madeFor, lampAt}
+use Rattle.agreement.specs.Setting.{deskFor, dealtRow, dealtColumn, madeFor, lampAt, replyAt, answerAt}
+use Rattle.agreement.specs.Calls.{sinceSettling}
 use Rattle.agreement.specs.Demand3.{Execution, Honest, Premises, OneTable, OneWidth, HonestDealer, own, shareOf, Speaks, Rejects}
+use Rattle.agreement.specs.Demand3.{Gives, Refuses, ShareOrUnsent, honestThere}
 use Rattle.agreement.specs.Demand3.{Accepts, OnF, AllReject, AllAccept, Conclusions, Demand3}
 use Rattle.agreement.proofs.Counting.{passing, honest-parties}
-use Rattle.agreement.proofs.Geometry.{Inside, Lies, opens, repairs, lies, lies-once, column-constant, row-constant}
+use Rattle.agreement.proofs.Geometry.{Inside, Lies, repairs, lies, lies-once, column-constant, row-constant}
+use Rattle.agreement.proofs.Openings.{own-opens-enough, own-opens-no-other, own-opens-all}
 use Rattle.agreement.proofs.Reports.{Heard, happy-right, happy-within, crossed, heard-first, honest-many}
 use Rattle.agreement.proofs.Steps.{shares-opened}
 use Rattle.agreement.proofs.Collapse as one
@@ -161,45 +163,83 @@ module _ (s : Setting) (legal : Legal s) (e : Execution) (pr : Premises s e) (ta
           ap (λ o. lampAt o j (e .calls j) .sharing .share) (own-same j h)
           ∙ ap (λ (l : Lamp). l .sharing .share) (lamps.at-end s legal e pr j h _ (holds j h))
 
-      -- An opening with the other honest shares in place.
-      opening-is : (i : ℕ) (h : Honest s e i) (ys : List ℕ) → length ys ≡ s .n
-          → ((j : ℕ) → Honest s e j → (j ≡ i → ⊥) → entry ys j ≡ shareOf s e j)
-          → opening (atEnd (reported i h) Holding S (share i)) ys ≡ some (zeroRow s F)
-      unfolding opening atEnd withPairs withDeal share
-      opening-is i h ys long places =
-          ap (λ T. openingWith (prime s) (s .n) (s .t) T i (share i) ys) (its-table i h)
-          ∙ opens s legal (e .honest) (pr .few) (zeroRow s F) (set ys (i - 1) (share i))
-          (row-poly (prime s) (terms s) (terms s) F 0 (omega (arith, legal .prime .two))) (length-set ys (i - 1) (share i) ∙ long)
-          (λ j qj gj. row-at (prime s) (terms s) (terms s) F (point s j) 0 ∙ sym (placed j (record { party = qj; good = gj })))
-        where
-          placed : (j : ℕ) → Honest s e j → entry (set ys (i - 1) (share i)) j ≡ share j
-          placed j hj =
-              let fi = party-facts (s .n) i (h .party) in
-              let fj = party-facts (s .n) j (hj .party) in
-              elim (ℕ-discrete j i) [
-                | yes q ↦
-                    subst (λ k. entry (set ys (i - 1) (share i)) k ≡ share k) (sym q) (getD-set-same ys (i - 1) (share i) 0 (omega arith))
-                | no d ↦ getD-set-other ys (i - 1) (j - 1) (share i) 0 (λ q. d (omega arith)) ∙ places j hj d ∙ share-is j hj
-              ]
+      -- What lamp i opens of ys: its share is the value at its point of F's row at 0, on which all honest shares lie.
+      module _ (i : ℕ) (h : Honest s e i) (xs : List Call) (ys : List ℕ) (long : length ys ≡ s .n) where
+        abbrev f : List ℕ
+        f = zeroRow s F
+
+        on-row : (j : ℕ) → value (prime s) f (point s j) ≡ share j
+        unfolding share
+        on-row j = row-at (prime s) (terms s) (terms s) F (point s j) 0
+
+        row-fine : Poly (prime s) (terms s) f
+        row-fine = row-poly (prime s) (terms s) (terms s) F 0 (omega (arith, legal .prime .two))
+
+        abbrev holding : Lamp
+        holding = atEnd (reported i h) Holding S (share i)
+
+        opening-by : opening holding ys ≡ openingOf (prime s) (s .t) (s .table) (set ys (i - 1) (value (prime s) f (point s i)))
+        unfolding opening atEnd withPairs withDeal
+        opening-by = ap₂ (λ T v. openingWith (prime s) (s .t) T i v ys) (its-table i h) (sym (on-row i))
+
+        replied : replyAt s i (sinceSettling (e .run i) xs) (openShares (e .run i .width) ys) ≡ opened holding (opening holding ys)
+        unfolding atEnd withPairs withDeal
+        replied =
+            ap (λ z. step z (openShares (e .run i .width) ys)) (lamps.ended s legal e pr i h _ (holds i h) xs)
+            ∙ shares-opened holding (one.made-valid s i (lamps.ready s legal e pr i h)) (e .run i .width) ys
+            (pr .brings i h .own-width) long refl
+
+        abbrev Secret : Type 0
+        Secret = Gives (answerAt s i (sinceSettling (e .run i) xs) (openShares (e .run i .width) ys)) (valueOf s F 0 0 ∷ [])
+
+        found : opening holding ys ≡ some f → Secret
+        found is =
+            let answered =
+            replied
+            ∙ opened-some holding (opening holding ys) f is
+            ∙ ap (λ v. reply holding (Opened v)) (row-constant s legal F (on .poly .size)) in
+            (ap (λ (z : Reply). numberOf (z .answer)) answered, ap (λ (z : Reply). valuesOf (z .answer)) answered)
+
+        module _ (places : ShareOrUnsent s e i ys) where
+          in-place : (j : ℕ) → isParty (s .n) j ≡ true → e .honest j ≡ true → (j ≡ i → ⊥) → entry ys j < prime s
+              → entry ys j ≡ value (prime s) f (point s j)
+          in-place j qj gj d was-sent =
+              let hj : Honest s e j = record { party = qj; good = gj } in
+              places j hj d was-sent ∙ share-is j hj ∙ sym (on-row j)
+
+          opens-enough : 2 * s .t + 1 ≤ honestThere s e i ys → Secret
+          opens-enough many =
+              found (opening-by ∙ own-opens-enough s legal (e .honest) (pr .few) f row-fine i (h .party) ys long in-place many)
+
+          opens-no-other : Secret ⊎ Refuses (answerAt s i (sinceSettling (e .run i) xs) (openShares (e .run i .width) ys)) 10
+          opens-no-other = go (opening holding ys) refl
+            where
+              go : (o : Option (List ℕ)) → opening holding ys ≡ o
+                  → Secret ⊎ Refuses (answerAt s i (sinceSettling (e .run i) xs) (openShares (e .run i .width) ys)) 10
+              go none is = inr (ap (λ (z : Reply). numberOf (z .answer)) (replied ∙ ap (opened holding) is))
+              go (some g) is =
+                  let only = own-opens-no-other s legal (e .honest) (pr .few) f row-fine i (h .party) ys long in-place g
+                  (sym opening-by ∙ is) in
+                  inl (found (is ∙ ap some only))
+
+        opens-all : ((j : ℕ) → Honest s e j → (j ≡ i → ⊥) → entry ys j ≡ shareOf s e j) → Secret
+        opens-all places =
+            found (opening-by ∙ own-opens-all s legal (e .honest) (pr .few) f row-fine i (h .party) ys long (λ j qj gj d.
+            let hj : Honest s e j = record { party = qj; good = gj } in
+            places j hj d ∙ share-is j hj ∙ sym (on-row j)))
 
       accepts : (i : ℕ) → Honest s e i → Accepts s e s i F
       unfolding atEnd withPairs withDeal share
       accepts i h =
           let is = holds i h in
-          let l : Lamp = atEnd (reported i h) Holding S (share i) in
           record {
             answered =
                 let known = lamps.settling s legal e pr i h _ is in
                 (ap (λ (z : Reply). numberOf (z .answer)) known, ap (λ (z : Reply). valuesOf (z .answer)) known);
             stays = lamps.stays s legal e pr i h _ is;
-            opens = λ xs ys at long places.
-                let answered =
-                ap (λ z. step z (openShares (e .run i .width) ys)) (lamps.ended s legal e pr i h _ is xs)
-                ∙ shares-opened l (one.made-valid s i (lamps.ready s legal e pr i h)) (e .run i .width) ys
-                (pr .brings i h .own-width) long refl
-                ∙ opened-some l (opening l ys) (zeroRow s F) (opening-is i h ys long places)
-                ∙ ap (λ v. reply l (Opened v)) (row-constant s legal F (on .poly .size)) in
-                (ap (λ (z : Reply). numberOf (z .answer)) answered, ap (λ (z : Reply). valuesOf (z .answer)) answered);
+            opens = λ xs ys at long places. opens-all i h xs ys long places;
+            opens-enough = λ xs ys at long places many. opens-enough i h xs ys long places many;
+            opens-no-other = λ xs ys at long places. opens-no-other i h xs ys long places;
           }
 
       to-lies : (G : List ℕ) → OnF s e G → On G

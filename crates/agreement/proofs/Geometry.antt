@@ -1,5 +1,5 @@
 -- The geometry of a sharing: no lamp in sight. Honest parties hold rows and columns, and those in a set S of at least n − t parties
--- cross each other and themselves. Then they lie on one F, and repair and opening find F's columns and its row at 0.
+-- cross each other and themselves. Then they lie on one F, and repair finds F's columns.
 --   Inside            a party that is honest and in S
 --   Crossed           what is supposed
 --   Lies F            every party inside has F's row and column
@@ -25,13 +25,13 @@ use Rattle.bivariate.proofs.Crossing.{row-poly, column-poly}
 use Rattle.bivariate.proofs.Bivariate.{lie-on, lie-once}
 use Rattle.bivariate.proofs.Terms.{row-at, column-at}
 use Rattle.lists.specs.Choices.{count, keep, hide}
-use Rattle.fit.specs.Fit.{sent, fit}
+use Rattle.trial.specs.Trial.{hits}
+use Rattle.fit.specs.Fit.{sent}
 use Rattle.lists.proofs.Choices.{count-map, length-keep, keep-sublist}
 use Rattle.lists.proofs.Selections.{length-hide, hide-at}
 use Rattle.lists.proofs.Sublists.{map-sublist}
-use Rattle.fit.proofs.Decoding.{points-sublist}
-use Rattle.fit.proofs.Rule.{sent-length}
-use Rattle.fit.proofs.Selection.{fit-marked, fit-hide, sent-marked}
+use Rattle.fit.proofs.Decoding.{points-sublist, fit-found}
+use Rattle.fit.proofs.Selection.{hits-marked, fit-hide, sent-marked}
 use Rattle.parties.specs.Parties.{isParty, parties, member, entry, notSent}
 use Rattle.parties.proofs.Parties.{sizes-facts, party-facts, party-true, mem-parties, length-parties, not-sent-above}
 use Rattle.tables.specs.Tables.{pointAt}
@@ -40,7 +40,7 @@ use Rattle.recovery.specs.Recovery.{repair}
 use Rattle.recovery.proofs.Deciding.{marks-ones}
 use Rattle.answers.specs.Fits.{constant}
 use Rattle.agreement.specs.Setting.{Setting, Legal, prime, terms, point, valueOf, rowFor, columnFor, zeroRow}
-use Rattle.agreement.proofs.Counting.{honest-members, honest-parties, mem-keep, keep-mem}
+use Rattle.agreement.proofs.Counting.{honest-members, mem-keep, keep-mem}
 
 -- Of two distinct points one is not a given party's.
 another : (T xs : List ℕ) → 2 ≤ length xs → Distinct (map (pointAt T) xs) → (i : ℕ) → (j : ℕ) × List·Memᴰ j xs × (i ≡ j → ⊥)
@@ -53,7 +53,7 @@ another T (a ∷ b ∷ xs) l d i =
     ]
 
 -- A marked place is that of a party that passes.
-marks : (n : ℕ) (test : ℕ → Bool) (k : ℕ) → getD (map test (parties n)) k false ≡ true → (k < n) × (test (suc k) ≡ true)
+pub marks : (n : ℕ) (test : ℕ → Bool) (k : ℕ) → getD (map test (parties n)) k false ≡ true → (k < n) × (test (suc k) ≡ true)
 marks n test k e =
     let table : map test (parties n) ≡ tabulate (λ k. test (suc k)) n = map-tabulate test suc n in
     elim (decLt k n) [
@@ -107,34 +107,29 @@ module _ (s : Setting) (legal : Legal s) where
   pub points-fine : Points (prime s) (s .table)
   points-fine = table-points (prime s) (s .n) (s .table) (legal .table)
 
-  -- ---- decoding: whoever agrees with enough honest parties is found
-  decoded : (test : ℕ → Bool) (need : ℕ) (ys f : List ℕ) → Poly (prime s) (terms s) f → length ys ≡ s .n
-      → need ≤ count test (parties (s .n)) → sent (prime s) ys + s .t + 1 ≤ 2 * need
+  -- ---- decoding: who takes the values of some parties agrees with as many points
+  pub at-place : (ys f : List ℕ) (k : ℕ) → value (prime s) f (point s (suc k)) ≡ entry ys (suc k)
+      → value (prime s) f (getD (s .table) k 0) ≡ getD ys k 0
+  at-place ys f k e =
+      let place : suc k - 1 ≡ k = omega arith in
+      ap (value (prime s) f) (point-at (s .table) k) ∙ e ∙ ap (λ z. getD ys z 0) place
+
+  pub marks-long : (test : ℕ → Bool) → length (map test (parties (s .n))) ≡ length (s .table)
+  marks-long test = length-map (parties (s .n)) test ∙ length-parties (s .n) ∙ sym (legal .table .size)
+
+  pub agreeing : (test : ℕ → Bool) (ys f : List ℕ) → length ys ≡ s .n
       → ((i : ℕ) → isParty (s .n) i ≡ true → test i ≡ true → value (prime s) f (point s i) ≡ entry ys i)
-      → fit (prime s) (s .t) need (s .table) ys ≡ some f
-  decoded test need ys f hf l enough once agrees =
-      fit-marked (prime s) (legal .prime) (s .t) need f (map test (parties (s .n))) (s .table) ys points-fine once
-      (length-map (parties (s .n)) test ∙ length-parties (s .n) ∙ sym (legal .table .size)) (legal .table .size ∙ sym l)
-      (omega (arith, count-map (λ b. b) test (parties (s .n)))) hf
-      (λ k e.
-      let m = marks (s .n) test k e in
-      at-place k (m .0) (agrees (suc k) (party-true (s .n) (suc k) (omega arith) (omega arith)) (m .1)))
-    where
-      at-place : (k : ℕ) → k < s .n → value (prime s) f (point s (suc k)) ≡ entry ys (suc k)
-          → value (prime s) f (getD (s .table) k 0) ≡ getD ys k 0
-      at-place k h e =
-          let place : suc k - 1 ≡ k = omega arith in
-          ap (value (prime s) f) (point-at (s .table) k) ∙ e ∙ ap (λ z. getD ys z 0) place
+      → count test (parties (s .n)) ≤ hits (prime s) f (s .table) ys
+  agreeing test ys f l agrees =
+      omega (
+        arith,
+        count-map (λ b. b) test (parties (s .n)),
+        hits-marked (prime s) f (map test (parties (s .n))) (s .table) ys (marks-long test) (legal .table .size ∙ sym l)
+            (λ k e. let m = marks (s .n) test k e in
+            at-place ys f k (agrees (suc k) (party-true (s .n) (suc k) (omega arith) (omega arith)) (m .1))),
+      )
 
   module _ (honest : ℕ → Bool) (few : count (λ i. not (honest i)) (parties (s .n)) ≤ s .t) where
-    -- ---- opening: n values, and those of the honest lie on f
-    pub opens : (f ys : List ℕ) → Poly (prime s) (terms s) f → length ys ≡ s .n
-        → ((i : ℕ) → isParty (s .n) i ≡ true → honest i ≡ true → value (prime s) f (point s i) ≡ entry ys i)
-        → fit (prime s) (s .t) (s .n - s .t) (s .table) ys ≡ some f
-    opens f ys hf l agrees =
-        let z = sizes-facts (s .n) (s .t) (legal .size) in
-        decoded honest (s .n - s .t) ys f hf l (honest-parties honest (s .n) (s .t) few) (omega (arith, sent-length (prime s) ys)) agrees
-
     module _ (S : ℕ) (within : S < 2 ^ s .n) (many : s .n - s .t ≤ ones S) where
       -- ---- repair: the values of S, and those of the honest lie on f
       pub repairs : (f heard : List ℕ) → Poly (prime s) (terms s) f → s .n ≤ length heard
@@ -149,13 +144,20 @@ module _ (s : Setting) (legal : Legal s) where
           let size-ms : length ms ≡ length ys = length-tabulate (bit S) (s .n) ∙ sym size-ys in
           let unsent = not-sent-above (prime s) in
           let fewer : sent (prime s) (hide (notSent (prime s)) ms ys) ≤ ones S =
-          omega (arith, sent-marked (prime s) (notSent (prime s)) unsent ms ys size-ms, marks-ones S (s .n) within) in
+          omega (arith, sent-marked (prime s) (notSent (prime s)) unsent ms ys, marks-ones S (s .n) within) in
           sym (fit-hide (prime s) (notSent (prime s)) unsent (omega (arith, legal .prime .two)) ms (s .table) ys (s .t) (ones S - s .t))
-          ∙ decoded (λ i. honest i && member S i) (ones S - s .t) (hide (notSent (prime s)) ms ys) f hf
-          (length-hide (notSent (prime s)) ms ys size-ms ∙ size-ys)
-          (honest-members honest S (s .n) (s .t) within few) (omega arith)
-          (λ i party e. let both = and-eq-true-iff (honest i) (member S i) .0 e in
-          agrees i party (both .0) (both .1) ∙ sym (kept i party (both .1)))
+          ∙ fit-found (prime s) (legal .prime) (s .t) (ones S - s .t) (s .table) (hide (notSent (prime s)) ms ys) points-fine (omega arith)
+          f (record {
+            poly = hf;
+            enough = omega (
+              arith,
+              honest-members honest S (s .n) (s .t) within few,
+              agreeing (λ i. honest i && member S i) (hide (notSent (prime s)) ms ys) f
+                  (length-hide (notSent (prime s)) ms ys size-ms ∙ size-ys)
+                  (λ i party e. let both = and-eq-true-iff (honest i) (member S i) .0 e in
+                  agrees i party (both .0) (both .1) ∙ sym (kept i party (both .1))),
+            );
+          })
         where
           kept : (i : ℕ) → isParty (s .n) i ≡ true → member S i ≡ true
               → entry (hide (notSent (prime s)) (tabulate (bit S) (s .n)) (take (s .n) heard)) i ≡ entry heard i

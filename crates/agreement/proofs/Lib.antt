@@ -1,5 +1,6 @@
 pub mod Counting
 pub mod Geometry
+pub mod Openings
 pub mod Deals
 pub mod Reports
 pub mod Steps
@@ -22,3 +23,4 @@ pub mod DeskAndRecord
 pub mod Refusals
 pub mod Marked
 pub mod Stories
+pub mod Missing

@@ -1,5 +1,5 @@
 -- M1 to M12, the traps and the sayings hold of the definitions, all together, by computation, for either width; and so do the cases of
--- station numbers and of wider numbers.
+-- dark lamps, of station numbers and of wider numbers.
 use mathlib.Core.Path.{_≡_, refl}
 use mathlib.Core.Bool.{true}
 use mathlib.Core.List.{List, _++_, zipWith}
@@ -23,6 +23,7 @@ use Rattle.lamp.specs.Lamp.{makeWith, withDeal, withPairs, saidPair, reportFrom
 use Rattle.agreement.specs.Marked.{Case, holds, every, table, traps, sayings}
 use Rattle.agreement.specs.Harbour as harbours
 use Rattle.agreement.specs.Wider as wider
+use Rattle.agreement.specs.Missing.{missingShares, unaffected, missingPairs, mostMissing}
 
 -- All cases of a list hold, for numbers of the width w: marked ones, and such with tables.
 abbrev Hold : Width → List Case → Type 0
@@ -33,7 +34,9 @@ HoldAt w cases = every (harbours.holds w) cases ≡ true
 
 -- What is said of either width, and what of each.
 abbrev either : Width → List Case
-either w = table w ++ traps w ++ sayings w ++ wider.refused w ++ wider.order w ++ wider.edges w
+either w =
+    table w ++ traps w ++ sayings w ++ missingShares w ++ unaffected w ++ missingPairs w ++ mostMissing w
+    ++ wider.refused w ++ wider.order w ++ wider.edges w
 
 abbrev Computed : Width → Type 0
 Computed Narrow =

@@ -4,7 +4,7 @@ use mathlib.Core.Path.{_≡_, refl, sym, ap, ap₂, subst, _∙_}
 use mathlib.Core.Logic.{_↔_, ⊎-elim}
 use mathlib.Core.Bool.{Bool, _&&_}
 use mathlib.Core.Option.{Option, none, some}
-use mathlib.Core.List.{List}
+use mathlib.Core.List.{List, [], _∷_}
 use Prim.Native.Nat.{ℕ, suc, _+_, _*_, _-_, _≤_}
 use native.Mathlib.Omega.{arith}
 use lib.Count.{ones}
@@ -22,8 +22,7 @@ use Rattle.mutual.specs.Agreement.{agree}
 use Rattle.happy.specs.Clique.{Largest}
 use Rattle.happy.specs.Happy.{happySet}
 use Rattle.happy.proofs.Happy.{happy-only}
-use Rattle.fit.specs.Fit.{fit}
-use Rattle.fit.proofs.Rule.{near-found, near-only, near-none}
+use Rattle.fit.proofs.Opening.{near-opening, opening-found, opening-only, opening-none}
 use Rattle.parties.specs.Parties.{member, entry}
 use Rattle.parties.proofs.Parties.{sizes-facts, party-facts}
 use Rattle.tables.specs.Tables.{IsTable}
@@ -33,12 +32,13 @@ use Rattle.dealer.proofs.Desk.{length-deals, desk-written, desk-list, desk-stre
 use Rattle.lamp.specs.declared.Lamp.{Lamp}
 use Rattle.lamp.specs.declared.Reply.{Reply}
 use Rattle.answers.specs.Answers.{numberOf, valuesOf, stageNumber}
+use Rattle.answers.specs.Fits.{constant}
 use Rattle.consistency.specs.Deal.{rowOf, columnOf}
 use Rattle.lamp.specs.Lamp.{itsPrime, tableOf, withDeal, withPairs, reportFrom, rowOfLamp, columnOfLamp, opening, opened, openShares, step}
 use Rattle.agreement.specs.Setting.{Setting, setting, prime, terms}
 use Rattle.agreement.specs.Demand2.{Takes, Hears, TakesRight, HearsRight, FewAgree, FitsShares, Settles, Opens}
 use Rattle.agreement.specs.Demand2.{KeepsRight, RepairsRight, OpensRight, DealsRight, Demand2}
-use Rattle.agreement.specs.Demand3.{Refuses}
+use Rattle.agreement.specs.Demand3.{Gives, Refuses}
 use Rattle.agreement.proofs.Rows.{none-some}
 use Rattle.agreement.proofs.Steps.{fits, takes, hears, shares-opened}
 use Rattle.agreement.proofs.Outcomes.{heard-entry, opened-some}
@@ -70,15 +70,10 @@ module _ (l : Lamp) (P : Prime (itsPrime (l .party))) (w : Width) (shares : List
   pub opens-right : OpensRight l w shares
   unfolding opening
   opens-right = record {
-    none-fits = (
-      λ e. iff .0 (again ∙ ten e),
-      λ e. ap (λ (z : Reply). numberOf (z .answer)) (goes-open ∙ ap (opened l) (sym again ∙ iff .1 e)),
-    );
-    only = near-only p P t T own fine sizes-own enough;
-    fits = λ f near.
-        let found = sym again ∙ near-found p P t T own fine sizes-own enough f near in
-        let is = goes-open ∙ opened-some l (opening l shares) f found in
-        (ap (λ (z : Reply). numberOf (z .answer)) is, ap (λ (z : Reply). valuesOf (z .answer)) is);
+    none-fits = (λ e. iff .0 (ten e), λ e. ap (λ (z : Reply). numberOf (z .answer)) (goes-open ∙ ap (opened l) (iff .1 e)));
+    only = opening-only p P t T own sizes-own fine;
+    fits = found;
+    as-before = λ f near. found f (near-opening p P t T own sizes-own enough f near);
     unchanged = ap (λ (z : Reply). z .lamp) goes-open ∙ same (opening l shares);
   }
     where
@@ -94,11 +89,13 @@ module _ (l : Lamp) (P : Prime (itsPrime (l .party))) (w : Width) (shares : List
       enough : 3 * t + 1 ≤ length T
       enough = let s = sizes-facts n t (h .valid .size) in omega (arith, table .size)
 
-      again : fit p t (length T - t) T own ≡ opening l shares
-      again = ap (λ m. fit p t (m - t) T own) (table .size)
+      iff : (opening l shares ≡ none) ↔ ((f : List ℕ) → FitsShares l shares f → ⊥)
+      iff = opening-none p P t T own sizes-own fine
 
-      iff : (fit p t (length T - t) T own ≡ none) ↔ ((f : List ℕ) → FitsShares l shares f → ⊥)
-      iff = near-none p P t T own fine sizes-own enough
+      found : (f : List ℕ) → FitsShares l shares f → Gives (step l (openShares w shares) .answer) (constant f ∷ [])
+      found f fits =
+          let is = goes-open ∙ opened-some l (opening l shares) f (opening-found p P t T own sizes-own fine f fits) in
+          (ap (λ (z : Reply). numberOf (z .answer)) is, ap (λ (z : Reply). valuesOf (z .answer)) is)
 
       same : (o : Option (List ℕ)) → opened l o .lamp ≡ l
       same none = refl

@@ -4,7 +4,9 @@
 --   FewAgree n t rs                no n − t parties all agree with each other
 --   itsPoints l                    the points of all parties: the first n numbers of the lamp's table
 --   pointsIn l S, heardIn l S      the points of the parties in S, and what the lamp l heard first from them
---   FitsHeard l S f              f fits that (the protocol's "fits" is fit's `Near`); FitsShares l xs f: f fits the shares xs
+--   FitsHeard l S f                f fits that (the protocol's "fits", of a repair, is fit's `Near`)
+--   withOwn l xs                   the published shares xs with the lamp's own in its own place
+--   FitsShares l xs f              f fits these by the rule for openings, fit's `Opening`; NearShares l xs f: at most t of all differ
 --   standing l stage S v           the very lamp l, at this stage, with the set S and the share v
 --   EndsHolding l S v r            the reply r accepts and leaves the lamp l holding, with the set S and the share v
 --   TakesRight, HearsRight, KeepsRight, RepairsRight, OpensRight, DealsRight   what the demand says of each
@@ -26,6 +28,7 @@ use Rattle.mutual.specs.Agreement.{agree}
 use Rattle.happy.specs.Clique.{Clique, Largest}
 use Rattle.lists.specs.Choices.{select}
 use Rattle.fit.specs.Fit.{Near}
+use Rattle.fit.specs.Opening.{Opening}
 use Rattle.parties.specs.Parties.{isParty, member, entry}
 use Rattle.dealer.specs.Desk as desks
 use Rattle.answers.specs.declared.Stage.{Stage}
@@ -58,8 +61,16 @@ abbrev pub FitsHeard : Lamp → ℕ → List ℕ → Type 0
 FitsHeard l S f = Near (itsPrime (l .party)) (l .party .t) (pointsIn l S) (heardIn l S) f
 
 -- "n published shares", "its own place in favour of its own share"
+abbrev pub withOwn : Lamp → List ℕ → List ℕ
+withOwn l xs = set xs (l .party .number - 1) (l .sharing .share)
+
+-- "at least 2t+1 published shares agree with the polynomial and at most t of those sent differ"
 abbrev pub FitsShares : Lamp → List ℕ → List ℕ → Type 0
-FitsShares l xs f = Near (itsPrime (l .party)) (l .party .t) (itsPoints l) (set xs (l .party .number - 1) (l .sharing .share)) f
+FitsShares l xs f = Opening (itsPrime (l .party)) (l .party .t) (itsPoints l) (withOwn l xs) f
+
+-- What an opening was before lamps could be dark: at most t of all n differ.
+abbrev pub NearShares : Lamp → List ℕ → List ℕ → Type 0
+NearShares l xs f = Near (itsPrime (l .party)) (l .party .t) (itsPoints l) (withOwn l xs) f
 
 -- The very lamp, at this stage with this set and share; every other field as it was.
 abbrev pub standing : Lamp → Stage → ℕ → ℕ → Lamp
@@ -139,11 +150,12 @@ pub record RepairsRight (l : Lamp) (rs : List ℕ) (S : ℕ) : Type 0 where
   pub fits : (f : List ℕ) → FitsHeard l S f → EndsHolding l S (constant f) (step l (settle rs))
 
 -- "opening": 10 exactly if nothing fits the list with the lamp's own share in its own place; what fits is the only one, and its
--- constant is answered. The lamp is unchanged.
+-- constant is answered. "Every list that opened before opens to the same number." The lamp is unchanged.
 pub record OpensRight (l : Lamp) (w : Width) (xs : List ℕ) : Type 0 where
   pub none-fits : Refuses (step l (openShares w xs) .answer) 10 ↔ ((f : List ℕ) → FitsShares l xs f → ⊥)
   pub only : (f g : List ℕ) → FitsShares l xs f → FitsShares l xs g → f ≡ g
   pub fits : (f : List ℕ) → FitsShares l xs f → Gives (step l (openShares w xs) .answer) (constant f ∷ [])
+  pub as-before : (f : List ℕ) → NearShares l xs f → Gives (step l (openShares w xs) .answer) (constant f ∷ [])
   pub unchanged : step l (openShares w xs) .lamp ≡ l
 
 -- "Dealing gives exactly the rows and columns of the dealer's polynomial", each party's in its own stretch: F(X, x), then F(x, Y), x being

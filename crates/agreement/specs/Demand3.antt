@@ -11,14 +11,18 @@
 --   Gives, Refuses     an answer's values, or its number
 --   Speaks, Rejects, Accepts   what it concludes of each lamp; Stray: of a call that changes nothing; Stays: from settling to the end
 --   OnF s e F, shareOf s e j   the honest happy rows and columns lie on F; lamp j's share
+--   ShareOrUnsent s e i ys     in ys each other honest lamp's place holds that lamp's share or a number that was not sent
+--   honestThere s e i ys       how many honest shares are there where lamp i opens ys, its own among them
+--   Called, openingAnswer      after settling and some calls the list has a call to open; its answer
 --   AllReject, AllAccept       what it concludes of all together; Conclusions: all of it
 --   Demand3 w          the demand, for numbers of the width w and any table
 use mathlib.Core.Path.{_≡_}
 use mathlib.Core.Logic.{_⊎_}
-use mathlib.Core.Bool.{Bool, true, not}
+use mathlib.Core.Bool.{Bool, true, not, _&&_, _||_}
 use mathlib.Core.Option.{none, some}
 use mathlib.Core.List.{List, [], _∷_}
-use Prim.Native.Nat.{ℕ, _*_, _≤_}
+use Prim.Native.Nat.{ℕ, _+_, _*_, _≤_, _<_}
+use lib.Dec.{ltb, eqb}
 use lib.ListN.{length, getD}
 use Rattle.field.specs.declared.Width.{Width}
 use Rattle.polynomial.specs.Polynomial.{Poly}
@@ -132,6 +136,14 @@ module _ (s : Setting) where
     abbrev pub shareOf : ℕ → ℕ
     shareOf j = lampAt (own j) j (e .calls j) .sharing .share
 
+    -- Each other honest lamp's place holds that lamp's share, if anything was sent.
+    abbrev pub ShareOrUnsent : ℕ → List ℕ → Type 0
+    ShareOrUnsent i ys = (j : ℕ) → Honest j → (j ≡ i → ⊥) → entry ys j < prime s → entry ys j ≡ shareOf j
+
+    -- Lamp i's own share is always there, another's if it was sent.
+    abbrev pub honestThere : ℕ → List ℕ → ℕ
+    honestThere i ys = count (λ j. e .honest j && (eqb j i || ltb (entry ys j) (prime s))) (parties (s .n))
+
     -- What is concluded of lamp i, o being the setting as it has it.
     module _ (o : Setting) (i : ℕ) where
       -- Its list of calls, taken apart.
@@ -159,14 +171,28 @@ module _ (s : Setting) where
         pub answered : Refuses (answerAt o i (toReports r) (settle (r .itsReports))) 8
         pub stays : Stays Closed 0 0
 
+      -- After settling and the calls xs the list has a call to open ys; its answer.
+      abbrev Called : List Call → List ℕ → Type 0
+      Called xs ys = At (e .calls i) (sinceSettling r xs) (openShares (r .width) ys)
+
+      abbrev openingAnswer : List Call → List ℕ → Answer
+      openingAnswer xs ys = answerAt o i (sinceSettling r xs) (openShares (r .width) ys)
+
       -- Settling accepts; the lamp stays holding, with the happy set and F(i, 0); and every opening of n numbers of its own width in
-      -- which each other honest lamp's place holds that lamp's share answers F(0, 0).
+      -- which each other honest lamp's place holds that lamp's share answers F(0, 0). Where some were not sent it does so all the same if
+      -- 2t + 1 honest shares are there, its own among them; and however few are, it answers F(0, 0) or 10, never another number.
       pub record Accepts (F : List ℕ) : Type 0 where
         pub answered : Gives (answerAt o i (toReports r) (settle (r .itsReports))) []
         pub stays : Stays Holding (happySet (e .seen)) (valueOf s F (point s i) 0)
-        pub opens : (xs : List Call) (ys : List ℕ) → At (e .calls i) (sinceSettling r xs) (openShares (r .width) ys) → length ys ≡ s .n
+        pub opens : (xs : List Call) (ys : List ℕ) → Called xs ys → length ys ≡ s .n
             → ((j : ℕ) → Honest j → (j ≡ i → ⊥) → entry ys j ≡ shareOf j)
-            → Gives (answerAt o i (sinceSettling r xs) (openShares (r .width) ys)) (valueOf s F 0 0 ∷ [])
+            → Gives (openingAnswer xs ys) (valueOf s F 0 0 ∷ [])
+        pub opens-enough : (xs : List Call) (ys : List ℕ) → Called xs ys → length ys ≡ s .n
+            → ShareOrUnsent i ys → 2 * s .t + 1 ≤ honestThere i ys
+            → Gives (openingAnswer xs ys) (valueOf s F 0 0 ∷ [])
+        pub opens-no-other : (xs : List Call) (ys : List ℕ) → Called xs ys → length ys ≡ s .n
+            → ShareOrUnsent i ys
+            → Gives (openingAnswer xs ys) (valueOf s F 0 0 ∷ []) ⊎ Refuses (openingAnswer xs ys) 10
 
     -- F has (t + 1)² coefficients below the prime, and every honest happy lamp's row and column, as dealt, lie on it.
     pub record OnF (F : List ℕ) : Type 0 where

@@ -78,7 +78,8 @@ callsShuffled =
 abbrev pub allAgree : List ℕ
 allAgree = 30 ∷ 29 ∷ 27 ∷ 23 ∷ 15 ∷ []
 
--- It deals, settles with lamp 3 lying, repairs lamp 5's share and opens 7; the same numbers in another order: another deal, the same 7.
+-- It deals, settles with lamp 3 lying, repairs lamp 5's share and opens 7, also with lamps dark; the same numbers in another order:
+-- another deal, the same 7.
 abbrev pub harbour : List Case
 harbour =
     dealing stations 1 (16408 ∷ 32805 ∷ []) (57369 ∷ 32804 ∷ [])
@@ -94,6 +95,9 @@ harbour =
     ∷ answering stations 1 (callsOf1 ++ settle reports ∷ []) (openShares Narrow (0 ∷ 28 ∷ 999 ∷ 16 ∷ 63007 ∷ [])) none (7 ∷ [])
     ∷ answering stations 5 (callsOf5 ++ settle reports ∷ []) (openShares Narrow (57369 ∷ 28 ∷ 999 ∷ 16 ∷ 0 ∷ [])) none (7 ∷ [])
     ∷ answering stations 1 (callsOf1 ++ settle reports ∷ []) (openShares Narrow (57369 ∷ 28 ∷ 999 ∷ 998 ∷ 63007 ∷ [])) (some 10) []
+    ∷ answering stations 1 (callsOf1 ++ settle reports ∷ []) (openShares Narrow (57369 ∷ 28 ∷ 999 ∷ 65535 ∷ 63007 ∷ [])) none (7 ∷ [])
+    ∷ answering stations 5 (callsOf5 ++ settle reports ∷ []) (openShares Narrow (57369 ∷ 28 ∷ 65535 ∷ 65535 ∷ 65535 ∷ [])) none (7 ∷ [])
+    ∷ answering stations 1 (callsOf1 ++ settle reports ∷ []) (openShares Narrow (57369 ∷ 28 ∷ 65535 ∷ 65535 ∷ 65535 ∷ [])) (some 10) []
     ∷ dealing shuffled 1 (13 ∷ 15 ∷ []) (16 ∷ 14 ∷ [])
     ∷ dealing shuffled 5 (5 ∷ 65520 ∷ []) (4 ∷ 65519 ∷ [])
     ∷ ending shuffled 1 callsShuffled (settle allAgree) none 31 16 3

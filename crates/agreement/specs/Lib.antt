@@ -9,3 +9,4 @@ pub mod Stories
 pub mod Plain
 pub mod Harbour
 pub mod Wider
+pub mod Missing

@@ -16,6 +16,8 @@ use Rattle.field.specs.declared.Width.{Width}
 use Rattle.field.specs.declared.Width.the-variants.{Narrow, Wide}
 use Rattle.field.specs.Modulus.{primeOf}
 use Rattle.polynomial.specs.Polynomial.{value}
+use Rattle.fit.specs.Opening.{openingOf}
+use Rattle.recovery.specs.Recovery.{repair}
 use Rattle.parties.specs.Parties.{entry}
 use Rattle.tables.specs.Tables.{pointAt, oneTo, inArray}
 use Rattle.dealer.specs.Desk as desks
@@ -24,6 +26,7 @@ use Rattle.answers.specs.declared.Answer.{Answer}
 use Rattle.lamp.specs.declared.Lamp.{Lamp}
 use Rattle.lamp.specs.declared.Reply.{Reply}
 use Rattle.answers.specs.Answers.{numberOf, valuesOf, stageNumber}
+use Rattle.answers.specs.Fits.{constant}
 use Rattle.consistency.specs.Deal.{sound}
 use Rattle.lamp.specs.Lamp.{Call, takeDeal, sayPair, hearPairs, settle, openShares, made, make, step, after}
 use Rattle.agreement.specs.Demand1.{unsent}
@@ -44,6 +47,9 @@ sameNumber (some j) (some k) = eqb j k
 -- What is asked, and what must come of it.
 --   dealing F i row column              the desk's deal of F for lamp i
 --   opening n t xs number values        an opening of the published shares xs by lamp 1, which holds what it published
+--   openingBy n t i v xs number values  the same by lamp i, which holds v
+--   alone n t xs number                 what the published shares open by themselves, if anything
+--   repairing n t S heard number        the constant of the column repaired from what the lamps in S said first, if there is one
 --   settling i column heard rs k S v s  lamp i, dealt this column, heard these first numbers and settles on rs: number, set, share, stage
 --   playing i d hs rs k S v s           lamp i from its making on: takes the deal d, hears hs, settles on rs
 --   sizing n t k                        making a lamp, and a desk's dealing, for n and t
@@ -55,6 +61,9 @@ sameNumber (some j) (some k) = eqb j k
 pub data Case : Type 0 where
   dealing : List ℕ → ℕ → List ℕ → List ℕ → Case
   opening : ℕ → ℕ → List ℕ → Option ℕ → List ℕ → Case
+  openingBy : ℕ → ℕ → ℕ → ℕ → List ℕ → Option ℕ → List ℕ → Case
+  alone : ℕ → ℕ → List ℕ → Option ℕ → Case
+  repairing : ℕ → ℕ → ℕ → List ℕ → Option ℕ → Case
   settling : ℕ → List ℕ → List ℕ → List ℕ → Option ℕ → ℕ → ℕ → ℕ → Case
   playing : ℕ → List ℕ → List ℕ → List ℕ → Option ℕ → ℕ → ℕ → ℕ → Case
   sizing : ℕ → ℕ → Option ℕ → Case
@@ -103,10 +112,18 @@ leaves r number set share stage =
 abbrev pub answers : Answer → Option ℕ → List ℕ → Bool
 answers a number values = sameNumber (numberOf a) number && same (valuesOf a) values
 
+-- The constant of what was found.
+abbrev pub constantOf : Option (List ℕ) → Option ℕ
+constantOf none = none
+constantOf (some f) = some (constant f)
+
 -- The definitions give what the case says.
 unfoldable pub holds : Width → Case → Bool
 holds w (dealing F i row column) = same (desks.stretch 2 (desks.desk (primeOf w) 5 1 F (replicate 20 0) .0) i) (row ++ column)
 holds w (opening n t xs number values) = answers (step (holder w n t 1 (entry xs 1)) (openShares w xs) .answer) number values
+holds w (openingBy n t i v xs number values) = answers (step (holder w n t i v) (openShares w xs) .answer) number values
+holds w (alone n t xs number) = sameNumber (constantOf (openingOf (primeOf w) t (oneTo n) xs)) number
+holds w (repairing n t S heard number) = sameNumber (constantOf (repair (primeOf w) n t (oneTo n) S heard)) number
 holds w (settling i column heard rs number set share stage) =
     leaves (step (reporter w i column heard (entry rs i)) (settle rs)) number set share stage
 holds w (playing i d hs rs number set share stage) =

@@ -3,6 +3,7 @@
 --   execution s q     the execution: each honest lamp is given its deal, hears and settles, with other calls before, between and after
 --   fiveWith w T, five w   n = 5 and t = 1 with the table T, and without one
 --   other w           the other width, of calls that go astray
+--   oneLie, twoMissing, lieAlone   lists of published shares, at any table: lamp 3 lies, lamps 4 and 5 are dark besides, all others are
 --   honestDealer      a plot at any table; liar, twoDealers: two without one
 -- A plot within the sizes, with at most t faulty lamps, deals of the right length and no earlier right call, meets the premises:
 -- proofs/Stories.
@@ -20,6 +21,7 @@ use Rattle.dealer.specs.Desk as desks
 use Rattle.lamp.specs.Lamp.{Call, takeDeal, sayPair, hearPairs, settle, openShares}
 use Rattle.agreement.specs.Setting.{Setting, setting, point, valueOf, pairBy, reportBy}
 use Rattle.agreement.specs.Calls.{Run, whole}
+use Rattle.agreement.specs.Demand1.{unsent}
 use Rattle.agreement.specs.Demand3.{Execution}
 
 -- Who is honest; each honest lamp's deal; what the faulty lamp j says to i; what it reports; the calls before the deal, between deal and
@@ -90,7 +92,22 @@ module _ (w : Width) (T : List ℕ) where
   abbrev pub fiveWith : Setting
   fiveWith = setting w 5 1 T
 
-  -- The dealer is honest; lamp 3 sends and reports nonsense and publishes 999, the others their shares.
+  -- Lamp k + 1's share of that F.
+  abbrev shareAt : ℕ → ℕ
+  shareAt k = valueOf fiveWith anF (point fiveWith (suc k)) 0
+
+  -- What is published: lamp 3 says 999, the others their shares; and the same with lamps 4 and 5 dark.
+  abbrev pub oneLie : List ℕ
+  oneLie = tabulate (λ k. cond (butThree (suc k)) (shareAt k) 999) 5
+
+  abbrev pub twoMissing : List ℕ
+  twoMissing = tabulate (λ k. cond (leb k 1) (shareAt k) (cond (leb k 2) 999 (unsent w))) 5
+
+  -- The lie alone is published.
+  abbrev pub lieAlone : List ℕ
+  lieAlone = tabulate (λ k. cond (eqb k 2) 999 (unsent w)) 5
+
+  -- The dealer is honest; lamp 3 sends and reports nonsense. Three openings follow.
   abbrev pub honestDealer : Plot
   honestDealer = record {
     good = butThree;
@@ -100,7 +117,7 @@ module _ (w : Width) (T : List ℕ) where
     early = [];
     between = [];
     late = [];
-    behind = openShares w (tabulate (λ k. cond (butThree (suc k)) (valueOf fiveWith anF (point fiveWith (suc k)) 0) 999) 5) ∷ [];
+    behind = openShares w oneLie ∷ openShares w twoMissing ∷ openShares w lieAlone ∷ [];
   }
 
 module _ (w : Width) where

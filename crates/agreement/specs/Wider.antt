@@ -43,12 +43,15 @@ unsoundDeal = 1852516360 ∷ 1557549063 ∷ 1705032713 ∷ 1557549061 ∷ []
 abbrev pub callsOf5 : List Call
 callsOf5 = takeDeal Wide unsoundDeal ∷ hearPairs Wide toLamp5 ∷ []
 
--- The published shares, lamp 3's a lie; and those with a second lie.
+-- The published shares, lamp 3's a lie; those with lamp 4 dark besides, and with a second lie.
 abbrev pub published : List ℕ
 published = 4 ∷ 196570 ∷ 999 ∷ 16 ∷ 1705032713 ∷ []
 
 abbrev pub twoLies : List ℕ
-twoLies = 4 ∷ 196570 ∷ 999 ∷ 2147483647 ∷ 1705032713 ∷ []
+twoLies = 4 ∷ 196570 ∷ 999 ∷ 998 ∷ 1705032713 ∷ []
+
+abbrev pub lieAndMissing : List ℕ
+lieAndMissing = 4 ∷ 196570 ∷ 999 ∷ 2147483647 ∷ 1705032713 ∷ []
 
 -- It deals, settles with lamp 3 lying, repairs lamp 5's share and opens 7.
 abbrev pub harbour : List harbours.Case
@@ -63,6 +66,7 @@ harbour =
     ∷ ending far 5 callsOf5 (settle reports) none 15 1705032713 3
     ∷ answering far 1 (callsOf1 ++ settle reports ∷ []) (openShares Wide published) none (7 ∷ [])
     ∷ answering far 5 (callsOf5 ++ settle reports ∷ []) (openShares Wide published) none (7 ∷ [])
+    ∷ answering far 1 (callsOf1 ++ settle reports ∷ []) (openShares Wide lieAndMissing) none (7 ∷ [])
     ∷ answering far 1 (callsOf1 ++ settle reports ∷ []) (openShares Wide twoLies) (some 10) []
     ∷ []
 
@@ -133,7 +137,7 @@ module _ (w : Width) where
   -- ---- numbers at the edges
 
   -- A secret just below the prime is dealt and opened, the prime is refused; a deal is sound with the one and unsound with the other; of
-  -- the published shares the prime and "not sent" differ from anything.
+  -- the published shares the prime and "not sent" are there for nothing.
   abbrev pub edges : List marked.Case
   edges =
       marked.dealing (greatest w ∷ 2 ∷ 3 ∷ 4 ∷ []) 1 (1 ∷ 7 ∷ []) (2 ∷ 6 ∷ [])
@@ -143,7 +147,8 @@ module _ (w : Width) where
       ∷ crossing 1 (suc (greatest w) ∷ 0 ∷ []) (suc (greatest w) ∷ 0 ∷ []) false
       ∷ opening 5 1 (greatest w ∷ greatest w ∷ greatest w ∷ greatest w ∷ suc (greatest w) ∷ []) none (greatest w ∷ [])
       ∷ opening 5 1 (greatest w ∷ greatest w ∷ greatest w ∷ unsent w ∷ greatest w ∷ []) none (greatest w ∷ [])
-      ∷ opening 5 1 (greatest w ∷ greatest w ∷ greatest w ∷ unsent w ∷ suc (greatest w) ∷ []) (some 10) []
+      ∷ opening 5 1 (greatest w ∷ greatest w ∷ greatest w ∷ unsent w ∷ suc (greatest w) ∷ []) none (greatest w ∷ [])
+      ∷ opening 5 1 (greatest w ∷ greatest w ∷ suc (greatest w) ∷ unsent w ∷ suc (greatest w) ∷ []) (some 10) []
       ∷ opening 5 1 (replicate 5 (suc (greatest w))) (some 10) []
       ∷ []
 

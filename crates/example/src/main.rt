@@ -1,6 +1,6 @@
 // Five lamps of which one may be faulty: the desk deals 7 + 3X + 2Y + 4XY, and lamp 1 goes from its making to an opening in which
-// lamp 3 publishes a wrong share; first at the points 1 to 5, then at the station numbers of a harbour, then with another secret and
-// numbers of 32 bits. Each step writes a line: what it answered.
+// lamp 3 publishes a wrong share, and to others with lamps dark; first at the points 1 to 5, then at the station numbers of a harbour,
+// then with another secret and numbers of 32 bits. Each step writes a line: what it answered.
 use dealer::Dealing;
 use lamp::Lamp;
 use lamp::Reply;
@@ -52,6 +52,12 @@ fn plain() {
     // The lamps publish their shares; lamp 3, whose share is 16, says 999.
     let opened = settled.lamp.open(&[10, 13, 999, 19, 22]);
     line(b"open ", opened);
+
+    // In winter lamps 3 and 4 are dark: 2t + 1 = 3 shares that agree are enough. With lamp 5 dark too they are not.
+    let without_two = opened.lamp.open(&[10, 13, 65535, 65535, 22]);
+    line(b"open ", without_two);
+    let without_three = without_two.lamp.open(&[10, 13, 65535, 65535, 65535]);
+    line(b"open ", without_three);
 }
 
 // At the station numbers of a harbour, which the desk and every lamp load: another deal, the same secret.

@@ -32,7 +32,8 @@ use Rattle.answers.specs.Refusals.{Test, refusalNumber, lowest}
 use Rattle.answers.proofs.Tests.{lowest-pass, lowest-first, lowest-then}
 use Rattle.fit.specs.Fit.{fit}
 use Rattle.fit.specs.Admitted.{decodedIf, fitIn}
-use Rattle.fit.proofs.Admitted.{fit-admitted}
+use Rattle.fit.proofs.Admitted.{fit-least}
+use Rattle.fit.proofs.Rule.{sent-length}
 use Rattle.fit.proofs.Decoding.{fit-sound}
 use Rattle.tables.specs.Tables.{IsTable, isTable}
 use Rattle.tables.proofs.Tables.{table-facts, table-true}
@@ -154,11 +155,11 @@ module _ (p t : ℕ) (xs ys : List ℕ) where
 
   pub points-fit : Repairs t xs ys → isTable p (length xs) xs ≡ true → fitIn p t (length xs - t) xs ys ≡ repairFit p t xs ys
   points-fit r e =
-      fit-admitted p t (length xs - t) xs ys (record {
+      fit-least p t (length xs - t) xs ys (record {
         degree = r .few-faulty;
         bounded = record { lengths = r .lengths; most = r .most };
-        above = omega (arith, r .enough);
-      })
+        enough = omega (arith, r .enough);
+      }) (omega (arith, r .lengths, r .enough, sent-length p ys))
       ∙ ap (λ b. decodedIf (lowest ((b, WrongTable) ∷ [])) (fit p t (length xs - t) xs ys)) (sym e)
 
 module _ (p : ℕ) (P : Prime p) (t : ℕ) (xs ys : List ℕ) (fitted : Fitted) (same : fitted ≡ repairFit p t xs ys) where

@@ -1,21 +1,27 @@
--- What a repair and an opening mean: "a polynomial of degree at most t fits a list of points if at most t differ" (fit's `Near`).
--- For any prime: what is written is near, and the only one; 9 and 10 say that none is.
---   written-near, near-written, none-near   of a repair; opened-near, near-opened, none-opens: of an opening
---   plain-near-opened, plain-none-opens, plain-dealt   of an opening and a dealing without a table, at the points 1 to n
+-- What a repair and an opening mean, for any prime. What is repaired is near the points: "a polynomial of degree at most t fits a list of
+-- points if at most t differ" (fit's `Near`); what is opened is the constant of what opens (fit's `Opening`). Each is the only one, and 9
+-- and 10 say that there is none.
+--   written-near, near-written, none-near    of a repair
+--   opened-opens, opens-opened, none-opens   of an opening; near-opened: what is near opens still, to the same number
+--   opened-no-other                          nothing but f's constant is opened where at most t of those sent differ from f
+--   plain-opens-opened, plain-near-opened, plain-opened-no-other, plain-none-opens, plain-dealt   the same of an opening, and of a
+--                                            dealing, without a table
 use mathlib.Core.Path.{_≡_, refl, sym, ap, _∙_}
-use mathlib.Core.Logic.{_↔_}
+use mathlib.Core.Logic.{_↔_, _⊎_, inl, inr}
 use mathlib.Core.Bool.{true}
 use mathlib.Core.Option.{Option, none, some}
 use mathlib.Core.List.{List, _++_}
-use Prim.Native.Nat.{ℕ, suc, _+_, _*_, _-_, _≤_, _<_}
+use Prim.Native.Nat.{ℕ, suc, _-_, _≤_, _<_}
 use native.Mathlib.Omega.{arith}
 use lib.ListN.{length}
 use Rattle.lists.specs.Options.{orZero}
 use Rattle.field.specs.Arithmetic.{Prime}
 use Rattle.fit.specs.Fit.{Near, fit}
+use Rattle.fit.specs.Opening.{Opening, wrong, openingOf}
 use Rattle.fit.proofs.Decoding.{fit-sound}
+use Rattle.fit.proofs.Opening.{opening-sound, opening-found, opening-none, opening-other, near-opening}
 use Rattle.fit.proofs.Rule.{fits-iff, near-found, near-none}
-use Rattle.polynomial.specs.Polynomial.{Points}
+use Rattle.polynomial.specs.Polynomial.{Points, Poly}
 use Rattle.bivariate.specs.Bivariate.{row, column}
 use Rattle.parties.specs.Parties.{sizes, isParty}
 use Rattle.parties.proofs.Parties.{sizes-facts, party-facts}
@@ -66,42 +72,51 @@ module _ (p : ℕ) (P : Prime p) (t : ℕ) (xs ys column : List ℕ) (r : Repair
   )
 
 module _ (p : ℕ) (P : Prime p) (n t : ℕ) (T shares : List ℕ) (old : ℕ) (right : Openings p n t T shares) where
-  size : (t ≤ 3) × (4 * t + 1 ≤ n)
-  size = let f = sizes-facts n t (right .size) in (f .1, f .2)
-
-  same : length T ≡ n
-  same = right .table .size
+  same : length T ≡ length shares
+  same = right .table .size ∙ sym (right .lengths)
 
   places : Points p T
   places = table-points p n T (right .table)
 
-  -- What is opened is the constant of a polynomial that is near.
-  pub opened-near : openingAt p n t T shares old .1 ≡ 0
-      → (f : List ℕ) × Near p t T shares f × (openingAt p n t T shares old .0 ≡ constant f)
-  opened-near h =
+  -- What is opened is the constant of a polynomial that opens.
+  pub opened-opens : openingAt p n t T shares old .1 ≡ 0
+      → (f : List ℕ) × Opening p t T shares f × (openingAt p n t T shares old .0 ≡ constant f)
+  opened-opens h =
       let by = opening-by p n t T shares old right in
-      let r = go (fit p t (n - t) T shares) refl (rw by at h) in (r .0, r .1, ap (λ (q : ℕ × ℕ). q .0) by ∙ r .2)
+      let r = go (openingOf p t T shares) refl (rw by at h) in (r .0, r .1, ap (λ (q : ℕ × ℕ). q .0) by ∙ r .2)
     where
-      go : (o : Option (List ℕ)) → fit p t (n - t) T shares ≡ o → opened old o .1 ≡ 0
-          → (f : List ℕ) × Near p t T shares f × (opened old o .0 ≡ constant f)
+      go : (o : Option (List ℕ)) → openingOf p t T shares ≡ o → opened old o .1 ≡ 0
+          → (f : List ℕ) × Opening p t T shares f × (opened old o .0 ≡ constant f)
       go none e h = absurd (omega arith)
-      go (some f) e h =
-          let found = ap (λ m. fit p t (m - t) T shares) same ∙ e in
-          let sound = fit-sound p P t (length T - t) T shares f found in
-          (f, fits-iff p t T shares (same ∙ sym (right .lengths)) (omega (arith, size, same)) f .0 sound, refl)
+      go (some f) e h = (f, opening-sound p P t T shares same f e, refl)
 
+  pub opens-opened : (f : List ℕ) → Opening p t T shares f → openingAt p n t T shares old ≡ (constant f, 0)
+  opens-opened f h = opening-by p n t T shares old right ∙ ap (opened old) (opening-found p P t T shares same places f h)
+
+  -- Where at most t of all n differ, sent or not, it opens still.
   pub near-opened : (f : List ℕ) → Near p t T shares f → openingAt p n t T shares old ≡ (constant f, 0)
   near-opened f h =
-      let found = near-found p P t T shares places (same ∙ sym (right .lengths)) (omega (arith, size, same)) f h in
-      opening-by p n t T shares old right ∙ ap (λ m. opened old (fit p t (m - t) T shares)) (sym same) ∙ ap (opened old) found
+      let size = sizes-facts n t (right .size) in
+      opens-opened f (near-opening p P t T shares same (omega (arith, right .table .size)) f h)
+
+  -- Where at most t of those sent differ from f, however few were sent, its constant is opened or nothing is.
+  pub opened-no-other : (f : List ℕ) → Poly p (suc t) f → wrong p f T shares ≤ t
+      → (openingAt p n t T shares old ≡ (constant f, 0)) ⊎ (openingAt p n t T shares old ≡ (old, 10))
+  opened-no-other f F few = go (openingOf p t T shares) refl
+    where
+      by : openingAt p n t T shares old ≡ opened old (openingOf p t T shares)
+      by = opening-by p n t T shares old right
+
+      go : (o : Option (List ℕ)) → openingOf p t T shares ≡ o
+          → (openingAt p n t T shares old ≡ (constant f, 0)) ⊎ (openingAt p n t T shares old ≡ (old, 10))
+      go none e = inr (by ∙ ap (opened old) e)
+      go (some g) e = inl (by ∙ ap (opened old) (e ∙ ap some (opening-other p P t T shares same places f F few g e)))
 
   -- 10 is the truth, and the number is left alone.
-  pub none-opens : (openingAt p n t T shares old ≡ (old, 10)) ↔ ((f : List ℕ) → Near p t T shares f → ⊥)
+  pub none-opens : (openingAt p n t T shares old ≡ (old, 10)) ↔ ((f : List ℕ) → Opening p t T shares f → ⊥)
   none-opens = (
-    λ h f d. let e = ap (λ (r : ℕ × ℕ). r .1) (sym h ∙ near-opened f d) in omega arith,
-    λ h.
-        opening-by p n t T shares old right ∙ ap (λ m. opened old (fit p t (m - t) T shares)) (sym same)
-        ∙ ap (opened old) (near-none p P t T shares places (same ∙ sym (right .lengths)) (omega (arith, size, same)) .1 h),
+    λ h f d. let e = ap (λ (r : ℕ × ℕ). r .1) (sym h ∙ opens-opened f d) in omega arith,
+    λ h. opening-by p n t T shares old right ∙ ap (opened old) (opening-none p P t T shares same places .1 h),
   )
 
 -- ---- without a table: the points are 1 to n
@@ -109,10 +124,17 @@ module _ (p : ℕ) (P : Prime p) (n t : ℕ) (shares : List ℕ) (old : ℕ) (s 
   plainly : Openings p n t (oneTo n) shares
   plainly = record { size = s; lengths = l; table = one-to-table p n (let size = sizes-facts n t s in omega arith) }
 
+  pub plain-opens-opened : (f : List ℕ) → Opening p t (oneTo n) shares f → opening p n t shares old ≡ (constant f, 0)
+  plain-opens-opened = opens-opened p P n t (oneTo n) shares old plainly
+
   pub plain-near-opened : (f : List ℕ) → Near p t (oneTo n) shares f → opening p n t shares old ≡ (constant f, 0)
   plain-near-opened = near-opened p P n t (oneTo n) shares old plainly
 
-  pub plain-none-opens : (opening p n t shares old ≡ (old, 10)) ↔ ((f : List ℕ) → Near p t (oneTo n) shares f → ⊥)
+  pub plain-opened-no-other : (f : List ℕ) → Poly p (suc t) f → wrong p f (oneTo n) shares ≤ t
+      → (opening p n t shares old ≡ (constant f, 0)) ⊎ (opening p n t shares old ≡ (old, 10))
+  plain-opened-no-other = opened-no-other p P n t (oneTo n) shares old plainly
+
+  pub plain-none-opens : (opening p n t shares old ≡ (old, 10)) ↔ ((f : List ℕ) → Opening p t (oneTo n) shares f → ⊥)
   plain-none-opens = none-opens p P n t (oneTo n) shares old plainly
 
 -- And the desk deals F(X, i) and F(i, Y), each in its own stretch.

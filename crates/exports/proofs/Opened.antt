@@ -10,7 +10,7 @@ use mathlib.Core.Logic.{⊎-elim}
 use mathlib.Core.Bool.{true, false}
 use mathlib.Core.Option.{Option, none, some}
 use mathlib.Core.List.{List, [], _∷_, _++_}
-use Prim.Native.Nat.{ℕ, _-_, _≤_, _<_}
+use Prim.Native.Nat.{ℕ, _+_, _*_, _-_, _≤_, _<_}
 use native.Mathlib.Omega.{arith}
 use borrow.Author.Tests.{eq-eqb, ne-eqb, eqb-true}
 use lib.Dec.{eqb}
@@ -30,7 +30,9 @@ use Rattle.parties.specs.Parties.{sizes}
 use Rattle.parties.proofs.Parties.{sizes-facts}
 use Rattle.tables.specs.Tables.{oneTo, IsTable, isTable, inArray}
 use Rattle.tables.proofs.Tables.{table-facts, table-true, length-one-to, one-to-table, sixteen-front, kept-front}
-use Rattle.recovery.specs.Recovery.{openingOf, publishedTests, publishedIn}
+use Rattle.fit.specs.Fit.{sent}
+use Rattle.fit.specs.Opening.{needed, openingOf}
+use Rattle.recovery.specs.Recovery.{publishedTests, publishedIn}
 use Rattle.exports.specs.Exports.{opened, openedIf, openingLengths, openingAt}
 use Rattle.exports.specs.Pieces.{openedBy, Openings}
 use Rattle.exports.proofs.Answers.{fit-below}
@@ -49,13 +51,13 @@ first-below p (x ∷ xs) h r = r .0
 
 module _ (p n t : ℕ) (T shares : List ℕ) (fitted : Fitted) (same : fitted ≡ publishedIn p n t T shares) where
   pub opened-by : (old : ℕ) (a : Admission) (r : ℕ × ℕ) → Openings p n t T shares → a ≡ Pass
-      → r ≡ openedBy (fitted .outcome) (getD (fitted .coefficients) 0 0) old → r ≡ openedIf a old (openingOf p n t T shares)
+      → r ≡ openedBy (fitted .outcome) (getD (fitted .coefficients) 0 0) old → r ≡ openedIf a old (openingOf p t T shares)
   unfolding publishedIn
   opened-by old a r right e h =
       h
       ∙ ap (λ w. openedBy (w .outcome) (getD (w .coefficients) 0 0) old) same
-      ∙ opened-decoded (lowest (publishedTests n t (length shares))) (openingOf p n t T shares) old
-      ∙ ap (λ b. openedIf b old (openingOf p n t T shares)) (passed ∙ sym e)
+      ∙ opened-decoded (lowest (publishedTests n t (length shares))) (openingOf p t T shares) old
+      ∙ ap (λ b. openedIf b old (openingOf p t T shares)) (passed ∙ sym e)
     where
       passed : lowest (publishedTests n t (length shares)) ≡ Pass
       passed = rw (right .size, eq-eqb (length shares) n (right .lengths))
@@ -65,8 +67,8 @@ module _ (p n t : ℕ) (T shares : List ℕ) (fitted : Fitted) (same : fitted �
   unfolding publishedIn
   opened-narrow P h =
       let tests = lowest (publishedTests n t (length shares)) in
-      let below = first-below p (decodedIf tests (openingOf p n t T shares) .coefficients) (omega (arith, P .two))
-      (fit-below p P tests t (n - t) T shares) in
+      let below = first-below p (decodedIf tests (openingOf p t T shares) .coefficients) (omega (arith, P .two))
+      (fit-below p P tests t (needed t (2 * t + 1) (sent p shares)) T shares) in
       subst (λ w. getD (w .coefficients) 0 0 < 65536) (sym same) (omega (arith, below))
 
 -- ---- with the table in an array
@@ -89,26 +91,26 @@ module _ (p n t : ℕ) (shares : List ℕ) where
   -- A table of another length is refused before it is looked at.
   pub opening-with : (T A : List ℕ) (old : ℕ) (a : Admission) (r : ℕ × ℕ) → A ≡ inArray n T
       → a ≡ lowest (openingLengths n t (length shares) (length T) ++ kept p n (take n A))
-      → r ≡ openedIf a old (openingOf p n t (take n A) shares) → r ≡ openingAt p n t T shares old
+      → r ≡ openedIf a old (openingOf p t (take n A) shares) → r ≡ openingAt p n t T shares old
   unfolding openingAt
   opening-with T A old a r array e h =
-      h ∙ ap (λ b. openedIf b old (openingOf p n t (take n A) shares)) e ∙ ap answer array ∙ go (lowest tests) refl
+      h ∙ ap (λ b. openedIf b old (openingOf p t (take n A) shares)) e ∙ ap answer array ∙ go (lowest tests) refl
     where
       tests : List Test
       tests = openingLengths n t (length shares) (length T)
 
       -- What is answered with the array B.
       answer : List ℕ → ℕ × ℕ
-      answer B = openedIf (lowest (tests ++ kept p n (take n B))) old (openingOf p n t (take n B) shares)
+      answer B = openedIf (lowest (tests ++ kept p n (take n B))) old (openingOf p t (take n B) shares)
 
       go : (b : Admission) → lowest tests ≡ b
-          → answer (inArray n T) ≡ openedIf (lowest (tests ++ kept p n T)) old (openingOf p n t T shares)
+          → answer (inArray n T) ≡ openedIf (lowest (tests ++ kept p n T)) old (openingOf p t T shares)
       go Pass e =
           let l = lengths-passed n t (length shares) (length T) e in
-          ap (λ B. openedIf (lowest (tests ++ kept p n B)) old (openingOf p n t B shares)) (kept-front n T (l .3) (l .2))
+          ap (λ B. openedIf (lowest (tests ++ kept p n B)) old (openingOf p t B shares)) (kept-front n T (l .3) (l .2))
       go (Fail why) e =
-          ap (λ b. openedIf b old (openingOf p n t (take n (inArray n T)) shares)) (lowest-first tests (kept p n (take n (inArray n T))) e)
-          ∙ ap (λ b. openedIf b old (openingOf p n t T shares)) (sym (lowest-first tests (kept p n T) e))
+          ap (λ b. openedIf b old (openingOf p t (take n (inArray n T)) shares)) (lowest-first tests (kept p n (take n (inArray n T))) e)
+          ∙ ap (λ b. openedIf b old (openingOf p t T shares)) (sym (lowest-first tests (kept p n T) e))
 
   -- ---- without a table
   module _ (above : 16 < p) where
@@ -124,34 +126,34 @@ module _ (p n t : ℕ) (shares : List ℕ) where
 
     pub opening-plain : (A : List ℕ) (old : ℕ) (a : Admission) (r : ℕ × ℕ) → A ≡ oneTo 16
         → a ≡ lowest (openingLengths n t (length shares) n)
-        → r ≡ openedIf a old (openingOf p n t (take n A) shares) → r ≡ openingAt p n t (oneTo n) shares old
+        → r ≡ openedIf a old (openingOf p t (take n A) shares) → r ≡ openingAt p n t (oneTo n) shares old
     unfolding openingAt
     opening-plain A old a r array e h =
         h
-        ∙ ap₂ (λ b B. openedIf b old (openingOf p n t (take n B) shares)) e array
+        ∙ ap₂ (λ b B. openedIf b old (openingOf p t (take n B) shares)) e array
         ∙ go (lowest (openingLengths n t (length shares) n)) refl
-        ∙ ap (λ k. openedIf (lowest (openingLengths n t (length shares) k ++ kept p n (oneTo n))) old (openingOf p n t (oneTo n) shares))
+        ∙ ap (λ k. openedIf (lowest (openingLengths n t (length shares) k ++ kept p n (oneTo n))) old (openingOf p t (oneTo n) shares))
         (sym (length-one-to n))
       where
         tests : List Test
         tests = openingLengths n t (length shares) n
 
         go : (b : Admission) → lowest tests ≡ b
-            → openedIf (lowest tests) old (openingOf p n t (take n (oneTo 16)) shares)
-            ≡ openedIf (lowest (tests ++ kept p n (oneTo n))) old (openingOf p n t (oneTo n) shares)
+            → openedIf (lowest tests) old (openingOf p t (take n (oneTo 16)) shares)
+            ≡ openedIf (lowest (tests ++ kept p n (oneTo n))) old (openingOf p t (oneTo n) shares)
         go Pass e =
             let few = lengths-passed n t (length shares) n e .3 in
             let table = table-true p n (oneTo n) (one-to-table p n (omega arith)) in
-            ap₂ (λ b T. openedIf b old (openingOf p n t T shares))
+            ap₂ (λ b T. openedIf b old (openingOf p t T shares))
             (passed-more tests (kept p n (oneTo n)) (ap (λ b. lowest ((b, WrongTable) ∷ [])) table))
             (sixteen-front n few)
         go (Fail why) e =
-            ap (λ b. openedIf b old (openingOf p n t (take n (oneTo 16)) shares)) e
-            ∙ ap (λ b. openedIf b old (openingOf p n t (oneTo n) shares)) (sym (lowest-first tests (kept p n (oneTo n)) e))
+            ap (λ b. openedIf b old (openingOf p t (take n (oneTo 16)) shares)) e
+            ∙ ap (λ b. openedIf b old (openingOf p t (oneTo n) shares)) (sym (lowest-first tests (kept p n (oneTo n)) e))
 
 -- ---- where all is right, and the numbers: 1 for the sizes, 3 for the shares and for the table's length, 14 for its entries
 module _ (p n t : ℕ) (T shares : List ℕ) (old : ℕ) where
-  pub opening-by : Openings p n t T shares → openingAt p n t T shares old ≡ opened old (openingOf p n t T shares)
+  pub opening-by : Openings p n t T shares → openingAt p n t T shares old ≡ opened old (openingOf p t T shares)
   unfolding openingAt
   opening-by o =
       rw (o .size, eq-eqb (length shares) n (o .lengths), eq-eqb (length T) n (o .table .size), table-true p n T (o .table))

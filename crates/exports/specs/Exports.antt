@@ -20,7 +20,8 @@ use Rattle.answers.specs.Refusals.{Test, refusalNumber, lowest}
 use Rattle.answers.specs.Fits.{constant}
 use Rattle.fit.specs.Fit.{fit}
 use Rattle.tables.specs.Tables.{oneTo, isTable}
-use Rattle.recovery.specs.Recovery.{openingOf, publishedTests}
+use Rattle.fit.specs.Opening.{openingOf}
+use Rattle.recovery.specs.Recovery.{publishedTests}
 use Rattle.dealer.specs.Desk.{dealingNumber, deskWith}
 use Rattle.transcript.specs.Transcript.{rendering, bytesWritten}
 
@@ -80,9 +81,10 @@ openingLengths n t m k = publishedTests n t m ++ (eqb k n, WrongLength) ∷ []
 abbrev pub openingTests : ℕ → ℕ → ℕ → List ℕ → ℕ → List Test
 openingTests p n t T m = openingLengths n t m (length T) ++ (isTable p n T, WrongTable) ∷ []
 
--- At most t of the n shares differ: 1 for the sizes, 3 for the number of shares, 3 and 14 for the table, and 10 where nothing is found.
+-- At least 2t + 1 of the n shares agree and at most t of those sent differ: 1 for the sizes, 3 for the number of shares, 3 and 14 for the
+-- table, and 10 where nothing is found.
 unfoldable pub openingAt : ℕ → ℕ → ℕ → List ℕ → List ℕ → ℕ → ℕ × ℕ
-openingAt p n t T shares old = openedIf (lowest (openingTests p n t T (length shares))) old (openingOf p n t T shares)
+openingAt p n t T shares old = openedIf (lowest (openingTests p n t T (length shares))) old (openingOf p t T shares)
 
 -- Without a table.
 abbrev pub opening : ℕ → ℕ → ℕ → List ℕ → ℕ → ℕ × ℕ

@@ -8,7 +8,7 @@ ghost use Rattle.answers.specs.declared.Admission.the-variants.{Pass};
 ghost use Rattle.answers.specs.declared.Refusal.the-variants.{WrongTable};
 ghost use Rattle.answers.specs.Refusals.{lowest};
 ghost use Rattle.tables.specs.Tables.{isTable};
-ghost use Rattle.recovery.specs.Recovery.{openingOf};
+ghost use Rattle.fit.specs.Opening.{openingOf};
 ghost use Rattle.exports.specs.Exports.{openingLengths, openedIf};
 ghost use Rattle.exports.specs.Pieces.{openedBy, Openings};
 use answers::Admission;
@@ -89,7 +89,7 @@ pub(crate) fn opened_by(
 ) -> u8
     requires { ⌜ (admitted ≡ Pass → Openings modulus n t (take n table) (now shares)) ⌝ }
     ensures { λ r. ⌜ (now (opened .exit), r) ≡ openedIf admitted (now (opened .entry))
-        (openingOf modulus n t (take n table) (now (shares .entry))) ⌝ }
+        (openingOf modulus t (take n table) (now (shares .entry))) ⌝ }
 {
     match admitted {
         Admission::Fail(why) => refusal_number(why),
@@ -116,7 +116,7 @@ pub(crate) fn opened_wide_by(
 ) -> u8
     requires { ⌜ (admitted ≡ Pass → Openings wideModulus n t (take n table) (now shares)) ⌝ }
     ensures { λ r. ⌜ (now (opened .exit), r) ≡ openedIf admitted (now (opened .entry))
-        (openingOf wideModulus n t (take n table) (now (shares .entry))) ⌝ }
+        (openingOf wideModulus t (take n table) (now (shares .entry))) ⌝ }
 {
     match admitted {
         Admission::Fail(why) => refusal_number(why),

@@ -1,15 +1,15 @@
 -- What `fit` answers: why it refuses, and what an admitted call says of the points.
 --   fitted-result   what is answered for what was found by trial
 --   fit-degree, fit-lengths, fit-many, fit-few   the four refusals
---   fit-admitted    an admitted call answers what fits
+--   fit-admitted    an admitted call answers what fits with the need of those sent; fit-least: that need is `least` where few were sent
 --   fit-nothing-iff, fit-found-fits   nothing exactly if nothing fits; what is found fits
 use mathlib.Core.Path.{_≡_, refl, sym, ap, _∙_}
-use mathlib.Core.Bool.{true, false}
 use mathlib.Core.Logic.{_↔_}
 use mathlib.Core.Option.{Option, none, some}
 use mathlib.Core.List.{List}
-use Prim.Native.Nat.{ℕ, _≤_, _<_}
-use borrow.Author.Tests.{le-leb, lt-leb, lt-ltb, le-ltb, eq-eqb, ne-eqb}
+use Prim.Native.Nat.{ℕ, _+_, _*_, _≤_, _<_}
+use native.Mathlib.Omega.{arith}
+use borrow.Author.Tests.{le-leb, lt-leb, eq-eqb, ne-eqb}
 use lib.ListN.{length}
 use Rattle.lists.specs.Tabulate.{pad}
 use Rattle.answers.specs.declared.Refusal.the-variants.{WrongSize, WrongLength}
@@ -20,7 +20,8 @@ use Rattle.field.specs.Arithmetic.{Prime}
 use Rattle.polynomial.specs.Polynomial.{Points}
 use Rattle.trial.specs.declared.Tried.{Tried}
 use Rattle.trial.specs.Results.{resultOf}
-use Rattle.fit.specs.Fit.{Fits, fit}
+use Rattle.fit.specs.Fit.{sent, Fits, fit}
+use Rattle.fit.specs.Opening.{needed}
 use Rattle.fit.specs.Admitted.{Admitted, fittedOf, fitIn}
 use Rattle.fit.proofs.Decoding.{fit-sound, fit-none-iff}
 
@@ -31,47 +32,57 @@ fitted-result r o e = ap fittedOf e ∙ cases o
     cases none = refl
     cases (some f) = refl
 
-module _ (p t need : ℕ) (xs ys : List ℕ) where
+module _ (p t least : ℕ) (xs ys : List ℕ) where
   -- ---- refused
-  pub fit-degree : 3 < t → refusedFit WrongSize ≡ fitIn p t need xs ys
+  pub fit-degree : 3 < t → refusedFit WrongSize ≡ fitIn p t least xs ys
   unfolding fitIn
   fit-degree h = rw (lt-leb t 3 h)
 
   module _ (degree : t ≤ 3) where
-    pub fit-lengths : (length xs ≡ length ys → ⊥) → refusedFit WrongLength ≡ fitIn p t need xs ys
+    pub fit-lengths : (length xs ≡ length ys → ⊥) → refusedFit WrongLength ≡ fitIn p t least xs ys
     unfolding fitIn
     fit-lengths l = rw (le-leb t 3 degree, ne-eqb (length xs) (length ys) l)
 
-    pub fit-many : length xs ≡ length ys → 16 < length xs → refusedFit WrongLength ≡ fitIn p t need xs ys
+    pub fit-many : length xs ≡ length ys → 16 < length xs → refusedFit WrongLength ≡ fitIn p t least xs ys
     unfolding fitIn
     fit-many l m = rw (le-leb t 3 degree, eq-eqb (length xs) (length ys) l, lt-leb (length xs) 16 m)
 
-    pub fit-few : length xs ≡ length ys → length xs ≤ 16 → need ≤ t → refusedFit WrongLength ≡ fitIn p t need xs ys
+    pub fit-few : length xs ≡ length ys → length xs ≤ 16 → least < 2 * t + 1 → refusedFit WrongLength ≡ fitIn p t least xs ys
     unfolding fitIn
     fit-few l m n =
-        rw (le-leb t 3 degree, eq-eqb (length xs) (length ys) l, le-leb (length xs) 16 m, le-ltb t need n)
+        rw (le-leb t 3 degree, eq-eqb (length xs) (length ys) l, le-leb (length xs) 16 m, lt-leb (2 * t + 1) least n)
 
   -- ---- admitted
-  module _ (a : Admitted t need xs ys) where
-    pub fit-admitted : fitIn p t need xs ys ≡ decoded (fit p t need xs ys)
+  module _ (a : Admitted t least xs ys) where
+    abbrev need : ℕ
+    need = needed t least (sent p ys)
+
+    pub fit-admitted : fitIn p t least xs ys ≡ decoded (fit p t need xs ys)
     unfolding fitIn
     fit-admitted =
         let lengths = eq-eqb (length xs) (length ys) (a .bounded .lengths) in
         let most = le-leb (length xs) 16 (a .bounded .most) in
-        rw (le-leb t 3 (a .degree), lengths, most, lt-ltb t need (a .above))
+        rw (le-leb t 3 (a .degree), lengths, most, le-leb (2 * t + 1) least (a .enough))
+
+    -- Where at most t more than `least` were sent, `least` is what must agree.
+    pub fit-least : sent p ys ≤ least + t → fitIn p t least xs ys ≡ decoded (fit p t least xs ys)
+    fit-least few =
+        let same : need ≡ least = omega arith in
+        fit-admitted ∙ ap (λ m. decoded (fit p t m xs ys)) same
 
     -- Nothing exactly if nothing fits.
-    pub fit-nothing-iff : Prime p → Points p xs → (fitIn p t need xs ys .outcome ≡ Nothing) ↔ ((f : List ℕ) → Fits p t need xs ys f → ⊥)
+    pub fit-nothing-iff : Prime p → Points p xs
+        → (fitIn p t least xs ys .outcome ≡ Nothing) ↔ ((f : List ℕ) → Fits p t need xs ys f → ⊥)
     fit-nothing-iff P ps =
-        let iff = fit-none-iff p P t need xs ys ps (a .above) in
+        let iff = fit-none-iff p P t need xs ys ps (omega (arith, a .enough)) in
         let same = ap (λ w. w .outcome) fit-admitted in (
           λ e. iff .0 (nothing-is (fit p t need xs ys) (sym same ∙ e)),
           λ h. same ∙ ap (λ o. decoded o .outcome) (iff .1 h),
         )
 
     -- What is found fits.
-    pub fit-found-fits : Prime p → fitIn p t need xs ys .outcome ≡ Found
-        → (f : List ℕ) × Fits p t need xs ys f × (fitIn p t need xs ys .coefficients ≡ pad 4 f)
+    pub fit-found-fits : Prime p → fitIn p t least xs ys .outcome ≡ Found
+        → (f : List ℕ) × Fits p t need xs ys f × (fitIn p t least xs ys .coefficients ≡ pad 4 f)
     fit-found-fits P e =
         let found = found-is (fit p t need xs ys) (sym (ap (λ w. w .outcome) fit-admitted) ∙ e) in (
           found .found,

@@ -1,14 +1,14 @@
 -- What `fit` answers for every input.
---   Admitted t need xs ys   what is decoded; fitTests t need xs ys are the tests for it, in the order of their numbers
+--   Admitted t least xs ys  what is decoded; fitTests t least xs ys are the tests for it, in the order of their numbers
 --   decodedIf a o           what is answered where the tests gave a: the refusal, or else what was decoded
 --   fittedOf r              what is answered for what was found by trial
---   fitIn p t need xs ys    what `fit` answers
+--   fitIn p t least xs ys   what `fit` answers
 -- Laws: proofs/Admitted.
 use mathlib.Core.Bool.{cond}
 use mathlib.Core.Option.{Option}
 use mathlib.Core.List.{List, [], _∷_}
-use Prim.Native.Nat.{ℕ, _≤_, _<_}
-use lib.Dec.{leb, ltb, eqb}
+use Prim.Native.Nat.{ℕ, _+_, _*_, _≤_}
+use lib.Dec.{leb, eqb}
 use lib.ListN.{length}
 use Rattle.answers.specs.declared.Refusal.the-variants.{WrongSize, WrongLength}
 use Rattle.answers.specs.declared.Admission.{Admission}
@@ -19,22 +19,23 @@ use Rattle.answers.specs.Refusals.{Test, lowest}
 use Rattle.answers.specs.Fits.{decoded, refusedFit}
 use Rattle.trial.specs.declared.Tried.{Tried}
 use Rattle.trial.specs.Results.{Bounded}
-use Rattle.fit.specs.Fit.{fit}
+use Rattle.fit.specs.Fit.{sent, fit}
+use Rattle.fit.specs.Opening.{needed}
 
--- A degree of at most 3, a value for each of at most 16 points, and more points that must agree than t: through t points there is
--- always a polynomial, and the search would not look for it where fewer than t + 1 were sent.
-pub record Admitted (t need : ℕ) (xs ys : List ℕ) : Type 0 where
+-- A degree of at most 3, a value for each of at most 16 points, and 2t + 1 points that must agree: where at most t of those sent may
+-- differ besides, at most one polynomial fits.
+pub record Admitted (t least : ℕ) (xs ys : List ℕ) : Type 0 where
   pub degree : t ≤ 3
   pub bounded : Bounded xs ys
-  pub above : t < need
+  pub enough : 2 * t + 1 ≤ least
 
 -- The tests, in the order of their numbers.
 abbrev pub fitTests : ℕ → ℕ → List ℕ → List ℕ → List Test
-fitTests t need xs ys =
+fitTests t least xs ys =
     (leb t 3, WrongSize)
     ∷ (eqb (length xs) (length ys), WrongLength)
     ∷ (leb (length xs) 16, WrongLength)
-    ∷ (ltb t need, WrongLength)
+    ∷ (leb (2 * t + 1) least, WrongLength)
     ∷ []
 
 -- The refusal where there is one, and otherwise what was decoded.
@@ -46,6 +47,6 @@ decodedIf (Fail why) o = refusedFit why
 abbrev pub fittedOf : Tried → Fitted
 fittedOf r = record { outcome = cond (r .found) Found Nothing; coefficients = r .coefficients }
 
--- Refused, or what fits.
+-- Refused, or what fits with the need of those sent.
 unfoldable pub fitIn : ℕ → ℕ → ℕ → List ℕ → List ℕ → Fitted
-fitIn p t need xs ys = decodedIf (lowest (fitTests t need xs ys)) (fit p t need xs ys)
+fitIn p t least xs ys = decodedIf (lowest (fitTests t least xs ys)) (fit p t (needed t least (sent p ys)) xs ys)

@@ -1,8 +1,8 @@
-// Decoding: the polynomial of degree at most t that agrees with at least `need` of the points.
+// Decoding: the polynomial of degree at most t that agrees with enough of the points.
 ghost use mathlib.Core.Path.{_≡_};
 ghost use mathlib.Core.Bool.{_&&_};
 ghost use mathlib.Core.Option.{none};
-ghost use Prim.Native.Nat.{_+_, _≤_, _<_};
+ghost use Prim.Native.Nat.{_+_, _*_, _≤_, _<_};
 ghost use lib.Dec.{ltb, eqb};
 ghost use lib.ListN.{length, take};
 ghost use Rattle.answers.specs.Fits.{decoded};
@@ -11,7 +11,8 @@ ghost use Rattle.polynomial.specs.Polynomial.{Residues, Points};
 ghost use Rattle.trial.specs.Trial.{pointsOf, pointsSent, fittingThrough, tried};
 ghost use Rattle.trial.specs.Results.{Bounded, resultOf};
 ghost use Rattle.fit.specs.Fit.{sent, fit};
-ghost use Rattle.fit.specs.Admitted.{fittedOf, fitIn};
+ghost use Rattle.fit.specs.Opening.{needed};
+ghost use Rattle.fit.specs.Admitted.{Admitted, fittedOf, fitIn};
 ghost use Rattle.fit.specs.Grouping.{Behind, Grouping};
 ghost use Rattle.fit.specs.Pairs.{fourAt};
 use answers::Decoding;
@@ -221,33 +222,78 @@ fn short_of_groups(t: usize, wrong: usize, n: usize) -> bool
     n < 16
 }
 
-// The search where nothing that fits goes through the first t + 1 points sent.
-fn later(w: Width, t: usize, need: usize, xs: &[u32], ys: &[u32]) -> Fitted
-    requires { ⌜ (t ≤ 3) × Bounded (now xs) (now ys)
+// The search where s values were sent, at most one polynomial can fit, and none that fits goes through the first t + 1 points sent.
+fn later(w: Width, t: usize, need: usize, xs: &[u32], ys: &[u32], s: usize) -> Fitted
+    requires { ⌜ (t ≤ 3) × Bounded (now xs) (now ys) × (s ≡ sent (primeOf w) (now ys)) × (s + t + 1 ≤ 2 * need)
         × (tried (primeOf w) need (now xs) (now ys) 0 (t + 1) 0 ≡ none) × Points (primeOf w) (now xs) ⌝ }
     ensures { λ r. ⌜ r ≡ decoded (fit (primeOf w) t need (now (xs .entry)) (now (ys .entry))) ⌝ }
 {
-    let n = sent(field::modulus(w), ys);
-    if n <= need {
+    if s <= need {
         return nothing();
     }
-    let spare = n - need;
-    if spare + t < need {
-        if short_of_groups(t, spare, n) {
-            return copied(by_pairs(w, xs, ys, need, n));
-        }
-        return copied(groups(w, t, need, xs, ys, n, spare));
+    let spare = s - need;
+    if short_of_groups(t, spare, s) {
+        return copied(by_pairs(w, xs, ys, need, s));
     }
-    decoded(trial::choices(w, xs, ys, need, 0, t + 1, spare))
+    copied(groups(w, t, need, xs, ys, s, spare))
 }
 
-// The polynomial of degree at most t that agrees with at least `need` of the points (xs[i], ys[i]), if one does. A degree above 3 is
-// refused as a wrong size; lists of two lengths, more than 16 points, or a need of t or less, as a wrong length. That the points are
-// distinct residues is the caller's to show: only then is none found only where there is none.
-// The first t + 1 points sent come first in any case, and mostly none of them is wrong: they are tried before anything is asked.
-pub fn fit(w: Width, t: usize, need: usize, xs: &[u32], ys: &[u32]) -> Fitted
+// How many of s values sent must agree: at least `least`, and all but t.
+fn needed(t: usize, least: usize, s: usize) -> usize
+    ensures { λ r. ⌜ r ≡ needed t least s ⌝ }
+{
+    if s <= t {
+        return least;
+    }
+    let all_but_t = s - t;
+    if all_but_t <= least {
+        return least;
+    }
+    all_but_t
+}
+
+// The polynomial through the first t + 1 points sent, if `need` points agree with it. With the need of all points it was tried in vain;
+// it is tried again only where some of them are missing, and s, as many as were sent, are enough.
+fn again(w: Width, t: usize, need: usize, xs: &[u32], ys: &[u32], s: usize) -> Tried
+    requires { ⌜ (t ≤ 3) × Bounded (now xs) (now ys) × (s ≡ sent (primeOf w) (now ys)) × Residues (primeOf w) (now xs)
+        × (s ≡ length (now xs) → tried (primeOf w) need (now xs) (now ys) 0 (t + 1) 0 ≡ none) ⌝ }
+    ensures { λ r. ⌜ r ≡ resultOf (tried (primeOf w) need (now (xs .entry)) (now (ys .entry)) 0 (t + 1) 0) ⌝ }
+{
+    if s == xs.len() {
+        return trial::nothing();
+    }
+    if s < need {
+        return trial::nothing();
+    }
+    trial::next(w, xs, ys, need, 0, t + 1)
+}
+
+// The search where fewer points agree with what goes through the first t + 1 sent than would have to if all were sent. Now those sent
+// are counted: the first t + 1 are tried once more, with the need of so many, and then the others.
+fn among_sent(w: Width, t: usize, least: usize, xs: &[u32], ys: &[u32]) -> Fitted
+    requires { ⌜ Admitted t least (now xs) (now ys) × Points (primeOf w) (now xs)
+        × (tried (primeOf w) (needed t least (length (now xs))) (now xs) (now ys) 0 (t + 1) 0 ≡ none) ⌝ }
+    ensures { λ r. ⌜ r ≡ decoded (fit (primeOf w) t (needed t least (sent (primeOf w) (now (ys .entry))))
+        (now (xs .entry)) (now (ys .entry))) ⌝ }
+{
+    let s = sent(field::modulus(w), ys);
+    let need = needed(t, least, s);
+    let first = again(w, t, need, xs, ys, s);
+    if first.found {
+        return decoded(first);
+    }
+    later(w, t, need, xs, ys, s)
+}
+
+// The polynomial of degree at most t with which at least `least` of the points (xs[i], ys[i]) agree, and from which at most t of those
+// sent differ, if there is one. A degree above 3 is refused as a wrong size; lists of two lengths, more than 16 points, or a `least`
+// below 2t + 1, as a wrong length. That the points are distinct residues is the caller's to show: only then is none found only where
+// there is none.
+// What agrees with as many points as if all were sent is such in any case. The first t + 1 points sent come first, and mostly none of
+// them is wrong: they are tried so before anything is counted.
+pub fn fit(w: Width, t: usize, least: usize, xs: &[u32], ys: &[u32]) -> Fitted
     requires { ⌜ Points (primeOf w) (now xs) ⌝ }
-    ensures { λ r. ⌜ r ≡ fitIn (primeOf w) t need (now (xs .entry)) (now (ys .entry)) ⌝ }
+    ensures { λ r. ⌜ r ≡ fitIn (primeOf w) t least (now (xs .entry)) (now (ys .entry)) ⌝ }
 {
     if 3 < t {
         return answers::refused_fit(Refusal::WrongSize);
@@ -258,12 +304,13 @@ pub fn fit(w: Width, t: usize, need: usize, xs: &[u32], ys: &[u32]) -> Fitted
     if 16 < xs.len() {
         return answers::refused_fit(Refusal::WrongLength);
     }
-    if need <= t {
+    if least <= 2 * t {
         return answers::refused_fit(Refusal::WrongLength);
     }
-    let first = trial::next(w, xs, ys, need, 0, t + 1);
+    let all = needed(t, least, xs.len());
+    let first = trial::next(w, xs, ys, all, 0, t + 1);
     if first.found {
         return decoded(first);
     }
-    copied(later(w, t, need, xs, ys))
+    copied(among_sent(w, t, least, xs, ys))
 }

@@ -227,11 +227,11 @@ settled l S =
 
 -- ---- 5. opening
 
--- The polynomial that fits the published shares, the lamp's own share in its own place: at most t of them differ.
+-- The polynomial that the published shares open, the lamp's own share in its own place.
 unfoldable pub opening : Lamp → List ℕ → Option (List ℕ)
 opening l xs =
     let a = l .party in
-    openingWith (itsPrime a) (a .n) (a .t) (tableOf a) (a .number) (l .sharing .share) xs
+    openingWith (itsPrime a) (a .t) (tableOf a) (a .number) (l .sharing .share) xs
 
 abbrev pub opened : Lamp → Option (List ℕ) → Reply
 opened l none = refuse l NoOpening

@@ -38,7 +38,7 @@ use Rattle.printed.specs.Direct.{itsPairs, itsReport}
 use Rattle.printed.specs.Printed.{itsPair, Faithful}
 
 -- What the lamps are dealt, what they say in round two, by receiver, then sender, with u for what is not sent, and what they report.
-abbrev dealt : List ℕ
+abbrev pub dealt : List ℕ
 dealt = 9 ∷ 7 ∷ 10 ∷ 6 ∷ 11 ∷ 11 ∷ 13 ∷ 10 ∷ 13 ∷ 15 ∷ 16 ∷ 14 ∷ 15 ∷ 19 ∷ 19 ∷ 18 ∷ 17 ∷ 23 ∷ 22 ∷ 22 ∷ []
 
 abbrev heardWith : ℕ → List ℕ
@@ -50,10 +50,10 @@ heardWith u =
     ∷ 44 ∷ 40 ∷ 66 ∷ 63 ∷ 88 ∷ 86 ∷ 110 ∷ 109 ∷ u ∷ u
     ∷ []
 
-abbrev heard : List ℕ
+abbrev pub heard : List ℕ
 heard = heardWith 65535
 
-abbrev reported : List ℕ
+abbrev pub reported : List ℕ
 reported = 30 ∷ 29 ∷ 27 ∷ 23 ∷ 15 ∷ []
 
 abbrev published : List ℕ
@@ -114,6 +114,16 @@ table = (
           ++ letters "lamp 1 share 10\nlamp 2 refused 7\nlamp 3 share 16\nlamp 4 share 19\nlamp 5 share 22\nopened refused 10\n",
     )
     ∷ (
+      recordOf Narrow 5 1 dealt heard reported (10 ∷ 13 ∷ 65535 ∷ 65535 ∷ 22 ∷ []),
+      letters "size 5 1\ndealer accepted\nhappy 1 2 3 4 5\n"
+          ++ letters "lamp 1 share 10\nlamp 2 share 13\nlamp 3 share 16\nlamp 4 share 19\nlamp 5 share 22\nopened 7\n",
+    )
+    ∷ (
+      recordOf Narrow 5 1 dealt heard reported (10 ∷ 13 ∷ 65535 ∷ 65535 ∷ 65535 ∷ []),
+      letters "size 5 1\ndealer accepted\nhappy 1 2 3 4 5\n"
+          ++ letters "lamp 1 share 10\nlamp 2 share 13\nlamp 3 share 16\nlamp 4 share 19\nlamp 5 share 22\nopened refused 10\n",
+    )
+    ∷ (
       recordOf Narrow 5 1 dealt (unheard ((4, 5) ∷ (5, 4) ∷ []) heard) (30 ∷ 29 ∷ 27 ∷ 7 ∷ 7 ∷ []) published,
       letters "size 5 1\ndealer accepted\nhappy 1 2 3 4\n"
           ++ letters "lamp 1 share 10\nlamp 2 share 13\nlamp 3 share 16\nlamp 4 share 19\nlamp 5 share 22\nopened 7\n",
@@ -136,10 +146,10 @@ unfolding text textBy textOf lampLines run replyLine lastLine verdictWords names
     directoryRight directory standAt parted paired step withDeal withPairs reportFrom settled repair atEnd reportOf confirms sound sizes
     isParty pointAt isTable notSent fit pointsSent hits sent through interpolate zipWith happySet largestIn largest best better joins
     agreements agree mask tabulate add sub mul inv invWithin ones
-texts = (refl, (refl, (refl, (refl, (refl, (refl, (refl, (refl, (refl, (refl, (refl, (refl, tt))))))))))))
+texts = (refl, (refl, (refl, (refl, (refl, (refl, (refl, (refl, (refl, (refl, (refl, (refl, (refl, (refl, tt))))))))))))))
 
 -- ---- the example, narrow and wide, meets the premises, all lamps being honest
-five : (Q : ℕ → Type 0) → Q 1 → Q 2 → Q 3 → Q 4 → Q 5 → (i : ℕ) → isParty 5 i ≡ true → Q i
+pub five : (Q : ℕ → Type 0) → Q 1 → Q 2 → Q 3 → Q 4 → Q 5 → (i : ℕ) → isParty 5 i ≡ true → Q i
 five Q a b c d e zero h = absurd (omega (arith, party-facts 5 zero h .0))
 five Q a b c d e (suc zero) h = a
 five Q a b c d e (suc (suc zero)) h = b
@@ -148,7 +158,7 @@ five Q a b c d e (suc (suc (suc (suc zero)))) h = d
 five Q a b c d e (suc (suc (suc (suc (suc zero))))) h = e
 five Q a b c d e (suc (suc (suc (suc (suc (suc i)))))) h = absurd (omega (arith, party-facts 5 (suc (suc (suc (suc (suc (suc i)))))) h .1))
 
-abbrev everyone : ℕ → Bool
+abbrev pub everyone : ℕ → Bool
 everyone i = true
 
 module _ (bytes : List ℕ) where
@@ -195,14 +205,18 @@ pub wide-record : IsRecord wide
 unfolding recordOf reading readingAs widthOf directoryRight directory standAt parted sizes
 wide-record = fine-record wide Wide 5 1 refl
 
-pub example-faithful : Faithful everyone example
+-- Whatever is published.
+pub faithful-with : (shares : List ℕ) → Faithful everyone (recordOf Narrow 5 1 dealt heard reported shares)
 unfolding Reports Hears recordOf sectionOf widthOf directory parted paired reportOf confirms sound pairFor pointAt notSent tabulate mask
     add mul
-example-faithful =
-    faithful-by example refl (lit≤ tt) (refl, refl, refl, refl, refl)
+faithful-with shares =
+    faithful-by (recordOf Narrow 5 1 dealt heard reported shares) refl (lit≤ tt) (refl, refl, refl, refl, refl)
     ((refl, refl), (refl, refl), (refl, refl), (refl, refl)) ((refl, refl), (refl, refl), (refl, refl), (refl, refl))
     ((refl, refl), (refl, refl), (refl, refl), (refl, refl)) ((refl, refl), (refl, refl), (refl, refl), (refl, refl))
     ((refl, refl), (refl, refl), (refl, refl), (refl, refl))
+
+pub example-faithful : Faithful everyone example
+example-faithful = faithful-with published
 
 pub wide-faithful : Faithful everyone wide
 unfolding Reports Hears recordOf sectionOf widthOf directory parted paired reportOf confirms sound pairFor pointAt notSent tabulate mask

@@ -2,3 +2,4 @@ pub mod Direct
 pub mod Examples
 pub mod Meaning
 pub mod Printed
+pub mod Missing

@@ -18,7 +18,8 @@ use Rattle.field.specs.declared.Width.{Width}
 use Rattle.field.specs.Modulus.{primeOf}
 use Rattle.field.proofs.Primes.{prime-of}
 use Rattle.polynomial.specs.Polynomial.{Points}
-use Rattle.fit.specs.Fit.{Near, fit}
+use Rattle.fit.specs.Fit.{Near}
+use Rattle.fit.specs.Opening.{Opening}
 use Rattle.text.specs.Letters.{letters, digit, spell, decimal, field, line, joined}
 use Rattle.text.proofs.Letters.{joined-append}
 use Rattle.text.proofs.Spelling.{spell-last, spell-more}
@@ -36,7 +37,7 @@ use Rattle.parties.proofs.Parties.{sizes-facts}
 use Rattle.tables.specs.Tables.{oneTo}
 use Rattle.tables.proofs.Tables.{table-points, length-one-to}
 use Rattle.transcript.proofs.Runs.{plain-table}
-use Rattle.fit.proofs.Rule.{near-found, near-none}
+use Rattle.fit.proofs.Opening.{near-opening, opening-found, opening-none}
 use Rattle.printed.specs.Meaning.{spelt, listed}
 
 -- ---- numbers
@@ -139,20 +140,20 @@ module _ (w : Width) (n t : ℕ) (size : sizes n t ≡ true) (shares : List ℕ)
   enough : 3 * t + 1 ≤ length (oneTo n)
   enough = let f = sizes-facts n t size in omega (arith, length-one-to n)
 
-  needed : fit p t (n - t) (oneTo n) shares ≡ fit p t (length (oneTo n) - t) (oneTo n) shares
-  needed = ap (λ m. fit p t (m - t) (oneTo n) shares) (sym (length-one-to n))
-
-  -- The published list opens the constant of the polynomial that differs from it in at most t places.
-  pub opened-near : (f : List ℕ) → Near p t (oneTo n) shares f
-      → lastLine true w n t shares ≡ line (letters "opened ") (constant f)
+  -- The published list opens the constant of the polynomial that fits it.
+  pub opened-fits : (f : List ℕ) → Opening p t (oneTo n) shares f → lastLine true w n t shares ≡ line (letters "opened ") (constant f)
   unfolding lastLine
-  opened-near f near = ap openingLine (needed ∙ near-found p (prime-of w) t (oneTo n) shares fine same enough f near)
+  opened-fits f fits = ap openingLine (opening-found p (prime-of w) t (oneTo n) shares same fine f fits)
+
+  -- Where at most t of all shares differ, that opens as before.
+  pub opened-near : (f : List ℕ) → Near p t (oneTo n) shares f → lastLine true w n t shares ≡ line (letters "opened ") (constant f)
+  opened-near f near = opened-fits f (near-opening p (prime-of w) t (oneTo n) shares same enough f near)
 
   -- It is refused only where there is none.
-  pub opened-none : ((f : List ℕ) → Near p t (oneTo n) shares f → ⊥)
+  pub opened-none : ((f : List ℕ) → Opening p t (oneTo n) shares f → ⊥)
       → lastLine true w n t shares ≡ line (letters "opened refused ") (refusalNumber NoOpening)
   unfolding lastLine
-  opened-none never = ap openingLine (needed ∙ near-none p (prime-of w) t (oneTo n) shares fine same enough .1 never)
+  opened-none never = ap openingLine (opening-none p (prime-of w) t (oneTo n) shares same fine .1 never)
 
 -- ---- No text is empty.
 some-text : (r : Reading) (bytes : List ℕ) → 1 ≤ length (textBy r bytes)

@@ -2,10 +2,9 @@
 use mathlib.Core.Path.{_≡_, refl, sym, ap, _∙_}
 use mathlib.Core.Logic.{_⊎_, inl, inr, ⊎-elim}
 use mathlib.Core.Bool.{Bool, true, false}
-use mathlib.Core.Option.{none, some, Option·none-ne-some}
+use mathlib.Core.Option.{Option, none, some, Option·none-ne-some}
 use mathlib.Core.List.{List, [], _++_}
-use Prim.Native.Nat.{ℕ, suc}
-use native.Mathlib.Omega.{arith}
+use Prim.Native.Nat.{ℕ, suc, _+_, _*_, _≤_, _<_}
 use Rattle.lists.specs.Options.{orZero}
 use Rattle.lists.proofs.Cases.{true-or-false}
 use Rattle.field.specs.declared.Width.{Width}
@@ -13,10 +12,13 @@ use Rattle.field.specs.Modulus.{primeOf}
 use Rattle.field.proofs.Primes.{prime-of, positive}
 use Rattle.bivariate.proofs.Crossing.{row-poly}
 use Rattle.bivariate.proofs.Terms.{row-at}
-use Rattle.parties.specs.Parties.{isParty}
+use Rattle.polynomial.specs.Polynomial.{Poly, value}
+use Rattle.fit.specs.Opening.{openingOf}
+use Rattle.parties.specs.Parties.{isParty, entry}
 use Rattle.parties.proofs.Parties.{party-facts, sizes-facts}
+use Rattle.tables.specs.Tables.{oneTo}
 use Rattle.tables.proofs.Tables.{one-to-point}
-use Rattle.answers.specs.declared.Refusal.the-variants.{DealerRejected}
+use Rattle.answers.specs.declared.Refusal.the-variants.{DealerRejected, NoOpening}
 use Rattle.answers.specs.Refusals.{refusalNumber}
 use Rattle.answers.specs.Answers.{numberOf}
 use Rattle.record.specs.declared.Reading.the-variants.{Fine}
@@ -29,12 +31,13 @@ use Rattle.transcript.specs.Transcript.{run, textOf, textBy, text}
 use Rattle.transcript.proofs.Runs.{reports-count, shares-count, plain-table}
 use Rattle.agreement.specs.Setting.{Setting, Legal, point, valueOf, zeroRow}
 use Rattle.agreement.specs.Demand3.{Premises, Accepts, Rejects, AllReject, AllAccept, Conclusions}
-use Rattle.agreement.proofs.Geometry.{opens, row-constant}
+use Rattle.agreement.proofs.Geometry.{row-constant}
+use Rattle.agreement.proofs.Openings.{opens-enough, opens-no-other, opens-all}
 use Rattle.agreement.proofs.Agreement.{one-honest}
 use Rattle.agreement.proofs.Plain.{without-tables}
 use Rattle.printed.specs.Direct.{happy, isAcceptedIn}
 use Rattle.printed.specs.Printed.{settingOf, told, story, IsHonest, Faithful, printedLine, textWith}
-use Rattle.printed.specs.Printed.{Rejected, Accepted, PrintedRight, Printed}
+use Rattle.printed.specs.Printed.{PublishedOrNot, honestPublished, Rejected, Accepted, PrintedRight, Printed}
 use Rattle.printed.proofs.Direct.{deal-long, pairs-long, says-rejected, says-accepted}
 
 module _ (honest : ℕ → Bool) (bytes : List ℕ) (is : IsRecord bytes) (f : Faithful honest bytes) where
@@ -135,18 +138,60 @@ module _ (honest : ℕ → Bool) (bytes : List ℕ) (is : IsRecord bytes) (f : F
     lines = λ i h. refused-line i (r i h);
   }
 
+  -- ---- the opening of what is published, F being the polynomial of all
+  module _ (F : List ℕ) (a : AllAccept s (story honest bytes) F) where
+    abbrev shares : List ℕ
+    shares = numbersOf bytes 3
+
+    row-fine : Poly (primeOf w) (suc t) (zeroRow s F)
+    row-fine = row-poly (primeOf w) (suc t) (suc t) F 0 (positive w)
+
+    on-row : (j : ℕ) → isParty n j ≡ true → value (primeOf w) (zeroRow s F) (point s j) ≡ valueOf s F j 0
+    on-row j q = row-at (primeOf w) (suc t) (suc t) F (point s j) 0 ∙ share-at F j q
+
+    abbrev secretLine : List ℕ
+    secretLine = line (letters "opened ") (valueOf s F 0 0)
+
+    found : openingOf (primeOf w) t (oneTo n) shares ≡ some (zeroRow s F) → lastLine true w n t shares ≡ secretLine
+    unfolding lastLine
+    found is = ap openingLine is ∙ ap (openedLine 0) (row-constant s legal F (a .on .poly .size))
+
+    prints-all : ((j : ℕ) → IsHonest honest bytes j → entry shares j ≡ valueOf s F j 0) → lastLine true w n t shares ≡ secretLine
+    prints-all published =
+        found (opens-all s legal honest (f .few) (zeroRow s F) shares row-fine (shares-count bytes w n t fine)
+        (λ j q g. on-row j q ∙ sym (published j (record { party = q; good = g }))))
+
+    module _ (published : PublishedOrNot honest bytes F) where
+      on-f : (j : ℕ) → isParty n j ≡ true → honest j ≡ true → entry shares j < primeOf w
+          → value (primeOf w) (zeroRow s F) (point s j) ≡ entry shares j
+      on-f j q g was-sent = on-row j q ∙ sym (published j (record { party = q; good = g }) was-sent)
+
+      prints-enough : 2 * t + 1 ≤ honestPublished honest bytes → lastLine true w n t shares ≡ secretLine
+      prints-enough many =
+          found (opens-enough s legal honest (f .few) (zeroRow s F) shares row-fine (shares-count bytes w n t fine) on-f many)
+
+      prints-no-other : (lastLine true w n t shares ≡ secretLine)
+          ⊎ (lastLine true w n t shares ≡ line (letters "opened refused ") (refusalNumber NoOpening))
+      unfolding lastLine
+      prints-no-other = go (openingOf (primeOf w) t (oneTo n) shares) refl
+        where
+          go : (o : Option (List ℕ)) → openingOf (primeOf w) t (oneTo n) shares ≡ o
+              → (lastLine true w n t shares ≡ secretLine)
+              ⊎ (lastLine true w n t shares ≡ line (letters "opened refused ") (refusalNumber NoOpening))
+          go none e = inr (ap openingLine e)
+          go (some g) e =
+              let only = opens-no-other s legal honest (f .few) (zeroRow s F) shares row-fine (shares-count bytes w n t fine) on-f g e in
+              inl (found (e ∙ ap some only))
+
   accepted : (F : List ℕ) → AllAccept s (story honest bytes) F → Accepted honest bytes F
   unfolding lastLine verdictWords run
   accepted F a = record {
     all = a;
     prints = printed-by true (verdict-yes (someone .0) (someone .1) (a .hold (someone .0) (someone .1) .answered .0));
     lines = λ i h. share-line F i (h .party) (a .hold i h);
-    opens = λ published.
-        let found = opens s legal honest (f .few) (zeroRow s F) (numbersOf bytes 3)
-        (row-poly (primeOf w) (suc t) (suc t) F 0 (positive w)) (shares-count bytes w n t fine)
-        (λ j q g.
-        row-at (primeOf w) (suc t) (suc t) F (point s j) 0 ∙ share-at F j q ∙ sym (published j (record { party = q; good = g }))) in
-        ap openingLine found ∙ ap (openedLine 0) (row-constant s legal F (a .on .poly .size));
+    opens = prints-all F a;
+    opens-enough = prints-enough F a;
+    opens-no-other = prints-no-other F a;
   }
 
   right : PrintedRight honest bytes

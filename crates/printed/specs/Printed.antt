@@ -3,19 +3,21 @@
 --   settingOf bytes           the record's width and sizes, with the points 1 to n
 --   told bytes i              lamp i's calls, as the record tells them: its deal, its pairs, the reports, an opening of what is published
 --   story honest bytes        the execution of all lamps
+--   PublishedOrNot F          each honest lamp has published its share or nothing; honestPublished: how many have published it
 --   Rejected, Accepted        what the text says; PrintedRight: one of the two
 --   Printed                   the claim, for every record and every choice of honest lamps
 use mathlib.Core.Path.{_≡_}
 use mathlib.Core.Logic.{_⊎_}
-use mathlib.Core.Bool.{Bool, true, not}
+use mathlib.Core.Bool.{Bool, true, not, _&&_}
 use mathlib.Core.List.{List, [], _∷_, _++_}
-use Prim.Native.Nat.{ℕ, _≤_}
+use Prim.Native.Nat.{ℕ, _+_, _*_, _≤_, _<_}
+use lib.Dec.{ltb}
 use lib.ListN.{getD}
 use Rattle.lists.specs.Choices.{count}
 use Rattle.parties.specs.Parties.{parties, entry}
 use Rattle.tables.specs.Tables.{oneTo}
 use Rattle.consistency.specs.Deal.{firstFrom, secondFrom}
-use Rattle.answers.specs.declared.Refusal.the-variants.{DealerRejected}
+use Rattle.answers.specs.declared.Refusal.the-variants.{DealerRejected, NoOpening}
 use Rattle.answers.specs.Refusals.{refusalNumber}
 use Rattle.lamp.specs.Lamp.{openShares}
 use Rattle.record.specs.Record.{widthOf, nOf, tOf, IsRecord, numbersOf}
@@ -23,7 +25,7 @@ use Rattle.text.specs.Letters.{letters, field, line}
 use Rattle.lines.specs.Lines.{sizeLine, happyLine}
 use Rattle.transcript.specs.Outcomes.{replyLine, lastLine}
 use Rattle.transcript.specs.Transcript.{run, lampLines, text}
-use Rattle.agreement.specs.Setting.{Setting, valueOf, pairBy}
+use Rattle.agreement.specs.Setting.{Setting, prime, valueOf, pairBy}
 use Rattle.agreement.specs.Calls.{Run, whole}
 use Rattle.agreement.specs.Demand3.{Execution, Honest, AllReject, AllAccept, HonestDealer}
 use Rattle.agreement.specs.Plain.{plain}
@@ -92,8 +94,18 @@ module _ (honest : ℕ → Bool) (bytes : List ℕ) where
     pub lines : (i : ℕ) → IsHonest i
         → printedLine i ≡ field (letters "lamp ") i ++ line (letters " refused ") (refusalNumber DealerRejected)
 
+  -- In the published list each honest lamp's place holds F(j, 0), if anything was sent.
+  abbrev pub PublishedOrNot : List ℕ → Type 0
+  PublishedOrNot F = (j : ℕ) → IsHonest j → entry (numbersOf bytes 3) j < prime (settingOf bytes)
+      → entry (numbersOf bytes 3) j ≡ valueOf (settingOf bytes) F j 0
+
+  -- How many honest lamps have published: the list is opened by itself, with no lamp's own share.
+  abbrev pub honestPublished : ℕ
+  honestPublished = count (λ j. honest j && ltb (entry (numbersOf bytes 3) j) (prime (settingOf bytes))) (parties (nOf bytes))
+
   -- "dealer accepted" is printed and the happy lamps; "lamp i share v" with v = F(i, 0), of every honest lamp; and where those shares are
-  -- published, "opened v" with v = F(0, 0).
+  -- published, "opened v" with v = F(0, 0). Where some are not, so it is all the same if 2t + 1 are there; and however few are, that or
+  -- "opened refused 10".
   pub record Accepted (F : List ℕ) : Type 0 where
     pub all : AllAccept (settingOf bytes) (story honest bytes) F
     pub prints : text bytes ≡ textWith (letters "dealer accepted\n" ++ happyLine (happy bytes) (nOf bytes)) opensLine
@@ -101,6 +113,11 @@ module _ (honest : ℕ → Bool) (bytes : List ℕ) where
         → printedLine i ≡ field (letters "lamp ") i ++ line (letters " share ") (valueOf (settingOf bytes) F i 0)
     pub opens : ((j : ℕ) → IsHonest j → entry (numbersOf bytes 3) j ≡ valueOf (settingOf bytes) F j 0)
         → opensLine ≡ line (letters "opened ") (valueOf (settingOf bytes) F 0 0)
+    pub opens-enough : PublishedOrNot F → 2 * tOf bytes + 1 ≤ honestPublished
+        → opensLine ≡ line (letters "opened ") (valueOf (settingOf bytes) F 0 0)
+    pub opens-no-other : PublishedOrNot F
+        → (opensLine ≡ line (letters "opened ") (valueOf (settingOf bytes) F 0 0))
+        ⊎ (opensLine ≡ line (letters "opened refused ") (refusalNumber NoOpening))
 
   -- One verdict; an honest dealer, who has no table either, is accepted, its F is its own, and F(0, 0) its secret.
   pub record PrintedRight : Type 0 where

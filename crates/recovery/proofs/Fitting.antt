@@ -17,20 +17,21 @@ use Rattle.lists.specs.Tabulate.{tabulate}
 use Rattle.answers.specs.declared.Refusal.the-variants.{WrongSize, WrongNumber, WrongLength}
 use Rattle.answers.specs.Fits.{decoded, refusedFit}
 use Rattle.fit.specs.Admitted.{fitIn}
-use Rattle.fit.specs.Fit.{fit}
+use Rattle.fit.specs.Fit.{sent, fit}
 use Rattle.fit.proofs.Admitted.{fit-admitted}
 use Rattle.fit.proofs.Selection.{fit-hide}
 use Rattle.parties.specs.Parties.{sizes, isParty, notSent}
 use Rattle.parties.proofs.Parties.{not-sent-above}
-use Rattle.recovery.specs.Recovery.{repair, openingOf, openingWith, repairIn, publishedIn, openingIn}
+use Rattle.fit.specs.Opening.{needed, openingOf}
+use Rattle.recovery.specs.Recovery.{repair, openingWith, repairIn, publishedIn, openingIn}
 
 -- ---- the points and values that the code lends
-pub fit-lent : (p n t need : ℕ) (T xs values : List ℕ) → n ≤ 16 → t ≤ 3 → t < need → length values ≡ n → length T ≡ n → xs ≡ T
-    → fitIn p t need xs values ≡ decoded (fit p t need T values)
-fit-lent p n t need T xs values small degree above l same e =
-    ap (λ ps. fitIn p t need ps values) e
-    ∙ fit-admitted p t need T values
-    (record { degree = degree; bounded = record { lengths = same ∙ sym l; most = omega arith }; above = above })
+pub fit-lent : (p n t least : ℕ) (T xs values : List ℕ) → n ≤ 16 → t ≤ 3 → 2 * t + 1 ≤ least → length values ≡ n → length T ≡ n → xs ≡ T
+    → fitIn p t least xs values ≡ decoded (fit p t (needed t least (sent p values)) T values)
+fit-lent p n t least T xs values small degree enough l same e =
+    ap (λ ps. fitIn p t least ps values) e
+    ∙ fit-admitted p t least T values
+    (record { degree = degree; bounded = record { lengths = same ∙ sym l; most = omega arith }; enough = enough })
 
 -- To hide what parties outside the set said is to leave their points out.
 pub repair-hidden : (p n t : ℕ) (T : List ℕ) (S : ℕ) (heard : List ℕ) → 0 < p
@@ -69,7 +70,7 @@ module _ (p n t : ℕ) (T : List ℕ) where
       unfolding publishedIn
       published-length d = rw (sized, ne-eqb (length xs) n d)
 
-      pub published-admitted : length xs ≡ n → publishedIn p n t T xs ≡ decoded (openingOf p n t T xs)
+      pub published-admitted : length xs ≡ n → publishedIn p n t T xs ≡ decoded (openingOf p t T xs)
       unfolding publishedIn
       published-admitted e = rw (sized, eq-eqb (length xs) n e)
 
@@ -87,6 +88,6 @@ module _ (p n t : ℕ) (T : List ℕ) where
       unfolding openingIn
       opening-length k d = rw (sized, k, ne-eqb (length xs) n d)
 
-      pub opening-admitted : isParty n i ≡ true → length xs ≡ n → openingIn p n t T i v xs ≡ decoded (openingWith p n t T i v xs)
+      pub opening-admitted : isParty n i ≡ true → length xs ≡ n → openingIn p n t T i v xs ≡ decoded (openingWith p t T i v xs)
       unfolding openingIn
       opening-admitted k e = rw (sized, k, eq-eqb (length xs) n e)

@@ -1,6 +1,7 @@
 -- What an answer says of the points that were decoded.
---   Decides p t xs ys fitted   nothing exactly if no polynomial is near the points, and otherwise the one that is
--- "Near" is the protocol's fit, degree at most t and at most t points that differ: fit/specs/Fit. Laws: proofs/Deciding.
+--   Decides Fitting fitted   nothing exactly if no polynomial is fitting, and otherwise the one that is
+-- What is fitting is `Near` (fit/specs/Fit) where a column is repaired, and `Opening` (fit/specs/Opening) where shares are opened. Laws:
+-- proofs/Deciding.
 use mathlib.Core.Path.{_≡_}
 use mathlib.Core.Logic.{_↔_}
 use mathlib.Core.Option.{some}
@@ -9,10 +10,9 @@ use Prim.Native.Nat.{ℕ}
 use Rattle.answers.specs.declared.Decoding.the-variants.{Found, Nothing}
 use Rattle.answers.specs.declared.Fitted.{Fitted}
 use Rattle.answers.specs.Fits.{decoded}
-use Rattle.fit.specs.Fit.{Near}
 
--- Nothing exactly if none is near; where one is said to be found, one is near; and whichever is near is the one answered.
-pub record Decides (p t : ℕ) (xs ys : List ℕ) (fitted : Fitted) : Type 0 where
-  pub nothing : (fitted .outcome ≡ Nothing) ↔ ((f : List ℕ) → Near p t xs ys f → ⊥)
-  pub found : fitted .outcome ≡ Found → (f : List ℕ) × Near p t xs ys f
-  pub near : (f : List ℕ) → Near p t xs ys f → fitted ≡ decoded (some f)
+-- Nothing exactly if none is fitting; where one is said to be found, one is; and whichever is fitting is the one answered.
+pub record Decides (Fitting : List ℕ → Type 0) (fitted : Fitted) : Type 0 where
+  pub nothing : (fitted .outcome ≡ Nothing) ↔ ((f : List ℕ) → Fitting f → ⊥)
+  pub found : fitted .outcome ≡ Found → (f : List ℕ) × Fitting f
+  pub fits : (f : List ℕ) → Fitting f → fitted ≡ decoded (some f)

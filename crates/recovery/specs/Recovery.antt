@@ -1,7 +1,7 @@
--- What is fitted to the parties' points (the protocol's fit: at most t of them differ).
+-- What is fitted to the parties' points: a column by the protocol's fit, at most t of them differ; an opening by the rule for openings
+-- (fit/specs/Opening).
 --   repair p n t T S heard          the column repaired from j's point in the table T and the first number heard from j, for j in S
---   openingOf p n t T xs            the opening of the published shares xs by themselves
---   openingWith p n t T i v xs      the same with party i's own share v in its own place
+--   openingWith p t T i v xs        the opening of the shares xs with party i's own share v in its own place; by themselves: `openingOf`
 --   publishedTests n t m            what an opening of m published shares is looked at for
 --   repairIn, publishedIn, openingIn   what the code answers for every input: a refusal, or what is decoded
 -- Laws: proofs/Fitting, what is answered; proofs/Deciding, what that says of the points.
@@ -18,6 +18,7 @@ use Rattle.answers.specs.declared.Refusal.the-variants.{WrongSize, WrongNumber,
 use Rattle.answers.specs.declared.Fitted.{Fitted}
 use Rattle.answers.specs.Refusals.{Test, lowest}
 use Rattle.fit.specs.Fit.{fit}
+use Rattle.fit.specs.Opening.{openingOf}
 use Rattle.fit.specs.Admitted.{decodedIf}
 use Rattle.parties.specs.Parties.{sizes, isParty}
 
@@ -28,13 +29,9 @@ repair p n t T S heard =
     let happy = tabulate (bit S) n in
     fit p t (ones S - t) (select happy T) (select happy (take n heard))
 
--- The polynomial that fits the published shares of n parties: at most t of them differ.
-abbrev pub openingOf : ℕ → ℕ → ℕ → List ℕ → List ℕ → Option (List ℕ)
-openingOf p n t T xs = fit p t (n - t) T xs
-
--- The same with a party's own share in its own place.
-abbrev pub openingWith : ℕ → ℕ → ℕ → List ℕ → ℕ → ℕ → List ℕ → Option (List ℕ)
-openingWith p n t T i v xs = openingOf p n t T (set xs (i - 1) v)
+-- The polynomial that the published shares open with a party's own share in its own place.
+abbrev pub openingWith : ℕ → ℕ → List ℕ → ℕ → ℕ → List ℕ → Option (List ℕ)
+openingWith p t T i v xs = openingOf p t T (set xs (i - 1) v)
 
 -- What is answered with a table, which the caller has looked at. The tests, in the order of their numbers: the sizes; that the set names
 -- none but the n parties; that they are enough.
@@ -50,11 +47,11 @@ publishedTests n t m = (sizes n t, WrongSize) ∷ (eqb m n, WrongLength) ∷ []
 
 unfoldable pub publishedIn : ℕ → ℕ → ℕ → List ℕ → List ℕ → Fitted
 publishedIn p n t T xs =
-    decodedIf (lowest (publishedTests n t (length xs))) (openingOf p n t T xs)
+    decodedIf (lowest (publishedTests n t (length xs))) (openingOf p t T xs)
 
 -- The sizes; the party's own number; a share for each party.
 unfoldable pub openingIn : ℕ → ℕ → ℕ → List ℕ → ℕ → ℕ → List ℕ → Fitted
 openingIn p n t T i v xs =
     decodedIf
     (lowest ((sizes n t, WrongSize) ∷ (isParty n i, WrongNumber) ∷ (eqb (length xs) n, WrongLength) ∷ []))
-    (openingWith p n t T i v xs)
+    (openingWith p t T i v xs)

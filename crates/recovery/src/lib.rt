@@ -1,6 +1,6 @@
 // What is fitted to the parties' points: the column repaired from what the happy parties said, and the opening of published shares.
 ghost use mathlib.Core.Path.{_≡_};
-ghost use Prim.Native.Nat.{_-_, _≤_, _<_, _^_};
+ghost use Prim.Native.Nat.{_+_, _*_, _-_, _≤_, _<_, _^_};
 ghost use lib.Dec.{ltb};
 ghost use lib.ListN.{length, take, set};
 ghost use Rattle.lists.specs.Choices.{hide};
@@ -8,7 +8,8 @@ ghost use Rattle.lists.specs.Masks.{bit};
 ghost use Rattle.lists.specs.Tabulate.{tabulate};
 ghost use Rattle.field.specs.Modulus.{primeOf};
 ghost use Rattle.answers.specs.Fits.{decoded};
-ghost use Rattle.fit.specs.Fit.{fit};
+ghost use Rattle.fit.specs.Fit.{sent, fit};
+ghost use Rattle.fit.specs.Opening.{needed};
 ghost use Rattle.parties.specs.Parties.{notSent};
 ghost use Rattle.tables.specs.Tables.{IsTable};
 ghost use Rattle.recovery.specs.Recovery.{repairIn, publishedIn, openingIn};
@@ -34,13 +35,15 @@ fn heard_from(w: Width, n: u8, set: u16, heard: [u32; 16]) -> [u32; 16]
     list
 }
 
-// The polynomial of degree at most t that agrees with at least `need` of the n values at the parties' points, if one does.
-fn fit_parties(w: Width, n: u8, t: u8, table: [u32; 16], need: usize, values: &[u32]) -> Fitted
-    requires { ⌜ (n ≤ 16) × (t ≤ 3) × (t < need) × (length (now values) ≡ n) × IsTable (primeOf w) n (take n table) ⌝ }
-    ensures { λ r. ⌜ r ≡ decoded (fit (primeOf w) t need (take n table) (now (values .entry))) ⌝ }
+// The polynomial of degree at most t with which at least `least` of the n values agree at the parties' points, and from which at most t of
+// those sent differ, if there is one.
+fn fit_parties(w: Width, n: u8, t: u8, table: [u32; 16], least: usize, values: &[u32]) -> Fitted
+    requires { ⌜ (n ≤ 16) × (t ≤ 3) × (2 * t + 1 ≤ least) × (length (now values) ≡ n) × IsTable (primeOf w) n (take n table) ⌝ }
+    ensures { λ r. ⌜ r ≡ decoded (fit (primeOf w) t (needed t least (sent (primeOf w) (now (values .entry))))
+        (take n table) (now (values .entry))) ⌝ }
 {
     let count = n as usize;
-    fit::fit(w, t as usize, need, &table[..count], values)
+    fit::fit(w, t as usize, least, &table[..count], values)
 }
 
 // Whether the set has none but the first n parties.
@@ -65,7 +68,8 @@ pub fn repair(w: Width, n: u8, t: u8, table: [u32; 16], set: u16, heard: [u32; 1
     }
     let count = happy::count(set) as usize;
     let faulty = t as usize;
-    if count < 3 * faulty + 1 {
+    let fewest = 3 * faulty + 1;
+    if count < fewest {
         return answers::refused_fit(Refusal::WrongLength);
     }
     let values = heard_from(w, n, set, heard);
@@ -86,7 +90,7 @@ fn with_own(i: u8, share: u32, shares: &[u32]) -> [u32; 16]
     list
 }
 
-// The polynomial that fits the published shares by themselves, if one does. Refused: a bad size, a share too many or too few.
+// The polynomial that the published shares open by themselves, if one does. Refused: a bad size, a share too many or too few.
 pub fn published(w: Width, n: u8, t: u8, table: [u32; 16], shares: &[u32]) -> Fitted
     requires { ⌜ IsTable (primeOf w) n (take n table) ⌝ }
     ensures { λ r. ⌜ r ≡ publishedIn (primeOf w) n t (take n table) (now (shares .entry)) ⌝ }
@@ -97,7 +101,7 @@ pub fn published(w: Width, n: u8, t: u8, table: [u32; 16], shares: &[u32]) -> Fi
     if shares.len() != n as usize {
         return answers::refused_fit(Refusal::WrongLength);
     }
-    fit_parties(w, n, t, table, (n - t) as usize, shares)
+    fit_parties(w, n, t, table, 2 * t as usize + 1, shares)
 }
 
 // The same with party i's own share in its own place. Refused also: a number that is no party's.
@@ -124,5 +128,5 @@ pub fn opening(
         return answers::refused_fit(Refusal::WrongLength);
     }
     let values = with_own(i, share, shares);
-    fit_parties(w, n, t, table, (n - t) as usize, &values[..count])
+    fit_parties(w, n, t, table, 2 * t as usize + 1, &values[..count])
 }

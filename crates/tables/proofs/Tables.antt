@@ -1,5 +1,6 @@
 -- Laws of the tables of points: the test is right, 1 to n is a table, and what a lamp keeps of one.
---   table-facts, table-true, length-not, short-not, table-points   what the test says of a list; tests-pass, tests-length: those of one lent
+--   table-facts, table-true, length-not, short-not, table-points   what the test says of a list
+--   tests-pass, tests-length                what the tests of a lent one say
 --   points-of, point-at                     the table is the list of its parties' points
 --   point-not-zero, point-once              no party's point is 0, and no two parties have one
 --   point-below                             a point is a residue, also that of none

@@ -4,7 +4,7 @@
 --   last-rejected, last-found, last-nothing   the last line, by the verdict and what the decoding answers
 use mathlib.Core.Path.{_≡_, refl, sym, ap, _∙_}
 use mathlib.Core.Bool.{Bool, true, false, not, true≢false, false≢true}
-use mathlib.Core.Option.{Option, none, some}
+use mathlib.Core.Option.{Option}
 use mathlib.Core.List.{List}
 use Prim.Native.Nat.{ℕ, _<_}
 use native.Mathlib.Omega.{arith}
@@ -25,7 +25,7 @@ use Rattle.answers.specs.Answers.{numberOf}
 use Rattle.answers.specs.Fits.{decoded}
 use Rattle.answers.proofs.Fits.{found-is, nothing-is, decoded-not-refused}
 use Rattle.tables.specs.Tables.{oneTo}
-use Rattle.recovery.specs.Recovery.{openingOf}
+use Rattle.fit.specs.Opening.{openingOf}
 use Rattle.lamp.specs.declared.Reply.{Reply}
 use Rattle.lines.specs.Lines.{lampLine, openedLine}
 use Rattle.transcript.specs.Outcomes.{replyLine, openingLine, lastLine}
@@ -69,17 +69,17 @@ module _ (w : Width) (n t : ℕ) (shares : List ℕ) (b : Bool) where
       by false e = refl
 
   -- The dealer is accepted, and the decoding answers r.
-  module _ (e : not b ≡ false) (r : Fitted) (is : r ≡ decoded (openingOf (primeOf w) n t (oneTo n) shares)) where
-    accepted-line : openingLine (openingOf (primeOf w) n t (oneTo n) shares) ≡ lastLine b w n t shares
+  module _ (e : not b ≡ false) (r : Fitted) (is : r ≡ decoded (openingOf (primeOf w) t (oneTo n) shares)) where
+    accepted-line : openingLine (openingOf (primeOf w) t (oneTo n) shares) ≡ lastLine b w n t shares
     unfolding lastLine
     accepted-line = by b e
       where
-        by : (b : Bool) → not b ≡ false → openingLine (openingOf (primeOf w) n t (oneTo n) shares) ≡ lastLine b w n t shares
+        by : (b : Bool) → not b ≡ false → openingLine (openingOf (primeOf w) t (oneTo n) shares) ≡ lastLine b w n t shares
         by true e = refl
         by false e = absurd (true≢false e)
 
     abbrev opened : Option (List ℕ)
-    opened = openingOf (primeOf w) n t (oneTo n) shares
+    opened = openingOf (primeOf w) t (oneTo n) shares
 
     told : r .outcome ≡ decoded opened .outcome
     told = ap (λ (a : Fitted). a .outcome) is

@@ -17,7 +17,7 @@ use Rattle.answers.specs.Refusals.{refusalNumber}
 use Rattle.answers.specs.Answers.{numberOf}
 use Rattle.answers.specs.Fits.{constant}
 use Rattle.tables.specs.Tables.{oneTo}
-use Rattle.recovery.specs.Recovery.{openingOf}
+use Rattle.fit.specs.Opening.{openingOf}
 use Rattle.lamp.specs.declared.Reply.{Reply}
 use Rattle.lines.specs.Lines.{lampLine, openedLine}
 
@@ -34,9 +34,9 @@ abbrev pub openingLine : Option (List ℕ) → List ℕ
 openingLine none = openedLine (refusalNumber NoOpening) 0
 openingLine (some f) = openedLine 0 (constant f)
 
--- What the published shares open by themselves, at the points 1 to n, since a record has no table: at most t of them differ. After a
--- rejected dealer they are not opened.
+-- What the published shares open by themselves, at the points 1 to n, since a record has no table. After a rejected dealer they are not
+-- opened.
 unfoldable pub lastLine : Bool → Width → ℕ → ℕ → List ℕ → List ℕ
 lastLine accepted w n t shares =
-    let opened = openingLine (openingOf (primeOf w) n t (oneTo n) shares) in
+    let opened = openingLine (openingOf (primeOf w) t (oneTo n) shares) in
     cond accepted opened (openedLine (refusalNumber DealerRejected) 0)

@@ -6,7 +6,7 @@ ghost use lib.ListN.{length, take, drop};
 ghost use Rattle.field.specs.Modulus.{primeOf};
 ghost use Rattle.answers.specs.Fits.{decoded};
 ghost use Rattle.tables.specs.Tables.{oneTo};
-ghost use Rattle.recovery.specs.Recovery.{openingOf};
+ghost use Rattle.fit.specs.Opening.{openingOf};
 ghost use Rattle.lamp.specs.Lamp.{made, after};
 ghost use Rattle.record.specs.declared.Reading.the-variants.{Fine};
 ghost use Rattle.record.specs.Bytes.{numbers, wideNumbers, numbersBy};
@@ -177,10 +177,10 @@ fn shares(bytes: &[u8], w: Width, n: u8) -> [u32; 32]
     }
 }
 
-// The polynomial that fits them.
+// The polynomial that they open.
 fn fitted(bytes: &[u8], w: Width, n: u8, t: u8) -> Fitted
     requires { ⌜ reading (now bytes) ≡ Fine w n t ⌝ }
-    ensures { λ r. ⌜ r ≡ decoded (openingOf (primeOf w) n t (oneTo n) (numbersOf (now (bytes .entry)) 3)) ⌝ }
+    ensures { λ r. ⌜ r ≡ decoded (openingOf (primeOf w) t (oneTo n) (numbersOf (now (bytes .entry)) 3)) ⌝ }
 {
     let count = n as usize;
     let list = shares(bytes, w, n);

@@ -20,7 +20,7 @@ pub struct Tried {
 }
 
 // The answer where no polynomial is found.
-fn nothing() -> Tried
+pub fn nothing() -> Tried
     ensures { λ r. ⌜ r ≡ resultOf none ⌝ }
 {
     Tried {

@@ -67,7 +67,8 @@ fn published(published: Published) -> Option<Line> {
     match published {
         Published::Unasked => None,
         Published::Share(number) => Some(Line::new(format!("published {number}"), None, QUIET)),
-        Published::Wrong(number) => Some(line(number, CORAL)),
+        Published::Wrong(number) => Some(line(Some(number), CORAL)),
+        Published::Dark => Some(line(None, MUTED)),
         Published::Unjudged(number) => Some(line(number, MUTED)),
     }
 }
@@ -169,6 +170,7 @@ pub fn place(scale: &Scale, lamps: &[Lamp]) -> Vec<Label> {
 mod tests {
     use super::*;
     use crate::facts::tests::facts_of;
+    use crate::record::tests::{darkened, stored};
     use crate::record::Record;
     use crate::ring::{lamps, FAULTY};
     use crate::svg::width_of;
@@ -216,16 +218,24 @@ mod tests {
         }
     }
 
-    /// The records of every kind that are stored, and the same with every number of round two and on bad in some way.
+    #[test]
+    fn nothing_published_is_not_in_coral() {
+        let shown = |what: Published| published(what).map(|line| (line.plain(), line.colour));
+        assert_eq!(shown(Published::Dark), Some(("published nothing".to_string(), MUTED)));
+        assert_eq!(shown(Published::Wrong(999)), Some(("published 999".to_string(), CORAL)));
+        assert_eq!(shown(Published::Share(16)), Some(("published 16".to_string(), QUIET)));
+        assert_eq!(shown(Published::Unjudged(None)), shown(Published::Dark));
+        assert_eq!(shown(Published::Unasked), None);
+    }
+
+    /// The records of every kind that are stored, the same with all lamps dark, and with every number of round two and on bad in
+    /// some way.
     #[test]
     fn labels_keep_apart() {
-        let folder = concat!(env!("CARGO_MANIFEST_DIR"), "/../../crates/cases/data");
-        for entry in std::fs::read_dir(folder).unwrap() {
-            let path = entry.unwrap().path();
-            let mut bytes = std::fs::read(&path).unwrap();
-            let name = path.display().to_string();
+        for (name, mut bytes) in stored() {
             check(&bytes, &name);
             if let Some(facts) = facts_of(&bytes) {
+                check(&darkened(&bytes, 1..=facts.n), &name);
                 // Silent to lamps 1 and 2, lies to the others, altered reports, nothing published.
                 let pair = if bytes[0] < 128 { 4 } else { 8 };
                 let pairs = 18 + pair * facts.n * (facts.t + 1);

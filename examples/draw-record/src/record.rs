@@ -87,6 +87,32 @@ pub mod tests {
 
     pub const EXAMPLE: &[u8] = include_bytes!("../../../crates/bench/stdin");
 
+    /// The records of every kind that are stored, by their files' names.
+    pub fn stored() -> impl Iterator<Item = (String, Vec<u8>)> {
+        let folder = concat!(env!("CARGO_MANIFEST_DIR"), "/../../crates/cases/data");
+        let paths = std::fs::read_dir(folder).unwrap().map(|entry| entry.unwrap().path());
+        paths.map(|path| (path.display().to_string(), std::fs::read(&path).unwrap()))
+    }
+
+    /// A record that is not refused, but that the lamps with these numbers published nothing. What was published is its end.
+    pub fn darkened(bytes: &[u8], numbers: impl IntoIterator<Item = usize>) -> Vec<u8> {
+        let mut bytes = bytes.to_vec();
+        let record = Record::read(&bytes).unwrap();
+        let width = if record.is_wide() { 4 } else { 2 };
+        let shares = bytes.len() - width * record.n;
+        for number in numbers {
+            bytes[shares + width * (number - 1)..shares + width * number].fill(255);
+        }
+        bytes
+    }
+
+    /// The lamps that are dark in the record of a winter: as many of sixteen as can be, as seven shares are needed where t is 3.
+    pub const DARK: [usize; 9] = [2, 3, 4, 7, 8, 9, 12, 13, 14];
+
+    pub fn winter() -> Vec<u8> {
+        darkened(include_bytes!("../../../crates/cases/data/honest-16-3.rec"), DARK)
+    }
+
     #[test]
     fn sections_of_the_example() {
         let record = Record::read(EXAMPLE).unwrap();

@@ -1,10 +1,10 @@
 //! The ring of lamps, around the point (0, 0): where each stands, and its sign.
 
-use crate::conduct::{conducts, Conduct};
+use crate::conduct::{conducts, Conduct, Published};
 use crate::facts::{Facts, Outcome};
 use crate::record::Record;
-use crate::svg::{bold, Anchor, Point, Svg, AMBER, CORAL, MUTED, NIGHT, SKY, WHITE};
-use std::f64::consts::TAU;
+use crate::svg::{bold, Anchor, Point, Stroke, Svg, AMBER, CORAL, DUSK, MUTED, NIGHT, SKY, WHITE};
+use std::f64::consts::{FRAC_1_SQRT_2, TAU};
 
 /// Sizes that depend on how many lamps there are.
 pub struct Scale {
@@ -15,8 +15,9 @@ pub struct Scale {
     pub letters: f64,
 }
 
-/// A diamond is as much larger than a circle, and the ring around a faulty lamp larger than both.
+/// A diamond is as much larger than a circle, the stroke behind a dark lamp longer, and the ring around a faulty one larger than all.
 const DIAMOND: f64 = 1.25;
+const DARK: f64 = 1.45;
 pub const FAULTY: f64 = 1.6;
 
 /// Between the ring around a faulty lamp and the words beside it.
@@ -74,6 +75,11 @@ impl Lamp<'_> {
         matches!(self.outcome, Outcome::Refused(_))
     }
 
+    /// It holds a share and published nothing.
+    pub fn dark(&self) -> bool {
+        self.conduct.published == Published::Dark
+    }
+
     /// From the lamp's centre to where an arrow may begin or end.
     pub fn edge(&self, scale: &Scale) -> f64 {
         let size = match (self.conduct.faulty, self.refused()) {
@@ -91,6 +97,14 @@ impl Lamp<'_> {
             (false, false) => SKY,
         }
     }
+
+    fn filling(&self) -> &'static str {
+        match (self.happy, self.dark()) {
+            (true, false) => self.colour(),
+            (true, true) => DUSK,
+            (false, _) => NIGHT,
+        }
+    }
 }
 
 pub fn lamps<'a>(facts: &'a Facts, record: &Record, happy: u16) -> Vec<Lamp<'a>> {
@@ -104,17 +118,24 @@ pub fn lamps<'a>(facts: &'a Facts, record: &Record, happy: u16) -> Vec<Lamp<'a>>
     facts.lamps.iter().zip(conducts(record, facts)).enumerate().map(lamp).collect()
 }
 
-/// The lamp's sign: its shape and its filling; a happy one that holds a share is lit.
+/// The lamp's sign: its shape and its filling; a happy one that holds a share is lit, unless it is dark.
 pub fn draw_sign(svg: &mut Svg, centre: Point, r: f64, lamp: &Lamp) {
-    if lamp.happy && !lamp.refused() {
+    if lamp.happy && !lamp.refused() && !lamp.dark() {
         svg.glow(centre, 1.9 * r);
     }
-    let fill = if lamp.happy { lamp.colour() } else { NIGHT };
     if lamp.refused() {
-        svg.diamond(centre, DIAMOND * r, fill, lamp.colour());
+        svg.diamond(centre, DIAMOND * r, lamp.filling(), lamp.colour());
     } else {
-        svg.circle(centre, r, fill, lamp.colour());
+        svg.circle(centre, r, lamp.filling(), lamp.colour());
     }
+}
+
+/// The sign of a dark lamp: a stroke behind it, so that it is struck out and its number can be read.
+pub fn draw_dark(svg: &mut Svg, (x, y): Point, r: f64, lamp: &Lamp) {
+    let reach = DARK * r * FRAC_1_SQRT_2;
+    let stroke = Stroke { colour: MUTED, width: 3.0, opacity: 1.0 };
+    svg.line((x - reach, y + reach), (x + reach, y - reach), stroke);
+    draw_sign(svg, (x, y), r, lamp);
 }
 
 /// The mark of a lamp that is faulty by the record.
@@ -125,10 +146,31 @@ pub fn draw_mark(svg: &mut Svg, centre: Point, r: f64) {
 /// The lamp on the ring, with its number and with the mark where it is faulty.
 pub fn draw_lamp(svg: &mut Svg, scale: &Scale, lamp: &Lamp) {
     let centre = lamp.at(scale.ring);
-    draw_sign(svg, centre, scale.lamp, lamp);
+    let draw = if lamp.dark() { draw_dark } else { draw_sign };
+    draw(svg, centre, scale.lamp, lamp);
     if lamp.conduct.faulty {
         draw_mark(svg, centre, scale.lamp);
     }
-    let ink = if lamp.happy { NIGHT } else { WHITE };
+    let ink = if lamp.happy && !lamp.dark() { NIGHT } else { WHITE };
     svg.text(centre, scale.lamp * 0.85, Anchor::Middle, ink, &bold(lamp.number, ink));
+}
+
+#[cfg(test)]
+mod tests {
+    use super::*;
+    use crate::doumbaht::happy_set;
+    use crate::facts::tests::facts_of;
+    use crate::record::tests::{winter, DARK};
+
+    #[test]
+    fn a_dark_lamp_is_struck_out_and_not_lit() {
+        let (facts, record) = (facts_of(&winter()).unwrap(), Record::read(&winter()).unwrap());
+        for lamp in lamps(&facts, &record, happy_set(&record.reports)) {
+            let mut svg = Svg::new(1.0, 1.0, "", "");
+            draw_lamp(&mut svg, &Scale::of(&record), &lamp);
+            let drawn = svg.finish();
+            let dark = DARK.contains(&lamp.number);
+            assert_eq!((drawn.contains("<path"), drawn.contains("url(#glow)")), (dark, !dark), "lamp {}", lamp.number);
+        }
+    }
 }

@@ -8,6 +8,8 @@ pub const WHITE: &str = "#f4f6fb";
 pub const MUTED: &str = "#a9b6d0";
 pub const QUIET: &str = "#7f8db0";
 pub const AMBER: &str = "#f6b73c";
+/// Amber, unlit.
+pub const DUSK: &str = "#605134";
 pub const SKY: &str = "#7cc4f0";
 pub const CORAL: &str = "#ff6f61";
 

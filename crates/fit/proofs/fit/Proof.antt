@@ -1,25 +1,43 @@
--- `fit::fit` meets its contract: each test that fails settles the answer; otherwise what the first points sent give does, or what is
--- found later.
+-- `fit::fit` meets its contract: each test that fails settles the answer. What the first points give with the need of all points fits
+-- with that of those sent; else these are searched.
 use mathlib.Core.Path.{_≡_, sym, ap, _∙_}
+use Prim.Native.Nat.{_+_}
 use native.Mathlib.Omega.{arith}
-use Rattle.trial.specs.Results.{Bounded}
+use lib.ListN.{length}
+use Rattle.field.specs.Modulus.{primeOf}
+use Rattle.field.proofs.Primes.{prime-of}
+use Rattle.trial.specs.Trial.{tried}
+use Rattle.trial.specs.Results.{resultOf}
 use Rattle.trial.proofs.Results.{result-not-found}
+use Rattle.fit.specs.Opening.{needed}
 use Rattle.fit.specs.Admitted.{Admitted}
 use Rattle.fit.proofs.Admitted.{fit-degree, fit-lengths, fit-many, fit-few, fit-admitted}
-use Rattle.fit.proofs.First.{fit-first}
+use Rattle.fit.proofs.First.{narrowed-first}
 use borrow.Author.Needs.{needs}
 use Rattle.fit.proofs.fit.Statement.{statement}
 use Rattle.fit.proofs.fit.Tie as tie
 
--- Past the four tests a call is admitted.
+-- The start, from past the four tests; and that place, from where the first points were tried. What these give has the need of all.
 abbrev start : tie.Else4 → tie.Start
 start e = e .before .before .before .before .before .before
 
-bounded : (e : tie.Else4) → let s = start e .args in Bounded (s .xs .now) (s .ys .now)
-bounded e = record { lengths = e .before .before .if2 .left; most = e .before .if3 .left }
+abbrev passed : tie.After-next → tie.Else4
+passed c = c .before .before
 
-admitted : (e : tie.Else4) → let s = start e .args in Admitted (s .t) (s .need) (s .xs .now) (s .ys .now)
-admitted e = record { degree = e .before .before .before .if1 .left; bounded = bounded e; above = e .if4 .left }
+first-gives : (c : tie.After-next) → let a = start (passed c) .args in
+    c .next .result
+    ≡ resultOf (tried (primeOf (a .w)) (needed (a .t) (a .least) (length (a .xs .now))) (a .xs .now) (a .ys .now) 0 (a .t + 1) 0)
+first-gives c =
+    let a = start (passed c) .args in
+    c .next .ensures
+    ∙ ap (λ all. resultOf (tried (primeOf (a .w)) all (a .xs .now) (a .ys .now) 0 (a .t + 1) 0)) (c .before .needed .ensures)
+
+admits : (e : tie.Else4) → let s = start e .args in Admitted (s .t) (s .least) (s .xs .now) (s .ys .now)
+admits e = record {
+  degree = e .before .before .before .if1 .left;
+  bounded = record { lengths = e .before .before .if2 .left; most = e .before .if3 .left };
+  enough = omega (arith, e .if4 .left);
+}
 
 refused-fit-requires : tie.Need-refused-fit-requires
 refused-fit-requires c κs = search needs
@@ -41,6 +59,9 @@ returns-3 c =
     let e = c .before .before in
     c .refused-fit3 .ensures ∙ fit-many _ _ _ _ _ (e .before .if1 .left) (e .if2 .left) (c .before .if3 .taken)
 
+mul-if4 : tie.Need-mul-if4
+mul-if4 c = search needs
+
 refused-fit-requires-4 : tie.Need-refused-fit-requires-4
 refused-fit-requires-4 c κs = search needs
 
@@ -48,13 +69,18 @@ returns-4 : tie.Need-returns-4
 returns-4 c =
     let e = c .before .before in
     c .refused-fit4 .ensures
-    ∙ fit-few _ _ _ _ _ (e .before .before .if1 .left) (e .before .if2 .left) (e .if3 .left) (c .before .if4 .taken)
+    ∙ fit-few _ _ _ _ _ (e .before .before .if1 .left) (e .before .if2 .left) (e .if3 .left) (omega (arith, c .before .if4 .taken))
+
+needed-requires : tie.Need-needed-requires
+needed-requires c κs = search needs
 
 add-next : tie.Need-add-next
 add-next c = search needs
 
 next-requires : tie.Need-next-requires
-next-requires c κs = ((bounded c, omega arith), start c .pre .0)
+next-requires c κs =
+    let e = c .before in
+    ((admits e .bounded, omega (arith, admits e .degree)), start e .pre .0)
 
 decoded-requires : tie.Need-decoded-requires
 decoded-requires c κs = search needs
@@ -62,27 +88,25 @@ decoded-requires c κs = search needs
 returns-5 : tie.Need-returns-5
 returns-5 c =
     let called = c .before .before in
+    let e = passed called in
     c .decoded .ensures
-    ∙ fit-first _ _ _ _ _ _ (called .next .ensures) (c .before .if5 .taken)
-    ∙ sym (fit-admitted _ _ _ _ _ (admitted (called .before)))
+    ∙ narrowed-first _ (prime-of (start e .args .w)) _ _ _ _ (admits e .bounded .lengths) (start e .pre) (admits e .enough) _
+    (first-gives called) (c .before .if5 .taken)
+    ∙ sym (fit-admitted _ _ _ _ _ (admits e))
 
-later-requires : tie.Need-later-requires
-later-requires c κs =
+among-sent-requires : tie.Need-among-sent-requires
+among-sent-requires c κs =
     let called = c .before in
-    let a = admitted (called .before) in (
-      a .degree,
-      a .bounded,
-      result-not-found _ (sym (ap (λ w. w .found) (called .next .ensures)) ∙ c .if5 .left),
-      start (called .before) .pre,
-    )
+    let e = passed called in
+    (admits e, start e .pre, result-not-found _ (sym (ap (λ w. w .found) (first-gives called)) ∙ c .if5 .left))
 
 copied-requires : tie.Need-copied-requires
 copied-requires c κs = search needs
 
 returns-6 : tie.Need-returns-6
 returns-6 c =
-    let called = c .before .before .before in
-    c .copied .ensures ∙ c .before .later .ensures ∙ sym (fit-admitted _ _ _ _ _ (admitted (called .before)))
+    c .copied .ensures ∙ c .before .among-sent .ensures
+    ∙ sym (fit-admitted _ _ _ _ _ (admits (passed (c .before .before .before))))
 
 pub fit-spec : {M : Type 1} → statement M
 fit-spec =
@@ -94,12 +118,14 @@ fit-spec =
     returns-2
     refused-fit-requires-3
     returns-3
+    mul-if4
     refused-fit-requires-4
     returns-4
+    needed-requires
     add-next
     next-requires
     decoded-requires
     returns-5
-    later-requires
+    among-sent-requires
     copied-requires
     returns-6)

@@ -1,7 +1,5 @@
 -- `recovery::fit_parties` meets its contract: the n points of the table are lent with the n values.
 use mathlib.Core.Path.{refl, sym, _∙_}
-use native.Mathlib.Omega.{arith}
-use lib.Seq.{length-take-le}
 use Rattle.tables.proofs.Tables.{table-points}
 use Rattle.recovery.proofs.Fitting.{fit-lent}
 use borrow.Author.Needs.{needs}
@@ -22,7 +20,7 @@ returns c =
     let s = c .before .before .before in
     let a = s .args in
     c .fit .ensures
-    ∙ fit-lent _ (a .n) (a .t) (a .need) _ _ (a .values .now) (s .pre .0) (s .pre .1) (s .pre .2) (s .pre .3)
+    ∙ fit-lent _ (a .n) (a .t) (a .least) _ _ (a .values .now) (s .pre .0) (s .pre .1) (s .pre .2) (s .pre .3)
     (s .pre .4 .size) refl
 
 pub fit-parties-spec : {M : Type 1} → statement M

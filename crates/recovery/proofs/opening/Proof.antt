@@ -4,13 +4,13 @@ use mathlib.Core.Bool.{true}
 use Prim.Native.Nat.{_+_, _*_, _-_, _≤_}
 use native.Mathlib.Omega.{arith}
 use borrow.Author.Tests.{not-true, not-false}
-use lib.ListN.{take, set}
+use lib.ListN.{take}
 use lib.Seq.{length-take-le}
 use Rattle.field.specs.Modulus.{primeOf}
 use Rattle.answers.specs.Fits.{decoded}
 use Rattle.parties.specs.Parties.{sizes, isParty}
 use Rattle.parties.proofs.Parties.{sizes-facts, party-facts}
-use Rattle.recovery.specs.Recovery.{openingOf}
+use Rattle.fit.specs.Opening.{openingOf}
 use Rattle.recovery.proofs.Fitting.{opening-size, opening-number, opening-length, opening-admitted}
 use borrow.Author.Needs.{needs}
 use Rattle.recovery.proofs.opening.Statement.{statement}
@@ -71,11 +71,11 @@ with-own-requires c κs =
     let g = small (second e) in
     (omega arith, omega arith, omega arith)
 
-sub-fit-parties : tie.Need-sub-fit-parties
-sub-fit-parties c = omega (arith, small (second (c .before .before)))
+mul-fit-parties : tie.Need-mul-fit-parties
+mul-fit-parties c = search needs
 
-cast-fit-parties : tie.Need-cast-fit-parties
-cast-fit-parties c = search needs
+add-fit-parties : tie.Need-add-fit-parties
+add-fit-parties c = search needs
 
 array-share-prefix-values : tie.Need-array-share-prefix-values
 array-share-prefix-values c = omega (arith, small (second (c .before .before)))
@@ -95,7 +95,7 @@ returns-4 c =
     let a = start (second e) .args in
     let own = ap (λ k. take k (w .with-own .result)) (sym (w .before .if3 .left)) ∙ w .with-own .ensures in
     c .fit-parties .ensures
-    ∙ ap (λ values. decoded (openingOf (primeOf (a .w)) (a .n) (a .t) (take (a .n) (a .table)) values)) own
+    ∙ ap (λ values. decoded (openingOf (primeOf (a .w)) (a .t) (take (a .n) (a .table)) values)) own
     ∙ sym (opening-admitted (primeOf (a .w)) (a .n) (a .t) (take (a .n) (a .table)) (a .i) (a .share) (a .shares .now) (sized (second e))
     (numbered e)
     (w .before .if3 .left))
@@ -113,8 +113,8 @@ opening-spec =
     refused-fit-requires-3
     returns-3
     with-own-requires
-    sub-fit-parties
-    cast-fit-parties
+    mul-fit-parties
+    add-fit-parties
     array-share-prefix-values
     slice-aggregate-fit-parties
     fit-parties-requires

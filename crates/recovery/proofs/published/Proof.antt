@@ -38,11 +38,11 @@ refused-fit-requires-2 c κs = search needs
 returns-2 : tie.Need-returns-2
 returns-2 c = c .refused-fit2 .ensures ∙ published-length _ _ _ _ _ (sized (c .before .before)) (c .before .if2 .taken)
 
-sub-fit-parties : tie.Need-sub-fit-parties
-sub-fit-parties c = omega (arith, small (c .before))
+mul-fit-parties : tie.Need-mul-fit-parties
+mul-fit-parties c = search needs
 
-cast-fit-parties : tie.Need-cast-fit-parties
-cast-fit-parties c = search needs
+add-fit-parties : tie.Need-add-fit-parties
+add-fit-parties c = search needs
 
 fit-parties-requires : tie.Need-fit-parties-requires
 fit-parties-requires c κs = let f = small (c .before) in (f .0, f .1, omega arith, c .if2 .left, start (c .before) .pre)
@@ -61,7 +61,7 @@ published-spec =
     returns
     refused-fit-requires-2
     returns-2
-    sub-fit-parties
-    cast-fit-parties
+    mul-fit-parties
+    add-fit-parties
     fit-parties-requires
     returns-3)

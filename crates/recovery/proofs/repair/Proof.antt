@@ -10,10 +10,12 @@ use lib.Seq.{length-take-le}
 use Rattle.field.specs.Modulus.{primeOf}
 use Rattle.field.proofs.Primes.{positive}
 use Rattle.answers.specs.Fits.{decoded}
-use Rattle.fit.specs.Fit.{fit}
+use Rattle.fit.specs.Fit.{sent, fit}
+use Rattle.fit.specs.Opening.{needed}
 use Rattle.parties.specs.Parties.{sizes}
 use Rattle.parties.proofs.Parties.{sizes-facts}
-use Rattle.recovery.proofs.Fitting.{repair-hidden, repair-size, repair-number, repair-few, repair-admitted}
+use Rattle.recovery.proofs.Fitting.{repair-size, repair-number, repair-few, repair-admitted}
+use Rattle.recovery.proofs.Deciding.{repair-needed}
 use borrow.Author.Needs.{needs}
 use Rattle.recovery.proofs.repair.Statement.{statement}
 use Rattle.recovery.proofs.repair.Tie as tie
@@ -67,11 +69,11 @@ count-requires c κs = search needs
 cast-count : tie.Need-cast-count
 cast-count c = search needs
 
-mul-if3 : tie.Need-mul-if3
-mul-if3 c = search needs
+mul-fewest : tie.Need-mul-fewest
+mul-fewest c = search needs
 
-add-if3 : tie.Need-add-if3
-add-if3 c = search needs
+add-fewest : tie.Need-add-fewest
+add-fewest c = search needs
 
 refused-fit-requires-3 : tie.Need-refused-fit-requires-3
 refused-fit-requires-3 c κs = search needs
@@ -107,13 +109,15 @@ returns-4 c =
     let e = third (h .before) in
     let counted = h .before .before in
     let a = start (second e) .args in
+    let p = primeOf (a .w) in
+    let T = take (a .n) (a .table) in
+    let within = ltb-true (a .set) (2 ^ a .n) (inside e) in
     c .fit-parties .ensures
-    ∙ ap₂ (λ m ys. decoded (fit (primeOf (a .w)) (a .t) m (take (a .n) (a .table)) ys))
+    ∙ ap₂ (λ m ys. decoded (fit p (a .t) (needed (a .t) m (sent p ys)) T ys))
     (ap (λ k. k - a .t) (counted .count .ensures)) (h .heard-from .ensures)
-    ∙ ap decoded (repair-hidden (primeOf (a .w)) (a .n) (a .t) (take (a .n) (a .table)) (a .set) (a .heard) (positive (a .w)))
+    ∙ ap decoded (repair-needed p (a .n) (a .t) T (a .set) (a .heard) (positive (a .w)) within)
     ∙ sym
-    (repair-admitted (primeOf (a .w)) (a .n) (a .t) (take (a .n) (a .table)) (a .set) (a .heard) (sized (second e))
-    (ltb-true (a .set) (2 ^ a .n) (inside e))
+    (repair-admitted p (a .n) (a .t) T (a .set) (a .heard) (sized (second e)) within
     (omega (arith, counted .count .ensures, h .before .if3 .left)))
 
 pub repair-spec : {M : Type 1} → statement M
@@ -128,8 +132,8 @@ repair-spec =
     returns-2
     count-requires
     cast-count
-    mul-if3
-    add-if3
+    mul-fewest
+    add-fewest
     refused-fit-requires-3
     returns-3
     heard-from-requires

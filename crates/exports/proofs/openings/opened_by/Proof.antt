@@ -2,13 +2,14 @@
 use mathlib.Core.Path.{_≡_, sym, ap, _∙_}
 use Prim.Native.Nat.{ℕ, _≤_}
 use native.Mathlib.Omega.{arith}
-use lib.ListN.{length, take, drop, replicate}
+use lib.ListN.{take, drop, replicate}
 use lib.Seq.{length-take-le}
 use Rattle.field.specs.Modulus.{modulus}
 use Rattle.field.specs.declared.Width.the-variants.{Narrow}
 use Rattle.field.proofs.Primes.{prime-of}
 use Rattle.parties.proofs.Parties.{sizes-facts}
-use Rattle.recovery.specs.Recovery.{openingOf, publishedIn}
+use Rattle.fit.specs.Opening.{openingOf}
+use Rattle.recovery.specs.Recovery.{publishedIn}
 use Rattle.exports.specs.Exports.{openedIf}
 use Rattle.exports.specs.Pieces.{Openings}
 use Rattle.exports.proofs.Fronts.{front-list, front-within, front-size}
@@ -74,7 +75,7 @@ returns : tie.Need-returns
 returns c =
     let a = c .before .before .before .before .before .args in
     ap (λ (k : ℕ). (a .opened .now, k)) (c .refusal-number .ensures)
-    ∙ ap (λ b. openedIf b (a .opened .now) (openingOf modulus (a .n) (a .t) (take (a .n) (a .table)) (a .shares .now)))
+    ∙ ap (λ b. openedIf b (a .opened .now) (openingOf modulus (a .t) (take (a .n) (a .table)) (a .shares .now)))
     (sym (c .before .before .admitted .given .1))
 
 returns-2 : tie.Need-returns-2

@@ -3,7 +3,7 @@ use mathlib.Core.Path.{sym, ap, _∙_}
 use Prim.Native.Nat.{ℕ}
 use lib.ListN.{take}
 use Rattle.field.specs.Modulus.{wideModulus}
-use Rattle.recovery.specs.Recovery.{openingOf}
+use Rattle.fit.specs.Opening.{openingOf}
 use Rattle.exports.specs.Exports.{openedIf}
 use Rattle.exports.specs.Pieces.{Openings}
 use Rattle.exports.proofs.Opened.{opened-by}
@@ -38,7 +38,7 @@ returns : tie.Need-returns
 returns c =
     let a = c .before .before .before .before .before .args in
     ap (λ (k : ℕ). (a .opened .now, k)) (c .refusal-number .ensures)
-    ∙ ap (λ b. openedIf b (a .opened .now) (openingOf wideModulus (a .n) (a .t) (take (a .n) (a .table)) (a .shares .now)))
+    ∙ ap (λ b. openedIf b (a .opened .now) (openingOf wideModulus (a .t) (take (a .n) (a .table)) (a .shares .now)))
     (sym (c .before .before .admitted .given .1))
 
 returns-2 : tie.Need-returns-2
