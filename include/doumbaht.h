@@ -139,7 +139,8 @@ uint8_t doumbaht_repair_wide(uint8_t t, const uint32_t *xs, size_t xs_count, con
  * dark has NOT_SENT, or any number from the prime up, and never 0, which is a share. At most one polynomial fits. A lamp
  * that holds a share puts it into its own place first. Refused with WRONG_SIZE, WRONG_LENGTH unless there are n shares,
  * NO_OPENING: more than t shares are wrong, or fewer than 2t+1 are there and true. With 3t+1 shares there, at most t of
- * them wrong, it always opens. More than t wrong shares that lie on a polynomial of their own may open its constant.
+ * them wrong, it always opens. More than t wrong shares may open another number: that of a polynomial on which they lie,
+ * and with them as many as t true ones.
  */
 uint8_t doumbaht_open(uint8_t n, uint8_t t, const uint16_t *shares, size_t shares_count, uint16_t *opened);
 

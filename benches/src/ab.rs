@@ -21,7 +21,7 @@ pub fn run(keys: &[&str], inputs: usize, pace: Pace) -> Result<(), String> {
     for row in rows.iter().filter(|row| keys.is_empty() || keys.contains(&row.key())) {
         row.compare()?;
         match row.compare_old() {
-            Err(what) if rows::has_dark(row.key()) => left_out.push(what),
+            Err(what) if rows::has_unsent(row.key()) => left_out.push(what),
             same => same.and_then(|()| timed(row.as_ref(), pace))?,
         }
     }

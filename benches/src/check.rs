@@ -6,10 +6,12 @@ use crate::inputs::{Dealing, Reports, Tabled};
 use crate::measure::Bench;
 use crate::plain::field::Number;
 use crate::plain::{happy_new, happy_old};
-use crate::points::{any_dark_shares, any_dark_tabled_shares, any_points, any_shares, any_table, any_tabled_shares};
+use crate::points::{
+    any_points, any_shares, any_table, any_tabled_shares, any_unsent_shares, any_unsent_tabled_shares,
+};
 use crate::points::{any_size, bad_points, raised, sometimes_spoilt};
 use crate::proved::Library;
-use crate::records::{any_dark_record, any_record};
+use crate::records::{any_record, any_unsent_record};
 use crate::rng::Rng;
 
 /// Asks so many questions of each kind; answers how many in all.
@@ -33,14 +35,14 @@ fn check_prime<N: Library>(rng: &mut Rng, count: usize, width: &str) -> Result<(
         Box::new(repairing::<N>("", &title("bad points"), many(rng, count, bad_points))),
         Box::new(opening::<N>("", &title("shares"), many(rng, count, any_shares))),
         Box::new(opening_with::<N>("", &title("shares with a table"), many(rng, count, any_tabled_shares))),
-        Box::new(opening::<N>("", &title("shares, many dark"), many(rng, count, any_dark_shares))),
+        Box::new(opening::<N>("", &title("shares, many dark"), many(rng, count, any_unsent_shares))),
         Box::new(opening_with::<N>(
             "",
             &title("shares with a table, many dark"),
-            many(rng, count, any_dark_tabled_shares),
+            many(rng, count, any_unsent_tabled_shares),
         )),
         Box::new(writing("", &title("record"), many(rng, count / 4, any_record::<N>))),
-        Box::new(writing("", &title("record, many dark"), many(rng, count / 4, any_dark_record::<N>))),
+        Box::new(writing("", &title("record, many dark"), many(rng, count / 4, any_unsent_record::<N>))),
     ];
     rows.iter().try_for_each(|row| row.compare())
 }

@@ -46,11 +46,11 @@ pub fn shares<N: Number>(rng: &mut Rng, n: u8, t: u8, lies: Lies) -> Shares<N> {
 }
 
 /// Shares of which so many, in random places, were not sent, and so many of those sent are lies.
-pub fn dark_shares<N: Number>(rng: &mut Rng, n: u8, t: u8, dark: usize, lies: usize) -> Shares<N> {
+pub fn unsent_shares<N: Number>(rng: &mut Rng, n: u8, t: u8, unsent: usize, lies: usize) -> Shares<N> {
     let Shares { mut shares, .. } = shares(rng, n, t, Lies::At(&[]));
     let order = rng.order(shares.len());
-    let (dark, sent) = order.split_at(dark);
-    dark.iter().for_each(|&place| shares[place] = N::NOT_SENT);
+    let (unsent, sent) = order.split_at(unsent);
+    unsent.iter().for_each(|&place| shares[place] = N::NOT_SENT);
     for &place in &sent[..lies] {
         shares[place] = rng.wrong(shares[place]);
     }
@@ -129,7 +129,7 @@ pub fn any_points<N: Number>(rng: &mut Rng) -> Points<N> {
     let t = 1 + rng.below(3);
     let count = 3 * t + 1 + rng.below(16 - 3 * t);
     let xs = any_table(rng, count);
-    let ys = if rng.chance(25) { darkened(rng, t, &xs) } else { disturbed(rng, t, &xs) };
+    let ys = if rng.chance(25) { left_unsent(rng, t, &xs) } else { disturbed(rng, t, &xs) };
     Points { t: t as u8, xs, ys }
 }
 
@@ -149,8 +149,8 @@ pub fn any_shares<N: Number>(rng: &mut Rng) -> Shares<N> {
 }
 
 /// The same with many not sent.
-pub fn any_dark_shares<N: Number>(rng: &mut Rng) -> Shares<N> {
-    shares_by(rng, darkened)
+pub fn any_unsent_shares<N: Number>(rng: &mut Rng) -> Shares<N> {
+    shares_by(rng, left_unsent)
 }
 
 /// Any shares at the points of any table, the table sometimes bad.
@@ -159,8 +159,8 @@ pub fn any_tabled_shares<N: Number>(rng: &mut Rng) -> Tabled<N, Shares<N>> {
 }
 
 /// The same with many not sent.
-pub fn any_dark_tabled_shares<N: Number>(rng: &mut Rng) -> Tabled<N, Shares<N>> {
-    tabled_by(rng, darkened)
+pub fn any_unsent_tabled_shares<N: Number>(rng: &mut Rng) -> Tabled<N, Shares<N>> {
+    tabled_by(rng, left_unsent)
 }
 
 fn shares_by<N: Number>(rng: &mut Rng, values: Values<N>) -> Shares<N> {
@@ -198,25 +198,25 @@ fn disturbed<N: Number>(rng: &mut Rng, t: usize, xs: &[N]) -> Vec<N> {
 }
 
 /// Values of any polynomial, many of them not sent.
-fn darkened<N: Number>(rng: &mut Rng, t: usize, xs: &[N]) -> Vec<N> {
+fn left_unsent<N: Number>(rng: &mut Rng, t: usize, xs: &[N]) -> Vec<N> {
     let f: Vec<N> = (0..=t).map(|_| rng.edge()).collect();
     let mut ys = values_of(rng, &f, xs, Lies::At(&[]));
-    darken(rng, t, xs, &mut ys);
+    leave_unsent(rng, t, xs, &mut ys);
     ys
 }
 
 /// Takes away many of the values, in random places, and makes lies of some others. Mostly about 2t + 1 are left, the fewest
 /// that an opening needs, or about 3t + 1, the fewest among which t may lie; and none lie, or about t. Half of the time the
 /// liars agree with each other, on a polynomial that t of the others agree with too.
-pub fn darken<N: Number>(rng: &mut Rng, t: usize, xs: &[N], ys: &mut [N]) {
+pub fn leave_unsent<N: Number>(rng: &mut Rng, t: usize, xs: &[N], ys: &mut [N]) {
     let order = rng.order(xs.len());
     let count = match rng.below(4) {
         0 => rng.below(xs.len() + 1),
         1 => 3 * t + rng.below(3),
         _ => 2 * t + rng.below(3),
     };
-    let (sent, dark) = order.split_at(count.min(xs.len()));
-    dark.iter().for_each(|&place| ys[place] = raised(rng, ys[place]));
+    let (sent, unsent) = order.split_at(count.min(xs.len()));
+    unsent.iter().for_each(|&place| ys[place] = raised(rng, ys[place]));
     let lies = [0, t, t + 1, rng.below(t + 3)][rng.below(4)].min(sent.len());
     let (liars, others) = sent.split_at(lies);
     let kept: Vec<N> = others.iter().take(t).map(|&place| xs[place]).collect();

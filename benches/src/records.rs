@@ -8,7 +8,7 @@ use crate::plain::deal::deal;
 use crate::plain::field::{value, Number};
 use crate::plain::lamp::report;
 use crate::plain::record::{lengths, read};
-use crate::points::{any_size, darken, lamps, raised, zero_at};
+use crate::points::{any_size, lamps, leave_unsent, raised, zero_at};
 use crate::rng::Rng;
 
 pub const EXAMPLE: &[u8] = include_bytes!("../../crates/bench/stdin");
@@ -126,14 +126,14 @@ pub fn any_record<N: Number>(rng: &mut Rng) -> Bytes {
 }
 
 /// The same with many shares not sent; in half of them nothing else is altered, so that the dealer is accepted.
-pub fn any_dark_record<N: Number>(rng: &mut Rng) -> Bytes {
+pub fn any_unsent_record<N: Number>(rng: &mut Rng) -> Bytes {
     let (n, t) = any_size(rng);
     let Bytes(honest) = honest::<N>(rng, n as u8, t as u8);
     let mut bytes = if rng.chance(50) { honest } else { any_until_reports::<N>(rng) };
     let (n, t) = sizes::<N>(&bytes);
     let from = starts::<N>(n, t)[3];
     let mut shares: Vec<N> = bytes[from..].chunks_exact(N::BYTES).map(N::read).collect();
-    darken(rng, usize::from(t), &lamps(usize::from(n)), &mut shares);
+    leave_unsent(rng, usize::from(t), &lamps(usize::from(n)), &mut shares);
     for (k, &share) in shares.iter().enumerate() {
         put(&mut bytes, from + N::BYTES * k, share);
     }

@@ -7,7 +7,7 @@ use crate::inputs::{Bytes, Dealing, Shares, Tabled, Text};
 use crate::measure::{Bench, Row};
 use crate::plain::field::Number;
 use crate::plain::happy_now;
-use crate::points::{dark_shares, happy_points, shares, tabled_points, tabled_shares, Lies};
+use crate::points::{happy_points, shares, tabled_points, tabled_shares, unsent_shares, Lies};
 use crate::proved::Library;
 use crate::records::{honest, shifted, widened, EXAMPLE, LIARS};
 use crate::rng::Rng;
@@ -128,8 +128,8 @@ const PAIRS: &[usize] = &[0, 2, 4];
 
 /// Openings with other lamps dark in each input: the word in the key, n and t, how many are dark, how many of those sent
 /// lie, and that in words. Nine dark of sixteen are the most with which a cubic opens.
-type Dark = (&'static str, (u8, u8), usize, usize, &'static str);
-const DARK: [Dark; 5] = [
+type Unsent = (&'static str, (u8, u8), usize, usize, &'static str);
+const UNSENT: [Unsent; 5] = [
     ("dark2", (5, 1), 2, 0, "2 dark"),
     ("dark3", (16, 3), 3, 0, "3 dark"),
     ("dark9", (16, 3), 9, 0, "9 dark"),
@@ -138,7 +138,7 @@ const DARK: [Dark; 5] = [
 ];
 
 /// Whether a row of this key has dark lamps.
-pub fn has_dark(key: &str) -> bool {
+pub fn has_unsent(key: &str) -> bool {
     key.contains("-dark")
 }
 
@@ -204,8 +204,8 @@ fn open_rows<N: Library>(count: usize) -> Vec<Box<dyn Bench>> {
     let mut rows: Vec<_> = openings().into_iter().map(at).collect();
     rows.push(lying("any", (16, 3), Lies::Any(3), "3 lies anywhere"));
     rows.push(lying("refused", (16, 3), Lies::At(&[0, 4, 8, 12]), "4 lies, refused"));
-    rows.extend(DARK.map(|(key, (n, t), dark, lies, title)| {
-        open_row::<N>(key, (n, t), title, made(count, |rng| dark_shares(rng, n, t, dark, lies)))
+    rows.extend(UNSENT.map(|(key, (n, t), unsent, lies, title)| {
+        open_row::<N>(key, (n, t), title, made(count, |rng| unsent_shares(rng, n, t, unsent, lies)))
     }));
     rows
 }

@@ -1,7 +1,7 @@
 //! The tables, in the form that docs/PERFORMANCE.md shows, and what misses its target.
 
 use crate::measure::{quantile, ratio, Role, Times, TIMED};
-use crate::rows::has_dark;
+use crate::rows::has_unsent;
 
 /// At most so many times plain Rust of the same algorithm, and so many times the specialist, for the rows that these
 /// targets are for: searching, decoding, the others.
@@ -116,5 +116,5 @@ fn targets(key: &str) -> (f64, f64) {
 /// The rows at n = 16, t = 3 where the naive way has to try many: not those with dark lamps, which leave few points.
 fn has_naive_target(key: &str) -> bool {
     let few = ["wide-", "open5", "open9", "open13", "open16-none", "repair10", "text-example"];
-    !has_dark(key) && !few.iter().any(|start| key.starts_with(start))
+    !has_unsent(key) && !few.iter().any(|start| key.starts_with(start))
 }

@@ -104,9 +104,9 @@ int main(int argc, char **argv)
 {
     const uint16_t one_wrong[N] = {10, 13, 999, 19, 22};
     const uint16_t two_wrong[N] = {10, 13, 999, 998, 22};
-    const uint16_t two_dark[N] = {10, 13, DOUMBAHT_NOT_SENT, DOUMBAHT_NOT_SENT, 22};
-    const uint16_t one_wrong_one_dark[N] = {10, 13, DOUMBAHT_NOT_SENT, 999, 22};
-    const uint16_t three_dark[N] = {10, 13, DOUMBAHT_NOT_SENT, DOUMBAHT_NOT_SENT, DOUMBAHT_NOT_SENT};
+    const uint16_t two_unsent[N] = {10, 13, DOUMBAHT_NOT_SENT, DOUMBAHT_NOT_SENT, 22};
+    const uint16_t one_wrong_one_unsent[N] = {10, 13, DOUMBAHT_NOT_SENT, 999, 22};
+    const uint16_t three_unsent[N] = {10, 13, DOUMBAHT_NOT_SENT, DOUMBAHT_NOT_SENT, DOUMBAHT_NOT_SENT};
     if (argc != 2) {
         fprintf(stderr, "usage: %s RECORD\n", argv[0]);
         return 2;
@@ -114,9 +114,9 @@ int main(int argc, char **argv)
     deal();
     open_shares(one_wrong, N);
     open_shares(two_wrong, N);
-    open_shares(two_dark, N);
-    open_shares(one_wrong_one_dark, N);
-    open_shares(three_dark, N);
+    open_shares(two_unsent, N);
+    open_shares(one_wrong_one_unsent, N);
+    open_shares(three_unsent, N);
     repair();
     happy();
     int status = text(argv[1]);

@@ -2,13 +2,13 @@
 //! dark: what must hold by its rule, and the rule told once more.
 
 use crate::check::{count, expect, points, Outcome, Tally};
-use crate::dark;
 use crate::field::Width;
 use crate::fit::{fit, open_with, points_of, Point, Rule};
 use crate::poly::{interpolate, value};
-use crate::published::darken;
+use crate::published::leave_unsent;
 use crate::rng::Rng;
 use crate::scenario::legal_size;
+use crate::unsent;
 
 /// A true list, and the number that it opens to.
 struct Shares {
@@ -36,27 +36,27 @@ fn shares(rng: &mut Rng) -> Shares {
 
 /// All of them.
 pub fn openings(rng: &mut Rng, tally: &mut Tally) -> Outcome {
-    few_wrong_any_dark(rng, tally)?;
+    few_wrong_any_unsent(rng, tally)?;
     any_opening(rng, tally)
 }
 
 /// At most t wrong numbers and any number dark: the true number if 2t+1 true
 /// ones are there, else 10, and never another.
-fn few_wrong_any_dark(rng: &mut Rng, tally: &mut Tally) -> Outcome {
+fn few_wrong_any_unsent(rng: &mut Rng, tally: &mut Tally) -> Outcome {
     let truth = shares(rng);
     let Shares { width, t, .. } = truth;
     let n = truth.list.len();
     let mut list = truth.list.clone();
     let order = rng.some_of(n, n);
     let wrong = rng.below(t + 1);
-    let dark = rng.below(n - wrong + 1);
+    let unsent = rng.below(n - wrong + 1);
     for &i in &order[..wrong] {
         list[i - 1] = width.add(list[i - 1].into(), rng.unit(width).into()) as u32;
     }
-    for &i in &order[wrong..wrong + dark] {
+    for &i in &order[wrong..wrong + unsent] {
         list[i - 1] = rng.not_sent(width);
     }
-    let enough = n - wrong - dark > 2 * t;
+    let enough = n - wrong - unsent > 2 * t;
     let wanted = if enough { Ok(truth.secret) } else { Err(10) };
     count(tally, &format!("few wrong, any dark, opens {enough}"));
     let opened = open_with(width, &truth.table, &list, t);
@@ -99,7 +99,7 @@ fn any_opening(rng: &mut Rng, tally: &mut Tally) -> Outcome {
         mut list,
         ..
     } = shares(rng);
-    darken(rng, width, &table, t, None, &mut list);
+    leave_unsent(rng, width, &table, t, None, &mut list);
     let opened = open_with(width, &table, &list, t);
     let points = points_of(&table, &list);
     expect(
@@ -112,7 +112,7 @@ fn any_opening(rng: &mut Rng, tally: &mut Tally) -> Outcome {
             "what fits all but t opens otherwise",
         )?;
     }
-    match dark::kind_of(width, &table, t, &list, opened) {
+    match unsent::kind_of(width, &table, t, &list, opened) {
         Some(kind) => count(tally, &format!("opening {kind:?}")),
         None => count(tally, "opening of no dark kind"),
     }

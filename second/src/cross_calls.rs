@@ -3,13 +3,13 @@
 //! must print the same lines.
 
 use crate::calls::{call_name, call_text, Call, Step};
-use crate::dark::{self, Dark};
 use crate::field::Width;
 use crate::lists::random_lists;
 use crate::outcome::all_met;
 use crate::program::{self, Ran};
 use crate::short_inputs::short_inputs;
 use crate::stations::one_to;
+use crate::unsent::{self, Unsent};
 use crate::wire;
 use std::collections::BTreeMap;
 use std::path::Path;
@@ -127,7 +127,7 @@ pub fn count_answers(counts: &mut Counts, list: &[Step]) {
     for step in list {
         let answer = step.answer.result.as_ref().err().copied().unwrap_or(0);
         *counts.entry((counted_as(step), answer)).or_default() += 1;
-        if let Some(name) = dark_name(step) {
+        if let Some(name) = unsent_name(step) {
             *counts.entry((name, answer)).or_default() += 1;
         }
     }
@@ -136,7 +136,7 @@ pub fn count_answers(counts: &mut Counts, list: &[Step]) {
 /// What an opening with many parties dark is counted as besides: by what was
 /// sent, the own share among it, by the width, and by whether the points are
 /// others than 1 to n.
-fn dark_name(step: &Step) -> Option<&'static str> {
+fn unsent_name(step: &Step) -> Option<&'static str> {
     let Call::Open(width, list) = &step.call else {
         return None;
     };
@@ -148,11 +148,11 @@ fn dark_name(step: &Step) -> Option<&'static str> {
     let party = &step.before;
     let mut published = list.clone();
     published[party.number - 1] = party.share;
-    let kind = dark::kind_of(*width, &party.table, party.t, &published, opened)?;
+    let kind = unsent::kind_of(*width, &party.table, party.t, &published, opened)?;
     let names = match kind {
-        Dark::Opened => ["open-dark", "open-dark-table"],
-        Dark::ThroughLies | Dark::Lies => ["open-dark-lies", "open-dark-lies-table"],
-        Dark::TooFew => ["open-few", "open-few-table"],
+        Unsent::Opened => ["open-dark", "open-dark-table"],
+        Unsent::ThroughLies | Unsent::Lies => ["open-dark-lies", "open-dark-lies-table"],
+        Unsent::TooFew => ["open-few", "open-few-table"],
     };
     let name = names[usize::from(party.table != one_to(party.n))];
     let listed = ANSWERS.iter().map(|&(listed, _)| listed);

@@ -9,9 +9,6 @@ mod check_open;
 mod clique;
 mod cross;
 mod cross_calls;
-mod dark;
-#[cfg(test)]
-mod dark_tests;
 mod dealer;
 mod desk_calls;
 mod field;
@@ -23,9 +20,9 @@ mod lists;
 mod lists_tests;
 mod make;
 mod named;
-mod named_dark;
+mod named_unsent;
 #[cfg(test)]
-mod named_dark_tests;
+mod named_unsent_tests;
 mod named_wide;
 mod outcome;
 mod party;
@@ -60,13 +57,13 @@ mod story_stations_tests;
 mod story_tables;
 #[cfg(test)]
 mod story_tables_tests;
+mod story_unsent;
+#[cfg(test)]
+mod story_unsent_tests;
 mod story_wide;
 #[cfg(test)]
 mod story_wide_tests;
 mod story_widths;
-mod story_winter;
-#[cfg(test)]
-mod story_winter_tests;
 mod tables;
 #[cfg(test)]
 mod tables_tests;
@@ -74,6 +71,9 @@ mod tamper_deals;
 mod tamper_sent;
 #[cfg(test)]
 mod tests;
+mod unsent;
+#[cfg(test)]
+mod unsent_tests;
 #[cfg(test)]
 mod wide_tests;
 mod wire;

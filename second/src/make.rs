@@ -21,7 +21,7 @@ pub enum Kind {
     BadReports,
     BadShares,
     /// Many parties publish nothing.
-    Dark,
+    Unsent,
     Mixed,
     Sections,
     RandomBytes,
@@ -50,12 +50,12 @@ const KINDS: [Kind; 27] = [
     Kind::BadReports,
     Kind::BadReports,
     Kind::BadShares,
-    Kind::Dark,
-    Kind::Dark,
-    Kind::Dark,
-    Kind::Dark,
-    Kind::Dark,
-    Kind::Dark,
+    Kind::Unsent,
+    Kind::Unsent,
+    Kind::Unsent,
+    Kind::Unsent,
+    Kind::Unsent,
+    Kind::Unsent,
     Kind::Mixed,
     Kind::Mixed,
     Kind::Sections,
@@ -84,8 +84,8 @@ pub fn plan(rng: &mut Rng, kind: Kind, n: usize, t: usize) -> Plan {
         }
         Kind::BadReports => plan.reports = rng.pick(&REPORT_FAULTS),
         Kind::BadShares => plan.shares = rng.pick(&SHARE_FAULTS),
-        Kind::Dark => {
-            plan.shares = ShareFault::Dark;
+        Kind::Unsent => {
+            plan.shares = ShareFault::Unsent;
             if rng.chance(20) {
                 plan.pairs = rng.pick(&[PairFault::Graph, PairFault::Repair]);
             }

@@ -1,10 +1,10 @@
 //! The kinds of outcome that a record's text shows, to be counted for narrow and
 //! for wide records apart.
 
-use crate::dark::{self, Dark};
 use crate::field::Width;
 use crate::record;
 use crate::stations::one_to;
+use crate::unsent::{self, Unsent};
 
 /// How many kinds there are for each width.
 const OF_WIDTH: usize = 16;
@@ -63,7 +63,7 @@ fn kind_of(line: &str, happy: &[&str]) -> String {
 
 /// How the opening of a record with many parties dark is called, if it is one
 /// that is counted.
-fn dark_kind(bytes: &[u8], text: &str) -> Option<&'static str> {
+fn unsent_kind(bytes: &[u8], text: &str) -> Option<&'static str> {
     let record = record::read(bytes).ok()?;
     let opened = match text.lines().last()?.strip_prefix("opened ")? {
         "refused 8" => return None,
@@ -71,12 +71,12 @@ fn dark_kind(bytes: &[u8], text: &str) -> Option<&'static str> {
         number => Ok(number.parse().ok()?),
     };
     let table = one_to(record.n);
-    let kind = dark::kind_of(record.width, &table, record.t, &record.shares, opened)?;
+    let kind = unsent::kind_of(record.width, &table, record.t, &record.shares, opened)?;
     Some(match kind {
-        Dark::Opened => "opened, more than t dark",
-        Dark::ThroughLies => "opened through lies, more than t dark",
-        Dark::TooFew => "opened refused 10, 2t lit and no lie",
-        Dark::Lies => "opened refused 10, more than t dark and lies",
+        Unsent::Opened => "opened, more than t dark",
+        Unsent::ThroughLies => "opened through lies, more than t dark",
+        Unsent::TooFew => "opened refused 10, 2t lit and no lie",
+        Unsent::Lies => "opened refused 10, more than t dark and lies",
     })
 }
 
@@ -93,8 +93,8 @@ pub fn count(counts: &mut Counts, record: &[u8], text: &str) {
         .filter(|line| line.starts_with("happy "))
         .flat_map(|line| line.split(' ').skip(1))
         .collect();
-    let dark = dark_kind(record, text).map(str::to_string);
-    for kind in text.lines().map(|line| kind_of(line, &happy)).chain(dark) {
+    let unsent = unsent_kind(record, text).map(str::to_string);
+    for kind in text.lines().map(|line| kind_of(line, &happy)).chain(unsent) {
         let kinds = &OUTCOMES[..OF_WIDTH];
         if let Some(k) = kinds.iter().position(|&name| name == kind) {
             counts[first + k] += 1;

@@ -31,23 +31,23 @@ pub fn share_list(rng: &mut Rng, world: &Scenario, own: usize) -> Vec<u32> {
         }
         8 => enlarge(rng, width, &mut list),
         9 => garble(rng, width, &mut list),
-        _ => return dark_list(rng, world, own),
+        _ => return unsent_list(rng, world, own),
     }
     list
 }
 
 /// The world's shares with many parties dark, as party `own` opens them.
-pub fn dark_list(rng: &mut Rng, world: &Scenario, own: usize) -> Vec<u32> {
+pub fn unsent_list(rng: &mut Rng, world: &Scenario, own: usize) -> Vec<u32> {
     let Record { width, t, .. } = world.record;
     let mut list = world.record.shares.clone();
-    darken(rng, width, &world.table, t, Some(own), &mut list);
+    leave_unsent(rng, width, &world.table, t, Some(own), &mut list);
     list
 }
 
 /// How many are sent, and how many of these lie. Half of the time it is at a
 /// border: 2t+1 must agree, with t lies that is 3t+1, and the 3t+2 of 2t+1 true
 /// ones and t+1 lies are the most that n = 4t+1 has room for.
-fn lit_and_lies(rng: &mut Rng, n: usize, t: usize) -> (usize, usize) {
+fn sent_and_lies(rng: &mut Rng, n: usize, t: usize) -> (usize, usize) {
     if rng.chance(50) {
         return rng.pick(&[
             (2 * t, 0),
@@ -64,15 +64,15 @@ fn lit_and_lies(rng: &mut Rng, n: usize, t: usize) -> (usize, usize) {
         ]);
     }
     let any = rng.between(0, n);
-    let lit = rng.pick(&[2 * t, 2 * t + 1, 3 * t, 3 * t + 1, 3 * t + 2, any]);
-    let any = rng.between(0, lit);
-    (lit, rng.pick(&[0, 0, t, t, t + 1, 1, any]).min(lit))
+    let sent = rng.pick(&[2 * t, 2 * t + 1, 3 * t, 3 * t + 1, 3 * t + 2, any]);
+    let any = rng.between(0, sent);
+    (sent, rng.pick(&[0, 0, t, t, t + 1, 1, any]).min(sent))
 }
 
 /// Makes parties dark and lets some of the others lie. If a party opens the list
 /// itself, its own share is one of those sent, and what stands in its place is
 /// anything.
-pub fn darken(
+pub fn leave_unsent(
     rng: &mut Rng,
     width: Width,
     table: &[u32],
@@ -81,17 +81,17 @@ pub fn darken(
     list: &mut [u32],
 ) {
     let n = list.len();
-    let (lit, lies) = lit_and_lies(rng, n, t);
+    let (sent, lies) = sent_and_lies(rng, n, t);
     let mut order = rng.some_of(n, n);
     if let Some(own) = own {
         order.retain(|&i| i != own);
         order.insert(0, own);
     }
-    let (true_ones, others) = order.split_at(lit - lies);
-    let (liars, dark) = others.split_at(lies);
+    let (true_ones, others) = order.split_at(sent - lies);
+    let (liars, unsent) = others.split_at(lies);
     speak_falsely(rng, width, table, t, (true_ones, liars), list);
-    for &i in dark {
-        list[i - 1] = dark_number(rng, width, list[i - 1]);
+    for &i in unsent {
+        list[i - 1] = unsent_number(rng, width, list[i - 1]);
     }
     if let Some(own) = own {
         list[own - 1] = lie(rng, width, list[own - 1]);
@@ -130,7 +130,7 @@ fn speak_falsely(
 
 /// What stands for a dark party: what a sender writes, the prime, or any number
 /// that is not sent. A wide one may be the truth with the prime added.
-fn dark_number(rng: &mut Rng, width: Width, truth: u32) -> u32 {
+fn unsent_number(rng: &mut Rng, width: Width, truth: u32) -> u32 {
     match rng.below(6) {
         0..=1 => width.not_sent(),
         2 => width.prime() as u32,

@@ -8,7 +8,7 @@ use crate::desk_calls::random_desk_call;
 use crate::field::Width;
 use crate::lies::wrong;
 use crate::party::Party;
-use crate::published::dark_list;
+use crate::published::unsent_list;
 use crate::record::{pair_place, Record};
 use crate::rng::Rng;
 use crate::scenario::{build, build_on, legal_size, DealFault, PairFault, Plan, Scenario, HONEST};
@@ -130,6 +130,6 @@ fn party_calls(rng: &mut Rng, world: &Scenario, table: Option<&[u32]>, i: usize)
         Call::Open(width, record.shares.clone()),
         Call::Open(width, shares),
     ]);
-    calls.extend((0..2).map(|_| Call::Open(width, dark_list(rng, world, i))));
+    calls.extend((0..2).map(|_| Call::Open(width, unsent_list(rng, world, i))));
     calls
 }

@@ -76,7 +76,7 @@ pub enum ShareFault {
     /// All but about t numbers on another polynomial.
     Other,
     /// Many not sent, and some wrong: near the borders of an opening.
-    Dark,
+    Unsent,
     Large,
     /// All the same: not sent, or zero, or another number.
     Flat,
@@ -129,7 +129,7 @@ pub const REPORT_FAULTS: [ReportFault; 5] = [
 pub const SHARE_FAULTS: [ShareFault; 6] = [
     ShareFault::Wrong,
     ShareFault::Other,
-    ShareFault::Dark,
+    ShareFault::Unsent,
     ShareFault::Large,
     ShareFault::Flat,
     ShareFault::Garbage,

@@ -3,7 +3,7 @@
 use crate::field::Width::{self, Narrow, Wide};
 use crate::make::{get, insert_gap, put, random_record_of, reordered, shift_border, swap_entries};
 use crate::named;
-use crate::named_dark;
+use crate::named_unsent;
 use crate::named_wide;
 use crate::record::{head, lengths, write};
 use crate::rng::Rng;
@@ -53,7 +53,7 @@ pub fn collection() -> Vec<Entry> {
     entries.extend(too_long(&example));
     entries.extend(wrong_orders(&example));
     entries.extend(sizes());
-    let records = named::all().into_iter().chain(named_dark::all(Narrow));
+    let records = named::all().into_iter().chain(named_unsent::all(Narrow));
     entries.extend(records.map(|(name, record)| (name, write(&record))));
     entries.extend(random("random", Narrow, RANDOM));
     entries.extend(wide());
@@ -184,7 +184,7 @@ fn random(name: &str, width: Width, count: usize) -> Vec<Entry> {
 /// after all others.
 fn wide() -> Vec<Entry> {
     let example = write(&named_wide::example());
-    let records = named_wide::all().into_iter().chain(named_dark::all(Wide));
+    let records = named_wide::all().into_iter().chain(named_unsent::all(Wide));
     let mut entries: Vec<Entry> = records
         .map(|(name, record)| (name, write(&record)))
         .collect();

@@ -9,9 +9,9 @@ use crate::story_refusals as refusals;
 use crate::story_runs as runs;
 use crate::story_stations as stations;
 use crate::story_tables as tables;
+use crate::story_unsent as unsent;
 use crate::story_wide as wide;
 use crate::story_widths as widths;
-use crate::story_winter as winter;
 use crate::wire;
 
 /// A story's name and its calls.
@@ -34,10 +34,10 @@ fn without_tables() -> Vec<Story> {
         ("refused-made", refusals::badly_made(Narrow)),
         ("refused-stages", refusals::stages(Narrow)),
         ("refused-closed", refusals::closed(Narrow)),
-        ("winter", winter::winter(Narrow)),
-        ("winter-liar", winter::liar()),
-        ("winter-sixteen", winter::sixteen(Narrow)),
-        ("winter-repair", winter::repair()),
+        ("winter", unsent::unsent(Narrow)),
+        ("winter-liar", unsent::liar()),
+        ("winter-sixteen", unsent::sixteen(Narrow)),
+        ("winter-repair", unsent::repair()),
         ("trap", runs::trap()),
         ("trap-liar", runs::trap_liar()),
     ]
@@ -53,8 +53,8 @@ fn with_tables() -> Vec<Story> {
         ("stations-trap", stations::trap()),
         ("stations-other-table", stations::other_table()),
         ("stations-one-entry", stations::one_entry()),
-        ("winter-stations", winter::stations(Narrow)),
-        ("winter-stations-nine", winter::stations_nine(Narrow)),
+        ("winter-stations", unsent::stations(Narrow)),
+        ("winter-stations-nine", unsent::stations_nine(Narrow)),
         ("refused-tables", tables::makings()),
         ("refused-tables-desk", tables::desks()),
         ("refused-tables-calls", tables::calls()),
@@ -86,11 +86,11 @@ fn of_wide_parties() -> Vec<Story> {
         ("widths-narrow-party", widths::narrow_party()),
         ("widths-order", widths::order()),
         ("widths-desks", widths::desks()),
-        ("wide-winter", winter::winter(Wide)),
-        ("wide-winter-liar", winter::wide_liar()),
-        ("wide-winter-sixteen", winter::sixteen(Wide)),
-        ("wide-winter-stations", winter::stations(Wide)),
-        ("wide-winter-stations-nine", winter::stations_nine(Wide)),
+        ("wide-winter", unsent::unsent(Wide)),
+        ("wide-winter-liar", unsent::wide_liar()),
+        ("wide-winter-sixteen", unsent::sixteen(Wide)),
+        ("wide-winter-stations", unsent::stations(Wide)),
+        ("wide-winter-stations-nine", unsent::stations_nine(Wide)),
     ]
 }
 

@@ -3,7 +3,7 @@
 
 use crate::lies::{about_t, enlarge, garble, garble_reports, victims, wrong};
 use crate::poly::value;
-use crate::published::darken;
+use crate::published::leave_unsent;
 use crate::record::{pair_place, Record};
 use crate::rng::Rng;
 use crate::scenario::{PairFault, ReportFault, ShareFault};
@@ -194,7 +194,9 @@ pub fn tamper_shares(rng: &mut Rng, record: &mut Record, table: &[u32], fault: S
             }
         }
         ShareFault::Other => shares_of_other(rng, record, table),
-        ShareFault::Dark => darken(rng, record.width, table, record.t, None, &mut record.shares),
+        ShareFault::Unsent => {
+            leave_unsent(rng, record.width, table, record.t, None, &mut record.shares)
+        }
         ShareFault::Large => enlarge(rng, record.width, &mut record.shares),
         ShareFault::Flat => {
             let p = record.width.prime() as u32;

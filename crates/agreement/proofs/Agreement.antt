@@ -14,6 +14,7 @@ use Rattle.lists.proofs.Cases.{true-or-false, not-both, le-or-lt}
 use Rattle.field.specs.declared.Width.{Width}
 use Rattle.field.proofs.Primes.{prime-of}
 use Rattle.polynomial.specs.Polynomial.{Poly, value}
+use Rattle.polynomial.proofs.Division.{value-lt}
 use Rattle.bivariate.proofs.Crossing.{row-poly, column-poly, crossing}
 use Rattle.bivariate.proofs.Terms.{row-at, at-secret}
 use Rattle.happy.specs.Happy.{happySet}
@@ -38,7 +39,7 @@ use Rattle.agreement.specs.Demand3.{Gives, Refuses, ShareOrUnsent, hones
 use Rattle.agreement.specs.Demand3.{Accepts, OnF, AllReject, AllAccept, Conclusions, Demand3}
 use Rattle.agreement.proofs.Counting.{passing, honest-parties}
 use Rattle.agreement.proofs.Geometry.{Inside, Lies, repairs, lies, lies-once, column-constant, row-constant}
-use Rattle.agreement.proofs.Openings.{own-opens-enough, own-opens-no-other, own-opens-all}
+use Rattle.agreement.proofs.Openings.{own-opens-enough, own-opens-no-other, honest-there}
 use Rattle.agreement.proofs.Reports.{Heard, happy-right, happy-within, crossed, heard-first, honest-many}
 use Rattle.agreement.proofs.Steps.{shares-opened}
 use Rattle.agreement.proofs.Collapse as one
@@ -222,11 +223,14 @@ module _ (s : Setting) (legal : Legal s) (e : Execution) (pr : Premises s e) (ta
                   (sym opening-by ∙ is) in
                   inl (found (is ∙ ap some only))
 
+        -- With all honest shares in place all but t are there.
         opens-all : ((j : ℕ) → Honest s e j → (j ≡ i → ⊥) → entry ys j ≡ shareOf s e j) → Secret
         opens-all places =
-            found (opening-by ∙ own-opens-all s legal (e .honest) (pr .few) f row-fine i (h .party) ys long (λ j qj gj d.
-            let hj : Honest s e j = record { party = qj; good = gj } in
-            places j hj d ∙ share-is j hj ∙ sym (on-row j)))
+            let z = sizes-facts (s .n) (s .t) (legal .size) in
+            let sent : (j : ℕ) → Honest s e j → (j ≡ i → ⊥) → entry ys j < prime s = λ j hj d.
+            subst (λ v. v < prime s) (sym (places j hj d ∙ share-is j hj ∙ sym (on-row j)))
+            (value-lt (prime s) f (point s j) (omega (arith, legal .prime .two))) in
+            opens-enough (λ j hj d was-sent. places j hj d) (omega (arith, honest-there s e (pr .few) i ys sent))
 
       accepts : (i : ℕ) → Honest s e i → Accepts s e s i F
       unfolding atEnd withPairs withDeal share

@@ -1,6 +1,7 @@
 -- What shares open, where those of the honest that were sent lie on one f: f with 2t + 1 of them there, and nothing else with fewer.
---   opens-enough, opens-no-other, opens-all               of a list by itself
---   own-opens-enough, own-opens-no-other, own-opens-all   with one party's own share in its own place
+--   opens-enough, opens-no-other           of a list by itself
+--   own-opens-enough, own-opens-no-other   with one party's own share in its own place
+--   honest-there                           where every honest lamp sent, all but t of the n are there
 use mathlib.Core.Path.{_≡_, sym, ap, subst, _∙_}
 use mathlib.Core.Bool.{Bool, true, not, _&&_, _||_, and-eq-true-iff}
 use mathlib.Core.Option.{some}
@@ -8,7 +9,7 @@ use mathlib.Core.List.{List, map}
 use Prim.Native.Nat.{ℕ, suc, _+_, _*_, _-_, _≤_, _<_}
 use native.Mathlib.Decide.{ℕ-discrete}
 use native.Mathlib.Omega.{arith}
-use borrow.Author.Tests.{ne-eqb, lt-ltb, ltb-true}
+use borrow.Author.Tests.{eq-eqb, ne-eqb, lt-ltb, ltb-true}
 use lib.Dec.{ltb, eqb}
 use lib.ListN.{length, getD, set, length-set}
 use lib.Seq.{getD-set-same, getD-set-other}
@@ -19,9 +20,10 @@ use Rattle.polynomial.proofs.Division.{value-lt}
 use Rattle.fit.specs.Opening.{wrong, openingOf}
 use Rattle.fit.proofs.Opening.{opening-found, opening-other, wrong-marked}
 use Rattle.parties.specs.Parties.{isParty, parties, entry}
-use Rattle.parties.proofs.Parties.{sizes-facts, party-facts, party-true}
+use Rattle.parties.proofs.Parties.{party-facts, party-true}
 use Rattle.agreement.specs.Setting.{Setting, Legal, prime, terms, point}
-use Rattle.agreement.proofs.Counting.{honest-parties, count-parties}
+use Rattle.agreement.specs.Demand3.{Execution, Honest, honestThere}
+use Rattle.agreement.proofs.Counting.{count-parties, honest-all}
 use Rattle.agreement.proofs.Geometry.{marks, points-fine, at-place, marks-long, agreeing}
 
 module _ (s : Setting) (legal : Legal s) (honest : ℕ → Bool) (few : count (λ i. not (honest i)) (parties (s .n)) ≤ s .t) where
@@ -68,20 +70,6 @@ module _ (s : Setting) (legal : Legal s) (honest : ℕ → Bool) (few : count (�
               );
               few = few-wrong;
             })
-
-    -- With all honest shares in place n − t are there.
-    pub opens-all : ((i : ℕ) → isParty (s .n) i ≡ true → honest i ≡ true → value (prime s) f (point s i) ≡ entry ys i)
-        → openingOf (prime s) (s .t) (s .table) ys ≡ some f
-    opens-all agrees =
-        let z = sizes-facts (s .n) (s .t) (legal .size) in
-        opens-enough (λ i party good was-sent. agrees i party good)
-        (omega (
-          arith,
-          honest-parties honest (s .n) (s .t) few,
-          count-parties (s .n) honest (λ i. honest i && ltb (entry ys i) (prime s)) (λ i party good.
-              and-eq-true-iff (honest i) (ltb (entry ys i) (prime s)) .1
-              (good, lt-ltb (entry ys i) (prime s) (subst (λ z. z < prime s) (agrees i party good) (below f i)))),
-        ))
 
   -- ---- the same as party i opens them, whose own share is f's value at its point
   module _ (f : List ℕ) (hf : Poly (prime s) (terms s) f) (i : ℕ) (party : isParty (s .n) i ≡ true) (ys : List ℕ)
@@ -138,11 +126,15 @@ module _ (s : Setting) (legal : Legal s) (honest : ℕ → Bool) (few : count (�
               ] in
               and-eq-true-iff (honest j) (ltb (entry own j) (prime s)) .1 (both .0, by)
 
-    pub own-opens-all : ((j : ℕ) → isParty (s .n) j ≡ true → honest j ≡ true → (j ≡ i → ⊥) → entry ys j ≡ on j)
-        → openingOf (prime s) (s .t) (s .table) own ≡ some f
-    own-opens-all places =
-        opens-all f own hf (length-set ys (i - 1) (on i) ∙ long) (λ j pj gj.
-        elim (ℕ-discrete j i) [
-          | yes q ↦ sym (own-place j q)
-          | no d ↦ sym (other-place j pj d ∙ places j pj gj d)
-        ])
+-- ---- where every honest lamp sent, all but t of the n are there
+-- Lamp i's own share needs no sending.
+pub honest-there : (s : Setting) (e : Execution) → count (λ j. not (e .honest j)) (parties (s .n)) ≤ s .t → (i : ℕ) (ys : List ℕ)
+    → ((j : ℕ) → Honest s e j → (j ≡ i → ⊥) → entry ys j < prime s) → s .n ≤ honestThere s e i ys + s .t
+honest-there s e few i ys sent =
+    honest-all (e .honest) (λ j. eqb j i || ltb (entry ys j) (prime s)) (s .n) (s .t) few (λ j party good.
+    elim (ℕ-discrete j i) [
+      | yes q ↦ ap (λ b. b || ltb (entry ys j) (prime s)) (eq-eqb j i q)
+      | no d ↦
+          ap (λ b. b || ltb (entry ys j) (prime s)) (ne-eqb j i d)
+          ∙ lt-ltb (entry ys j) (prime s) (sent j (record { party = party; good = good }) d)
+    ])

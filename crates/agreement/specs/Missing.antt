@@ -20,7 +20,8 @@ module _ (w : Width) where
 
   -- The request's three lists, by themselves and as each lamp opens them, whose own share is there: the third is opened by lamps 3 to 5
   -- and by nobody else. A lie and a number that is no residue; three agree and one lies; two agree; what stands in a lamp's own place
-  -- is not looked at. Of the last list lamp 5 opens 7 and lamp 1 nothing.
+  -- is not looked at; one list that lamp 5 opens and lamp 1 does not. Last two liars, of whom nothing is promised: with lamp 4's share on
+  -- their line 3 + 4X they open 3 where lamp 5 is missing.
   abbrev pub missingShares : List Case
   missingShares =
       alone 5 1 (10 ∷ 13 ∷ missing ∷ missing ∷ 22 ∷ []) (some 7)
@@ -49,6 +50,8 @@ module _ (w : Width) where
       ∷ openingBy 5 1 1 10 (missing ∷ 13 ∷ 16 ∷ missing ∷ missing ∷ []) none (7 ∷ [])
       ∷ openingBy 5 1 5 22 (10 ∷ 13 ∷ 999 ∷ missing ∷ missing ∷ []) none (7 ∷ [])
       ∷ opening 5 1 (10 ∷ 13 ∷ 999 ∷ missing ∷ missing ∷ []) (some 10) []
+      ∷ alone 5 1 (7 ∷ 11 ∷ 16 ∷ 19 ∷ missing ∷ []) (some 3)
+      ∷ alone 5 1 (7 ∷ 11 ∷ 16 ∷ 19 ∷ 22 ∷ []) none
       ∷ []
 
   -- M3 to M6, of the lists by themselves; and M5 by a lamp that holds a share.

@@ -4,24 +4,29 @@
 --   written-near, near-written, none-near    of a repair
 --   opened-opens, opens-opened, none-opens   of an opening; near-opened: what is near opens still, to the same number
 --   opened-no-other                          nothing but f's constant is opened where at most t of those sent differ from f
---   plain-opens-opened, plain-near-opened, plain-opened-no-other, plain-none-opens, plain-dealt   the same of an opening, and of a
---                                            dealing, without a table
+--   honest-no-other, honest-enough           the same where all but t are honest, and that it is opened where 2t + 1 of them sent
+--   plain-opens-opened, plain-near-opened, plain-opened-no-other, plain-honest-no-other, plain-honest-enough, plain-none-opens,
+--   plain-dealt                              the same of an opening, and of a dealing, without a table
 use mathlib.Core.Path.{_≡_, refl, sym, ap, _∙_}
 use mathlib.Core.Logic.{_↔_, _⊎_, inl, inr}
-use mathlib.Core.Bool.{true}
+use mathlib.Core.Bool.{Bool, true, false, not, false≢true}
 use mathlib.Core.Option.{Option, none, some}
 use mathlib.Core.List.{List, _++_}
-use Prim.Native.Nat.{ℕ, suc, _-_, _≤_, _<_}
+use Prim.Native.Nat.{ℕ, suc, _+_, _*_, _-_, _≤_, _<_}
+use native.Mathlib.Decide.{decLt}
 use native.Mathlib.Omega.{arith}
-use lib.ListN.{length}
+use lib.ListN.{length, getD, List·getD-eq-default}
+use Rattle.lists.specs.Choices.{count, marked}
+use Rattle.lists.proofs.Tabulate.{getD-tabulate}
 use Rattle.lists.specs.Options.{orZero}
 use Rattle.field.specs.Arithmetic.{Prime}
 use Rattle.fit.specs.Fit.{Near, fit}
 use Rattle.fit.specs.Opening.{Opening, wrong, openingOf}
 use Rattle.fit.proofs.Decoding.{fit-sound}
-use Rattle.fit.proofs.Opening.{opening-sound, opening-found, opening-none, opening-other, near-opening}
+use Rattle.fit.proofs.Opening.{opening-sound, opening-found, opening-none, opening-other, near-opening, wrong-marked}
 use Rattle.fit.proofs.Rule.{fits-iff, near-found, near-none}
-use Rattle.polynomial.specs.Polynomial.{Points, Poly}
+use Rattle.fit.proofs.Selection.{hits-marked}
+use Rattle.polynomial.specs.Polynomial.{Points, Poly, value}
 use Rattle.bivariate.specs.Bivariate.{row, column}
 use Rattle.parties.specs.Parties.{sizes, isParty}
 use Rattle.parties.proofs.Parties.{sizes-facts, party-facts}
@@ -112,6 +117,31 @@ module _ (p : ℕ) (P : Prime p) (n t : ℕ) (T shares : List ℕ) (old : ℕ) (
       go none e = inr (by ∙ ap (opened old) e)
       go (some g) e = inl (by ∙ ap (opened old) (e ∙ ap some (opening-other p P t T shares same places f F few g e)))
 
+  -- All but t are honest: what one of these sent, if anything, is f's value at its point.
+  module _ (honest : List Bool) (size : length honest ≡ n) (few : count not honest ≤ t) (f : List ℕ) (F : Poly p (suc t) f)
+      (right-shares : (k : ℕ) → getD honest k false ≡ true → getD shares k 0 < p → value p f (getD T k 0) ≡ getD shares k 0) where
+    few-wrong : wrong p f T shares ≤ t
+    few-wrong = omega (arith, few, wrong-marked p f honest T shares (size ∙ sym (right .table .size)) same right-shares)
+
+    pub honest-no-other : (openingAt p n t T shares old ≡ (constant f, 0)) ⊎ (openingAt p n t T shares old ≡ (old, 10))
+    honest-no-other = opened-no-other f F few-wrong
+
+    -- With 2t + 1 of them that sent.
+    pub honest-enough : (there : List Bool) → length there ≡ n
+        → ((k : ℕ) → getD there k false ≡ true → (getD honest k false ≡ true) × (getD shares k 0 < p)) → 2 * t + 1 ≤ marked there
+        → openingAt p n t T shares old ≡ (constant f, 0)
+    honest-enough there long among many =
+        opens-opened f (record {
+          poly = F;
+          many = omega (
+            arith,
+            many,
+            hits-marked p f there T shares (long ∙ sym (right .table .size)) same
+                (λ k e. let both = among k e in right-shares k (both .0) (both .1)),
+          );
+          few = few-wrong;
+        })
+
   -- 10 is the truth, and the number is left alone.
   pub none-opens : (openingAt p n t T shares old ≡ (old, 10)) ↔ ((f : List ℕ) → Opening p t T shares f → ⊥)
   none-opens = (
@@ -133,6 +163,26 @@ module _ (p : ℕ) (P : Prime p) (n t : ℕ) (shares : List ℕ) (old : ℕ) (s 
   pub plain-opened-no-other : (f : List ℕ) → Poly p (suc t) f → wrong p f (oneTo n) shares ≤ t
       → (opening p n t shares old ≡ (constant f, 0)) ⊎ (opening p n t shares old ≡ (old, 10))
   plain-opened-no-other = opened-no-other p P n t (oneTo n) shares old plainly
+
+  module _ (honest : List Bool) (size : length honest ≡ n) (few : count not honest ≤ t) (f : List ℕ) (F : Poly p (suc t) f)
+      (right-shares : (k : ℕ) → getD honest k false ≡ true → getD shares k 0 < p → value p f (suc k) ≡ getD shares k 0) where
+    -- The point of the party at place k is k + 1.
+    at-points : (k : ℕ) → getD honest k false ≡ true → getD shares k 0 < p → value p f (getD (oneTo n) k 0) ≡ getD shares k 0
+    at-points k good sent =
+        elim (decLt k n) [
+          | yes h ↦ ap (value p f) (getD-tabulate suc n k 0 h) ∙ right-shares k good sent
+          | no h ↦
+              let far : length honest ≤ k = omega arith in
+              absurd (false≢true (sym (List·getD-eq-default honest false {n = k} far) ∙ good))
+        ]
+
+    pub plain-honest-no-other : (opening p n t shares old ≡ (constant f, 0)) ⊎ (opening p n t shares old ≡ (old, 10))
+    plain-honest-no-other = honest-no-other p P n t (oneTo n) shares old plainly honest size few f F at-points
+
+    pub plain-honest-enough : (there : List Bool) → length there ≡ n
+        → ((k : ℕ) → getD there k false ≡ true → (getD honest k false ≡ true) × (getD shares k 0 < p)) → 2 * t + 1 ≤ marked there
+        → opening p n t shares old ≡ (constant f, 0)
+    plain-honest-enough = honest-enough p P n t (oneTo n) shares old plainly honest size few f F at-points
 
   pub plain-none-opens : (opening p n t shares old ≡ (old, 10)) ↔ ((f : List ℕ) → Opening p t (oneTo n) shares f → ⊥)
   plain-none-opens = none-opens p P n t (oneTo n) shares old plainly

@@ -37,7 +37,7 @@ pub examples :
     × (openingOf modulus 1 (upTo 5) (unsent ∷ unsent ∷ unsent ∷ unsent ∷ unsent ∷ []) ≡ none)
     -- M6: all zero opens 0.
     × (openingOf modulus 1 (upTo 5) (0 ∷ 0 ∷ 0 ∷ 0 ∷ 0 ∷ []) ≡ some (0 ∷ 0 ∷ []))
-    -- Lamps dark: two; one, and a lie; three.
+    -- Two missing; one, and a lie; three.
     × (openingOf modulus 1 (upTo 5) (10 ∷ 13 ∷ unsent ∷ unsent ∷ 22 ∷ []) ≡ some (7 ∷ 3 ∷ []))
     × (openingOf modulus 1 (upTo 5) (10 ∷ 13 ∷ unsent ∷ 999 ∷ 22 ∷ []) ≡ some (7 ∷ 3 ∷ []))
     × (openingOf modulus 1 (upTo 5) (10 ∷ 13 ∷ unsent ∷ unsent ∷ unsent ∷ []) ≡ none)

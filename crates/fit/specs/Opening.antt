@@ -1,4 +1,4 @@
--- The rule for openings, in which lamps may be dark. A column is repaired by the other rule, `Near` of specs/Fit: at most t of all
+-- The rule for openings, where values may be missing. A column is repaired by the other rule, `Near` of specs/Fit: at most t of all
 -- points differ.
 --   wrong p f xs ys       how many of the points sent differ from f
 --   Opening p t xs ys f   f has degree at most t, at least 2t + 1 points agree with it, and at most t of those sent differ

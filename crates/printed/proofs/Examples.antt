@@ -119,6 +119,11 @@ table = (
           ++ letters "lamp 1 share 10\nlamp 2 share 13\nlamp 3 share 16\nlamp 4 share 19\nlamp 5 share 22\nopened 7\n",
     )
     ∷ (
+      recordOf Narrow 5 1 dealt heard reported (10 ∷ 13 ∷ 65535 ∷ 999 ∷ 22 ∷ []),
+      letters "size 5 1\ndealer accepted\nhappy 1 2 3 4 5\n"
+          ++ letters "lamp 1 share 10\nlamp 2 share 13\nlamp 3 share 16\nlamp 4 share 19\nlamp 5 share 22\nopened 7\n",
+    )
+    ∷ (
       recordOf Narrow 5 1 dealt heard reported (10 ∷ 13 ∷ 65535 ∷ 65535 ∷ 65535 ∷ []),
       letters "size 5 1\ndealer accepted\nhappy 1 2 3 4 5\n"
           ++ letters "lamp 1 share 10\nlamp 2 share 13\nlamp 3 share 16\nlamp 4 share 19\nlamp 5 share 22\nopened refused 10\n",
@@ -146,7 +151,7 @@ unfolding text textBy textOf lampLines run replyLine lastLine verdictWords names
     directoryRight directory standAt parted paired step withDeal withPairs reportFrom settled repair atEnd reportOf confirms sound sizes
     isParty pointAt isTable notSent fit pointsSent hits sent through interpolate zipWith happySet largestIn largest best better joins
     agreements agree mask tabulate add sub mul inv invWithin ones
-texts = (refl, (refl, (refl, (refl, (refl, (refl, (refl, (refl, (refl, (refl, (refl, (refl, (refl, (refl, tt))))))))))))))
+texts = (refl, (refl, (refl, (refl, (refl, (refl, (refl, (refl, (refl, (refl, (refl, (refl, (refl, (refl, (refl, tt)))))))))))))))
 
 -- ---- the example, narrow and wide, meets the premises, all lamps being honest
 pub five : (Q : ℕ → Type 0) → Q 1 → Q 2 → Q 3 → Q 4 → Q 5 → (i : ℕ) → isParty 5 i ≡ true → Q i

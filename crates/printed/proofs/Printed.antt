@@ -1,10 +1,16 @@
 -- What is printed of a record is what demand 3 says of its lamps.
-use mathlib.Core.Path.{_≡_, refl, sym, ap, _∙_}
+--   honest-published   where every honest lamp published, all but t of the n did
+--   printed            the claim
+use mathlib.Core.Path.{_≡_, refl, sym, ap, subst, _∙_}
 use mathlib.Core.Logic.{_⊎_, inl, inr, ⊎-elim}
-use mathlib.Core.Bool.{Bool, true, false}
+use mathlib.Core.Bool.{Bool, true, false, not}
 use mathlib.Core.Option.{Option, none, some, Option·none-ne-some}
 use mathlib.Core.List.{List, [], _++_}
 use Prim.Native.Nat.{ℕ, suc, _+_, _*_, _≤_, _<_}
+use native.Mathlib.Omega.{arith}
+use borrow.Author.Tests.{lt-ltb}
+use lib.Dec.{ltb}
+use Rattle.lists.specs.Choices.{count}
 use Rattle.lists.specs.Options.{orZero}
 use Rattle.lists.proofs.Cases.{true-or-false}
 use Rattle.field.specs.declared.Width.{Width}
@@ -13,8 +19,9 @@ use Rattle.field.proofs.Primes.{prime-of, positive}
 use Rattle.bivariate.proofs.Crossing.{row-poly}
 use Rattle.bivariate.proofs.Terms.{row-at}
 use Rattle.polynomial.specs.Polynomial.{Poly, value}
+use Rattle.polynomial.proofs.Division.{value-lt}
 use Rattle.fit.specs.Opening.{openingOf}
-use Rattle.parties.specs.Parties.{isParty, entry}
+use Rattle.parties.specs.Parties.{isParty, parties, entry}
 use Rattle.parties.proofs.Parties.{party-facts, sizes-facts}
 use Rattle.tables.specs.Tables.{oneTo}
 use Rattle.tables.proofs.Tables.{one-to-point}
@@ -29,16 +36,25 @@ use Rattle.lines.specs.Lines.{verdictWords, verdictLines, lampLine, openedLine}
 use Rattle.transcript.specs.Outcomes.{replyLine, openingLine, lastLine}
 use Rattle.transcript.specs.Transcript.{run, textOf, textBy, text}
 use Rattle.transcript.proofs.Runs.{reports-count, shares-count, plain-table}
-use Rattle.agreement.specs.Setting.{Setting, Legal, point, valueOf, zeroRow}
+use Rattle.agreement.specs.Setting.{Setting, Legal, prime, point, valueOf, zeroRow}
 use Rattle.agreement.specs.Demand3.{Premises, Accepts, Rejects, AllReject, AllAccept, Conclusions}
 use Rattle.agreement.proofs.Geometry.{row-constant}
-use Rattle.agreement.proofs.Openings.{opens-enough, opens-no-other, opens-all}
+use Rattle.agreement.proofs.Counting.{honest-all}
+use Rattle.agreement.proofs.Openings.{opens-enough, opens-no-other}
 use Rattle.agreement.proofs.Agreement.{one-honest}
 use Rattle.agreement.proofs.Plain.{without-tables}
 use Rattle.printed.specs.Direct.{happy, isAcceptedIn}
 use Rattle.printed.specs.Printed.{settingOf, told, story, IsHonest, Faithful, printedLine, textWith}
 use Rattle.printed.specs.Printed.{PublishedOrNot, honestPublished, Rejected, Accepted, PrintedRight, Printed}
 use Rattle.printed.proofs.Direct.{deal-long, pairs-long, says-rejected, says-accepted}
+
+-- Where every honest lamp published, all but t of the n did.
+pub honest-published : (honest : ℕ → Bool) (bytes : List ℕ) → count (λ i. not (honest i)) (parties (nOf bytes)) ≤ tOf bytes
+    → ((j : ℕ) → IsHonest honest bytes j → entry (numbersOf bytes 3) j < prime (settingOf bytes))
+    → nOf bytes ≤ honestPublished honest bytes + tOf bytes
+honest-published honest bytes few sent =
+    honest-all honest (λ j. ltb (entry (numbersOf bytes 3) j) (prime (settingOf bytes))) (nOf bytes) (tOf bytes) few (λ j party good.
+    lt-ltb (entry (numbersOf bytes 3) j) (prime (settingOf bytes)) (sent j (record { party = party; good = good })))
 
 module _ (honest : ℕ → Bool) (bytes : List ℕ) (is : IsRecord bytes) (f : Faithful honest bytes) where
   abbrev w : Width
@@ -156,11 +172,6 @@ module _ (honest : ℕ → Bool) (bytes : List ℕ) (is : IsRecord bytes) (f : F
     unfolding lastLine
     found is = ap openingLine is ∙ ap (openedLine 0) (row-constant s legal F (a .on .poly .size))
 
-    prints-all : ((j : ℕ) → IsHonest honest bytes j → entry shares j ≡ valueOf s F j 0) → lastLine true w n t shares ≡ secretLine
-    prints-all published =
-        found (opens-all s legal honest (f .few) (zeroRow s F) shares row-fine (shares-count bytes w n t fine)
-        (λ j q g. on-row j q ∙ sym (published j (record { party = q; good = g }))))
-
     module _ (published : PublishedOrNot honest bytes F) where
       on-f : (j : ℕ) → isParty n j ≡ true → honest j ≡ true → entry shares j < primeOf w
           → value (primeOf w) (zeroRow s F) (point s j) ≡ entry shares j
@@ -182,6 +193,15 @@ module _ (honest : ℕ → Bool) (bytes : List ℕ) (is : IsRecord bytes) (f : F
           go (some g) e =
               let only = opens-no-other s legal honest (f .few) (zeroRow s F) shares row-fine (shares-count bytes w n t fine) on-f g e in
               inl (found (e ∙ ap some only))
+
+    -- With all honest shares published all but t are there.
+    prints-all : ((j : ℕ) → IsHonest honest bytes j → entry shares j ≡ valueOf s F j 0) → lastLine true w n t shares ≡ secretLine
+    prints-all published =
+        let z = sizes-facts n t (legal .size) in
+        let sent : (j : ℕ) → IsHonest honest bytes j → entry shares j < primeOf w = λ j h.
+        subst (λ v. v < primeOf w) (on-row j (h .party) ∙ sym (published j h))
+        (value-lt (primeOf w) (zeroRow s F) (point s j) (positive w)) in
+        prints-enough (λ j h was-sent. published j h) (omega (arith, honest-published honest bytes (f .few) sent))
 
   accepted : (F : List ℕ) → AllAccept s (story honest bytes) F → Accepted honest bytes F
   unfolding lastLine verdictWords run

@@ -35,7 +35,8 @@ zeros k = drop k (replicate 16 0)
 
 -- The arrays have the lists in front, so what fits is what fits the lists.
 same : (o : tie.After-repaired) →
-    let a = o .before .before .before .before .before .before .before .before .before .before .before .before .before .before .before .args in
+    let told = o .before .before .before .before .before .before .before .before .before in
+    let a = told .before .before .before .before .before .before .args in
     o .repaired .result ≡ repairFit modulus (a .t) (a .xs .now) (a .ys .now)
 same o =
     let values = o .before .before .before .before in

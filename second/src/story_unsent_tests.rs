@@ -9,8 +9,8 @@ use crate::stories_tests::{answers, asked, desk_lines, parties, party, story, F_
 use crate::story_runs::SIXTEEN;
 use crate::story_runs_tests::hear_each_other;
 use crate::story_stations::SIXTEEN_STATIONS;
+use crate::story_unsent::{NINE, WIDE_NINE};
 use crate::story_wide::{SIXTEEN_WIDE_STATIONS, WIDE_SIXTEEN};
-use crate::story_winter::{NINE, WIDE_NINE};
 
 /// What came of the openings of party i.
 fn opened(name: &str, i: usize) -> Vec<Result<u32, u8>> {
@@ -20,7 +20,7 @@ fn opened(name: &str, i: usize) -> Vec<Result<u32, u8>> {
 }
 
 #[test]
-fn parties_in_winter_hear_each_other() {
+fn the_parties_hear_each_other() {
     for name in [
         "winter",
         "winter-liar",
@@ -41,7 +41,7 @@ fn parties_in_winter_hear_each_other() {
 
 /// The run is that of `honest`, up to the opening of what is published.
 #[test]
-fn winter_begins_as_honest() {
+fn unsent_begins_as_honest() {
     assert_eq!(desk_lines("winter"), [F_DEALT]);
     assert_eq!(parties("winter"), [1, 2, 3, 4, 5]);
     for i in 1..=5 {
@@ -55,7 +55,7 @@ fn winter_begins_as_honest() {
 
 /// The third list opens for 3, 4 and 5 alone, whose own share is the third.
 #[test]
-fn the_three_lists_of_winter() {
+fn the_three_lists_of_the_request() {
     let lists = [
         "open 10 13 16 19 22",
         "open 10 13 65535 65535 22",
@@ -85,7 +85,7 @@ fn the_three_lists_of_winter() {
 /// With the own share in its place: who has three true ones and one lie opens;
 /// who has two true ones or two lies does not. Three on another line open that.
 #[test]
-fn winter_with_a_liar() {
+fn unsent_with_a_liar() {
     assert_eq!(parties("winter-liar"), [1, 2, 4, 5]);
     let lists = [
         "open 10 13 999 19 22",
@@ -119,7 +119,7 @@ fn winter_with_a_liar() {
 /// 19 + 28*6 is not 25 + 26*6. Of 51, 77, 103, 129 and 155 party 6 hears three,
 /// then four.
 #[test]
-fn winter_repair_by_the_rule_of_a_column() {
+fn unsent_repair_by_the_rule_of_a_column() {
     let name = "winter-repair";
     assert_eq!(parties(name), [1, 4, 5, 6, 6]);
     for i in [1, 4, 5] {
@@ -163,7 +163,7 @@ struct Most {
     liars: Vec<usize>,
 }
 
-fn most_dark() -> [Most; 4] {
+fn most_unsent() -> [Most; 4] {
     let story = |name, width, points: &[u32], t: usize, coefs: &[u32]| Most {
         name,
         width,
@@ -195,7 +195,7 @@ fn most_dark() -> [Most; 4] {
 /// By the party's place among the honest: below 2t its share is one of those
 /// that are there anyway, from 2t on it is one more.
 #[test]
-fn most_dark_answers() {
+fn most_unsent_answers() {
     for Most {
         name,
         width,
@@ -203,7 +203,7 @@ fn most_dark_answers() {
         t,
         coefs,
         liars,
-    } in most_dark()
+    } in most_unsent()
     {
         let honest: Vec<usize> = (1..=points.len()).filter(|i| !liars.contains(i)).collect();
         assert_eq!(parties(name), honest);
@@ -228,7 +228,7 @@ fn most_dark_answers() {
 
 /// How many are sent, and how many of these are not F(x,0), in each list.
 #[test]
-fn most_dark_lists() {
+fn most_unsent_lists() {
     for Most {
         name,
         width,
@@ -236,7 +236,7 @@ fn most_dark_lists() {
         t,
         coefs,
         ..
-    } in most_dark()
+    } in most_unsent()
     {
         let is_true = |k: usize, y: u32| {
             u64::from(y) == value_of_f(width, &coefs, t, u64::from(points[k]), 0)

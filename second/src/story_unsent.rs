@@ -65,9 +65,9 @@ impl Sharing<'_> {
 
     /// Some publish numbers, all others are dark: of two neighbours one has what
     /// a sender writes and one the prime.
-    fn lit(&self, numbers: &[(usize, u32)]) -> Vec<u32> {
-        let dark = [self.width.not_sent(), self.width.prime() as u32];
-        let mut list: Vec<u32> = (0..self.points.len()).map(|k| dark[k % 2]).collect();
+    fn sent(&self, numbers: &[(usize, u32)]) -> Vec<u32> {
+        let unsent = [self.width.not_sent(), self.width.prime() as u32];
+        let mut list: Vec<u32> = (0..self.points.len()).map(|k| unsent[k % 2]).collect();
         for &(i, number) in numbers {
             list[i - 1] = number;
         }
@@ -115,11 +115,11 @@ fn one_liar(sharing: &Sharing) -> Vec<Call> {
     let [one, two, five] = [1, 2, 5].map(|i| (i, truth[i - 1]));
     let alike = |i: usize| (i, sharing.other(&truth, i, &[1]));
     let lists = [
-        sharing.lit(&[one, two, (3, 999), five]),
-        sharing.lit(&[one, two, (3, 999)]),
-        sharing.lit(&[one, (3, 999), five]),
-        sharing.lit(&[one, (2, 998), (3, 999), five]),
-        sharing.lit(&[one, alike(3), alike(5)]),
+        sharing.sent(&[one, two, (3, 999), five]),
+        sharing.sent(&[one, two, (3, 999)]),
+        sharing.sent(&[one, (3, 999), five]),
+        sharing.sent(&[one, (2, 998), (3, 999), five]),
+        sharing.sent(&[one, alike(3), alike(5)]),
     ];
     sharing.told(&liars, &lists)
 }
@@ -145,7 +145,7 @@ fn drawn(sharing: &Sharing, numbers: &[usize]) -> Vec<Liar> {
 /// then with all liars. Then 2t+1 with all liars and the next party wrong, and
 /// with one liar. Last the liars and the honest party behind the first 2t speak
 /// for another polynomial, which agrees with the shares of the first t.
-fn most_dark(sharing: &Sharing, numbers: &[usize]) -> Vec<Call> {
+fn most_unsent(sharing: &Sharing, numbers: &[usize]) -> Vec<Call> {
     let t = sharing.t;
     let liars = drawn(sharing, numbers);
     let truth = sharing.truth();
@@ -162,13 +162,13 @@ fn most_dark(sharing: &Sharing, numbers: &[usize]) -> Vec<Call> {
     let alike = |i: &usize| (*i, sharing.other(&truth, *i, &honest[..t]));
     let others: Vec<(usize, u32)> = speakers.iter().map(alike).collect();
     let lists = [
-        sharing.lit(few),
-        sharing.lit(enough),
-        sharing.lit(&[few, &lies].concat()),
-        sharing.lit(&[enough, &lies].concat()),
-        sharing.lit(&[enough, &lies, &[wrong]].concat()),
-        sharing.lit(&[enough, &lies[..1]].concat()),
-        sharing.lit(&[few, &others].concat()),
+        sharing.sent(few),
+        sharing.sent(enough),
+        sharing.sent(&[few, &lies].concat()),
+        sharing.sent(&[enough, &lies].concat()),
+        sharing.sent(&[enough, &lies, &[wrong]].concat()),
+        sharing.sent(&[enough, &lies[..1]].concat()),
+        sharing.sent(&[few, &others].concat()),
     ];
     sharing.told(&liars, &lists)
 }
@@ -185,7 +185,7 @@ fn of_five(width: Width, coefs: &[u32], story: fn(&Sharing) -> Vec<Call>) -> Vec
     })
 }
 
-pub fn winter(width: Width) -> Vec<Call> {
+pub fn unsent(width: Width) -> Vec<Call> {
     of_five(width, &F, three_lists)
 }
 
@@ -229,7 +229,7 @@ pub fn sixteen(width: Width) -> Vec<Call> {
         t: 3,
         coefs: &coefs,
     };
-    most_dark(&sharing, &[4, 9, 16])
+    most_unsent(&sharing, &[4, 9, 16])
 }
 
 /// The three lists at the stations of the examples.
@@ -258,5 +258,5 @@ pub fn stations_nine(width: Width) -> Vec<Call> {
         t: 2,
         coefs,
     };
-    most_dark(&sharing, &[4, 9])
+    most_unsent(&sharing, &[4, 9])
 }

@@ -6,7 +6,7 @@ use crate::poly::{interpolate, value};
 
 /// The kinds, each of its own side of a border.
 #[derive(Clone, Copy, PartialEq, Eq, PartialOrd, Ord, Debug)]
-pub enum Dark {
+pub enum Unsent {
     /// Opened, more than t not sent, and all that were sent on one polynomial.
     Opened,
     /// Opened, more than t not sent, and a wrong number among those sent.
@@ -34,16 +34,16 @@ pub fn kind_of(
     t: usize,
     published: &[u32],
     opened: Result<u32, u8>,
-) -> Option<Dark> {
+) -> Option<Unsent> {
     let points = points_of(table, published);
     let sent = sent(width, &points);
-    let many_dark = points.len() - sent > t;
+    let many_unsent = points.len() - sent > t;
     let no_lie = no_lie(width, &points, t);
     match opened {
-        Ok(_) if many_dark && no_lie => Some(Dark::Opened),
-        Ok(_) if many_dark => Some(Dark::ThroughLies),
-        Err(10) if sent == 2 * t && no_lie => Some(Dark::TooFew),
-        Err(10) if sent > 2 * t && many_dark => Some(Dark::Lies),
+        Ok(_) if many_unsent && no_lie => Some(Unsent::Opened),
+        Ok(_) if many_unsent => Some(Unsent::ThroughLies),
+        Err(10) if sent == 2 * t && no_lie => Some(Unsent::TooFew),
+        Err(10) if sent > 2 * t && many_unsent => Some(Unsent::Lies),
         _ => None,
     }
 }

@@ -25,7 +25,7 @@ fn name(width: Width, rest: &str) -> String {
 }
 
 /// What stands for a dark party: what a sender writes, or the prime.
-fn dark(width: Width, k: usize) -> u32 {
+fn unsent(width: Width, k: usize) -> u32 {
     [width.not_sent(), width.prime() as u32][k % 2]
 }
 
@@ -103,7 +103,7 @@ fn with_lies(width: Width, n: usize, t: usize, sent: usize, lies: usize) -> Reco
             if k < lies {
                 *share = width.add((*share).into(), OFF[k]) as u32;
             } else if k >= sent {
-                *share = dark(width, k);
+                *share = unsent(width, k);
             }
         }
     })
@@ -123,7 +123,7 @@ fn alike(width: Width, n: usize, t: usize, agree: usize, sent: usize) -> Record 
             if (t..agree).contains(&k) {
                 *share = width.add((*share).into(), product(i)) as u32;
             } else if k >= sent {
-                *share = dark(width, k);
+                *share = unsent(width, k);
             }
         }
     })
@@ -170,8 +170,9 @@ fn numbers(width: Width) -> Vec<Named> {
         .into_iter()
         .map(|(rest, start)| {
             let record = with(any_of(width, 16, 3), |r| {
-                let dark = (0..16).filter(|k| k % 2 == 0 || *k == 7);
-                dark.zip(start..)
+                let unsent = (0..16).filter(|k| k % 2 == 0 || *k == 7);
+                unsent
+                    .zip(start..)
                     .for_each(|(k, number)| r.shares[k] = number);
             });
             (name(width, &format!("16-3-{rest}")), record)
@@ -185,7 +186,7 @@ fn silent_ones(width: Width) -> Vec<Named> {
     let more = |count: usize| {
         with(silent(width, &[1, 9, 16]), |r| {
             let others = [15, 3, 12, 4, 6, 10, 7].into_iter().take(count);
-            others.for_each(|i| r.shares[i - 1] = dark(width, i));
+            others.for_each(|i| r.shares[i - 1] = unsent(width, i));
         })
     };
     let rejected = following(five(width), |r| part(r, &[(1, 2), (3, 4)]));
@@ -225,7 +226,7 @@ fn repairs(width: Width) -> Vec<Named> {
         let liars: Vec<usize> = (1..=lies).collect();
         let lied_to = lies_to_last(any_of(width, n, t), &liars);
         let record = following(lied_to, |r| {
-            (0..not_sent).for_each(|k| *first(r, n, n - 1 - k) = dark(width, k));
+            (0..not_sent).for_each(|k| *first(r, n, n - 1 - k) = unsent(width, k));
         });
         let rest = format!("repair-{n:02}-{t}-not-sent-{not_sent}-lies-{lies}");
         (name(width, &rest), record)

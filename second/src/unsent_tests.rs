@@ -2,13 +2,13 @@
 //! counting, and the kinds that are counted.
 
 use crate::check_open::open_again;
-use crate::dark::{kind_of, no_lie, Dark};
 use crate::field::Width::{self, Narrow, Wide};
 use crate::fit::{fit, open_all, open_with, points_of, Rule};
 use crate::named::{honest, honest_of, F};
 use crate::party::Party;
 use crate::rng::Rng;
 use crate::stations::{one_to, STATIONS};
+use crate::unsent::{kind_of, no_lie, Unsent};
 
 const WIDTHS: [Width; 2] = [Narrow, Wide];
 
@@ -92,17 +92,17 @@ fn every_size_with_every_count() {
         let coefs: Vec<u32> = (0..(t + 1) * (t + 1)).map(|_| rng.element(width)).collect();
         let shares = honest_of(width, n, t, &coefs).shares;
         for lies in 0..=t {
-            for dark in 0..=n - lies {
+            for unsent in 0..=n - lies {
                 let mut list = shares.clone();
-                for (k, i) in rng.some_of(n, lies + dark).into_iter().enumerate() {
+                for (k, i) in rng.some_of(n, lies + unsent).into_iter().enumerate() {
                     list[i - 1] = match k < lies {
                         true => width.add(list[i - 1].into(), rng.unit(width).into()) as u32,
                         false => rng.not_sent(width),
                     };
                 }
-                let enough = n - lies - dark > 2 * t;
+                let enough = n - lies - unsent > 2 * t;
                 let wanted = if enough { Ok(coefs[0]) } else { Err(10) };
-                assert_eq!(open_all(width, &list, t), wanted, "{n} {t} {lies} {dark}");
+                assert_eq!(open_all(width, &list, t), wanted, "{n} {t} {lies} {unsent}");
             }
         }
     }
@@ -137,15 +137,15 @@ fn the_own_share_is_sent() {
 fn kinds_of_openings() {
     let no = 65_535;
     for (list, kind) in [
-        (vec![10, 13, no, no, 22], Some(Dark::Opened)),
+        (vec![10, 13, no, no, 22], Some(Unsent::Opened)),
         (vec![10, 13, no, 999, 22], None),
-        (vec![10, 13, no, no, no], Some(Dark::TooFew)),
+        (vec![10, 13, no, no, no], Some(Unsent::TooFew)),
         (vec![10, no, no, no, no], None),
-        (vec![10, 13, no, no, 999], Some(Dark::Lies)),
+        (vec![10, 13, no, no, 999], Some(Unsent::Lies)),
         (vec![10, 13, 999, 998, 22], None),
-        (vec![10, 13, no, 19, 999, no], Some(Dark::ThroughLies)),
+        (vec![10, 13, no, 19, 999, no], Some(Unsent::ThroughLies)),
         (vec![10, 13, 998, 19, 999, no], None),
-        (vec![10, 13, 998, 19, 999, no, no], Some(Dark::Lies)),
+        (vec![10, 13, 998, 19, 999, no, no], Some(Unsent::Lies)),
     ] {
         let (table, opened) = (one_to(list.len()), open_all(Narrow, &list, 1));
         assert_eq!(kind_of(Narrow, &table, 1, &list, opened), kind, "{list:?}");

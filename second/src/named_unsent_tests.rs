@@ -4,7 +4,7 @@
 use crate::bench::run;
 use crate::field::Width::{self, Narrow, Wide};
 use crate::fit::{fit, open_all, points_of, Rule};
-use crate::named_dark::all;
+use crate::named_unsent::all;
 use crate::record::{read, write, Record};
 use crate::stations::one_to;
 use std::collections::BTreeMap;
@@ -166,16 +166,16 @@ fn records_of_sixteen() {
         let (p, no) = (width.prime() as u32, width.not_sent());
         let mut met = 0;
         for (name, record, opened) in records(width) {
-            let dark: Vec<u32> = record.shares.iter().copied().filter(|&y| y >= p).collect();
+            let unsent: Vec<u32> = record.shares.iter().copied().filter(|&y| y >= p).collect();
             match name.as_str() {
-                "dark-16-3-first-numbers" => assert_eq!(dark, (p..p + 9).collect::<Vec<u32>>()),
-                "dark-16-3-last-numbers" => assert_eq!(dark, (no - 8..=no).collect::<Vec<u32>>()),
-                "dark-16-3-silent-and-5" => assert_eq!(dark.len(), 8),
-                "dark-16-3-silent-and-6" => assert_eq!(dark.len(), 9),
-                "dark-16-3-silent-and-7" => assert_eq!(dark.len(), 10),
+                "dark-16-3-first-numbers" => assert_eq!(unsent, (p..p + 9).collect::<Vec<u32>>()),
+                "dark-16-3-last-numbers" => assert_eq!(unsent, (no - 8..=no).collect::<Vec<u32>>()),
+                "dark-16-3-silent-and-5" => assert_eq!(unsent.len(), 8),
+                "dark-16-3-silent-and-6" => assert_eq!(unsent.len(), 9),
+                "dark-16-3-silent-and-7" => assert_eq!(unsent.len(), 10),
                 _ => continue,
             }
-            assert_eq!(opened.is_ok(), dark.len() <= 9, "{name}");
+            assert_eq!(opened.is_ok(), unsent.len() <= 9, "{name}");
             met += 1;
         }
         assert_eq!(met, 5);
