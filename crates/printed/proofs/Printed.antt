@@ -3,14 +3,13 @@
 --   printed            the claim
 use mathlib.Core.Path.{_≡_, refl, sym, ap, subst, _∙_}
 use mathlib.Core.Logic.{_⊎_, inl, inr, ⊎-elim}
-use mathlib.Core.Bool.{Bool, true, false, not}
+use mathlib.Core.Bool.{Bool, true, false}
 use mathlib.Core.Option.{Option, none, some, Option·none-ne-some}
 use mathlib.Core.List.{List, [], _++_}
 use Prim.Native.Nat.{ℕ, suc, _+_, _*_, _≤_, _<_}
 use native.Mathlib.Omega.{arith}
 use borrow.Author.Tests.{lt-ltb}
 use lib.Dec.{ltb}
-use Rattle.lists.specs.Choices.{count}
 use Rattle.lists.specs.Options.{orZero}
 use Rattle.lists.proofs.Cases.{true-or-false}
 use Rattle.field.specs.declared.Width.{Width}
@@ -21,7 +20,7 @@ use Rattle.bivariate.proofs.Terms.{row-at}
 use Rattle.polynomial.specs.Polynomial.{Poly, value}
 use Rattle.polynomial.proofs.Division.{value-lt}
 use Rattle.fit.specs.Opening.{openingOf}
-use Rattle.parties.specs.Parties.{isParty, parties, entry}
+use Rattle.parties.specs.Parties.{isParty, entry}
 use Rattle.parties.proofs.Parties.{party-facts, sizes-facts}
 use Rattle.tables.specs.Tables.{oneTo}
 use Rattle.tables.proofs.Tables.{one-to-point}
@@ -47,14 +46,6 @@ use Rattle.printed.specs.Direct.{happy, isAcceptedIn}
 use Rattle.printed.specs.Printed.{settingOf, told, story, IsHonest, Faithful, printedLine, textWith}
 use Rattle.printed.specs.Printed.{PublishedOrNot, honestPublished, Rejected, Accepted, PrintedRight, Printed}
 use Rattle.printed.proofs.Direct.{deal-long, pairs-long, says-rejected, says-accepted}
-
--- Where every honest lamp published, all but t of the n did.
-pub honest-published : (honest : ℕ → Bool) (bytes : List ℕ) → count (λ i. not (honest i)) (parties (nOf bytes)) ≤ tOf bytes
-    → ((j : ℕ) → IsHonest honest bytes j → entry (numbersOf bytes 3) j < prime (settingOf bytes))
-    → nOf bytes ≤ honestPublished honest bytes + tOf bytes
-honest-published honest bytes few sent =
-    honest-all honest (λ j. ltb (entry (numbersOf bytes 3) j) (prime (settingOf bytes))) (nOf bytes) (tOf bytes) few (λ j party good.
-    lt-ltb (entry (numbersOf bytes 3) j) (prime (settingOf bytes)) (sent j (record { party = party; good = good })))
 
 module _ (honest : ℕ → Bool) (bytes : List ℕ) (is : IsRecord bytes) (f : Faithful honest bytes) where
   abbrev w : Width
@@ -154,6 +145,13 @@ module _ (honest : ℕ → Bool) (bytes : List ℕ) (is : IsRecord bytes) (f : F
     lines = λ i h. refused-line i (r i h);
   }
 
+  -- Where every honest lamp published, all but t of the n did.
+  pub honest-published : ((j : ℕ) → IsHonest honest bytes j → entry (numbersOf bytes 3) j < prime (settingOf bytes))
+      → nOf bytes ≤ honestPublished honest bytes + tOf bytes
+  honest-published sent =
+      honest-all honest (λ j. ltb (entry (numbersOf bytes 3) j) (primeOf w)) n t (f .few) (λ j party good.
+      lt-ltb (entry (numbersOf bytes 3) j) (primeOf w) (sent j (record { party = party; good = good })))
+
   -- ---- the opening of what is published, F being the polynomial of all
   module _ (F : List ℕ) (a : AllAccept s (story honest bytes) F) where
     abbrev shares : List ℕ
@@ -201,7 +199,7 @@ module _ (honest : ℕ → Bool) (bytes : List ℕ) (is : IsRecord bytes) (f : F
         let sent : (j : ℕ) → IsHonest honest bytes j → entry shares j < primeOf w = λ j h.
         subst (λ v. v < primeOf w) (on-row j (h .party) ∙ sym (published j h))
         (value-lt (primeOf w) (zeroRow s F) (point s j) (positive w)) in
-        prints-enough (λ j h was-sent. published j h) (omega (arith, honest-published honest bytes (f .few) sent))
+        prints-enough (λ j h was-sent. published j h) (omega (arith, honest-published sent))
 
   accepted : (F : List ℕ) → AllAccept s (story honest bytes) F → Accepted honest bytes F
   unfolding lastLine verdictWords run
