@@ -188,7 +188,7 @@ fn inverse_by_turns(w: Width, a: u32) -> u32
 
 // The inverse of a residue, and 0 of 0. A number that the prime is 1 above a multiple of needs no turn: 65,521 is that of each up to 16 but
 // 11, and 2,147,483,647 of half of them.
-fn inverse_of(w: Width, a: u32) -> u32
+pub fn inverse_of(w: Width, a: u32) -> u32
     requires { ⌜ a < primeOf w ⌝ }
     ensures { λ r. ⌜ (r ≡ inv (primeOf w) a) × (r < primeOf w) ⌝ }
 {
@@ -224,7 +224,7 @@ fn times_run(w: Width, k: u32, x: u32, z: u32) -> u32
 }
 
 // a b − c d.
-fn determinant(w: Width, a: u32, b: u32, c: u32, d: u32) -> u32
+pub fn determinant(w: Width, a: u32, b: u32, c: u32, d: u32) -> u32
     requires { ⌜ (a < primeOf w) × (b < primeOf w) × (c < primeOf w) × (d < primeOf w) ⌝ }
     ensures { λ r. ⌜ (r ≡ sub (primeOf w) (mul (primeOf w) a b) (mul (primeOf w) c d)) × (r < primeOf w) ⌝ }
 {

@@ -1,4 +1,5 @@
 pub mod Below
 pub mod Division
+pub mod Raising
 pub mod Uniqueness
 mod Few
