@@ -1,0 +1,4 @@
+pub mod Mixing
+pub mod Solving
+pub mod Products
+pub mod Locating

@@ -1,0 +1,52 @@
+-- Division by a polynomial E of degree b, whose top coefficient has the inverse i.
+--   plusTimes p R c E     R + c E, as long as E
+--   plusProduct p R F E   R + F E, coefficient by coefficient, for R with b coefficients
+--   lessTimes p r h E     r − h E, as long as r
+--   division p i E n Q    n coefficients of the quotient, and the remainder, of b
+--   exactly p i E n Q     the quotient where nothing remains
+-- Laws: proofs/Products.
+use mathlib.Core.Bool.{Bool, true, _&&_, cond}
+use mathlib.Core.Option.{Option, none, some}
+use mathlib.Core.List.{List, [], _∷_, tail}
+use Prim.Native.Nat.{ℕ, zero, suc, _-_}
+use lib.Dec.{eqb}
+use lib.ListN.{length, getD, take}
+use Rattle.field.specs.Arithmetic.{add, sub, mul}
+
+module _ (p : ℕ) where
+  -- R + c E, as long as E.
+  abbrev pub plusTimes : List ℕ → ℕ → List ℕ → List ℕ
+  plusTimes R c [] = []
+  plusTimes R c (d ∷ E) = add p (getD R 0 0) (mul p c d) ∷ plusTimes (tail R) c E
+
+  -- R + F E: the constant of F with all of E, and the rest of F one place on.
+  abbrev pub plusProduct : List ℕ → List ℕ → List ℕ → List ℕ
+  plusProduct R [] E = R
+  plusProduct R (c ∷ F) E = getD (plusTimes R c E) 0 0 ∷ plusProduct (tail (plusTimes R c E)) F E
+
+  -- r − h E, as long as r.
+  abbrev pub lessTimes : List ℕ → ℕ → List ℕ → List ℕ
+  lessTimes [] h E = []
+  lessTimes (c ∷ r) h E = sub p c (mul p h (getD E 0 0)) ∷ lessTimes r h (tail E)
+
+  -- The next coefficient of the quotient is that by which E takes the top away.
+  abbrev pub leading : ℕ → List ℕ → List ℕ → ℕ
+  leading i E r = mul p i (getD r (length E - 1) 0)
+
+  -- Quotient and remainder.
+  abbrev pub division : ℕ → List ℕ → ℕ → List ℕ → List ℕ × List ℕ
+  division i E zero Q = ([], Q)
+  division i E (suc n) [] = ([], [])
+  division i E (suc n) (c ∷ Q) =
+      let o = division i E n Q in
+      let h = leading i E (c ∷ o .1) in
+      (h ∷ o .0, take (length E - 1) (lessTimes (c ∷ o .1) h E))
+
+-- Nothing but zeros.
+abbrev pub zeros : List ℕ → Bool
+zeros [] = true
+zeros (c ∷ r) = eqb c 0 && zeros r
+
+-- The quotient, if nothing remains.
+unfoldable pub exactly : ℕ → ℕ → List ℕ → ℕ → List ℕ → Option (List ℕ)
+exactly p i E n Q = cond (zeros (division p i E n Q .1)) (some (division p i E n Q .0)) none

@@ -1,0 +1,1 @@
+// Decoding by an error locator (Berlekamp and Welch).
