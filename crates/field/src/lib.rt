@@ -6,7 +6,7 @@ ghost use mathlib.Core.List.{[], _∷_};
 ghost use Prim.Native.Nat.{_%_, _≤_, _<_, _/_, _+_};
 ghost use lib.Dec.{eqb};
 ghost use Rattle.lists.specs.All.{All};
-ghost use Rattle.field.specs.Arithmetic.{add, sub, mul, inv, cubicValue};
+ghost use Rattle.field.specs.Arithmetic.{add, sub, mul, inv, cubicValue, cubicScheme};
 ghost use Rattle.field.specs.Differences.{slope, newton, fromRises, runs};
 ghost use Rattle.field.specs.Modulus.{primeOf, wideModulus, widthNumber, sameWidth};
 
@@ -146,15 +146,18 @@ fn cubic_sum(w: Width, a: u32, b: u32, c: u32, d: u32, x: u32) -> u64
     }
 }
 
-// a + b x + c x² + d x³, by one reduction.
-pub fn cubic_value(w: Width, a: u32, b: u32, c: u32, d: u32, x: u32) -> u32
+// a + b x + c x² + d x³ by one reduction, and behind it the quotient by X − x, three coefficients: Horner's values on the way. Nothing that
+// makes the value waits for them.
+pub fn cubic_divided(w: Width, a: u32, b: u32, c: u32, d: u32, x: u32) -> [u32; 4]
     requires { ⌜ (a < primeOf w) × (b < primeOf w) × (c < primeOf w) × (d < primeOf w) × (x < primeOf w) ⌝ }
-    ensures { λ r. ⌜ (r ≡ cubicValue (primeOf w) a b c d x) × (r < primeOf w) ⌝ }
+    ensures { λ r. ⌜ r ≡ cubicScheme (primeOf w) a b c d x ⌝ }
 {
-    reduced(w, cubic_sum(w, a, b, c, d, x))
+    let middle = mul_add(w, x, d, c);
+    let low = mul_add(w, x, middle, b);
+    [reduced(w, cubic_sum(w, a, b, c, d, x)), low, middle, d]
 }
 
-// Whether that is y, which may be any number.
+// Whether a cubic's value is y, which may be any number.
 pub fn is_cubic_value(w: Width, a: u32, b: u32, c: u32, d: u32, x: u32, y: u32) -> bool
     requires { ⌜ (a < primeOf w) × (b < primeOf w) × (c < primeOf w) × (d < primeOf w) × (x < primeOf w) ⌝ }
     ensures { λ r. ⌜ r ≡ eqb (cubicValue (primeOf w) a b c d x) y ⌝ }
@@ -223,12 +226,13 @@ fn times_run(w: Width, k: u32, x: u32, z: u32) -> u32
     product(w, k, difference(w, z, x))
 }
 
-// a b − c d.
+// a b − c d, by one reduction: what is left of the prime besides c stands for its opposite, and both products fit 64 bits.
 pub fn determinant(w: Width, a: u32, b: u32, c: u32, d: u32) -> u32
     requires { ⌜ (a < primeOf w) × (b < primeOf w) × (c < primeOf w) × (d < primeOf w) ⌝ }
     ensures { λ r. ⌜ (r ≡ sub (primeOf w) (mul (primeOf w) a b) (mul (primeOf w) c d)) × (r < primeOf w) ⌝ }
 {
-    difference(w, product(w, a, b), product(w, c, d))
+    let rest = modulus(w) - c;
+    reduced(w, a as u64 * b as u64 + rest as u64 * d as u64)
 }
 
 // The product of the six runs between four points; 0 also where they are near, and slope by slope is quicker.

@@ -1,6 +1,7 @@
 -- What `fit` answers: why it refuses, and what an admitted call says of the points.
 --   fitted-result   what is answered for what was found by trial
 --   fit-degree, fit-lengths, fit-many, fit-few   the four refusals
+--   tests-..        the same of the tests by themselves; tests-pass: what is admitted passes them, and what passes them is admitted
 --   fit-admitted    an admitted call answers what fits with the need of those sent; fit-least: that need is `least` where few were sent
 --   fit-nothing-iff, fit-found-fits   nothing exactly if nothing fits; what is found fits
 use mathlib.Core.Path.{_≡_, refl, sym, ap, _∙_}
@@ -9,12 +10,15 @@ use mathlib.Core.Option.{Option, none, some}
 use mathlib.Core.List.{List}
 use Prim.Native.Nat.{ℕ, _+_, _*_, _≤_, _<_}
 use native.Mathlib.Omega.{arith}
-use borrow.Author.Tests.{le-leb, lt-leb, eq-eqb, ne-eqb}
+use borrow.Author.Tests.{le-leb, lt-leb, eq-eqb, ne-eqb, leb-true, eqb-true}
 use lib.ListN.{length}
 use Rattle.lists.specs.Tabulate.{pad}
 use Rattle.answers.specs.declared.Refusal.the-variants.{WrongSize, WrongLength}
+use Rattle.answers.specs.declared.Admission.the-variants.{Pass, Fail}
 use Rattle.answers.specs.declared.Decoding.the-variants.{Found, Nothing}
 use Rattle.answers.specs.Fits.{decoded, refusedFit}
+use Rattle.answers.specs.Refusals.{lowest}
+use Rattle.answers.proofs.Tests.{lowest-pass}
 use Rattle.answers.proofs.Fits.{found-is, nothing-is}
 use Rattle.field.specs.Arithmetic.{Prime}
 use Rattle.polynomial.specs.Polynomial.{Points}
@@ -22,7 +26,7 @@ use Rattle.trial.specs.declared.Tried.{Tried}
 use Rattle.trial.specs.Results.{resultOf}
 use Rattle.fit.specs.Fit.{sent, Fits, fit}
 use Rattle.fit.specs.Opening.{needed}
-use Rattle.fit.specs.Admitted.{Admitted, fittedOf, fitIn}
+use Rattle.fit.specs.Admitted.{Admitted, fitTests, fittedOf, fitIn}
 use Rattle.fit.proofs.Decoding.{fit-sound, fit-none-iff}
 
 pub fitted-result : (r : Tried) (o : Option (List ℕ)) → r ≡ resultOf o → fittedOf r ≡ decoded o
@@ -32,25 +36,55 @@ fitted-result r o e = ap fittedOf e ∙ cases o
     cases none = refl
     cases (some f) = refl
 
+-- ---- the tests
+module _ (t least : ℕ) (xs ys : List ℕ) where
+  pub tests-degree : 3 < t → lowest (fitTests t least xs ys) ≡ Fail WrongSize
+  tests-degree h = rw (lt-leb t 3 h)
+
+  module _ (degree : t ≤ 3) where
+    pub tests-lengths : (length xs ≡ length ys → ⊥) → lowest (fitTests t least xs ys) ≡ Fail WrongLength
+    tests-lengths l = rw (le-leb t 3 degree, ne-eqb (length xs) (length ys) l)
+
+    pub tests-many : length xs ≡ length ys → 16 < length xs → lowest (fitTests t least xs ys) ≡ Fail WrongLength
+    tests-many l m = rw (le-leb t 3 degree, eq-eqb (length xs) (length ys) l, lt-leb (length xs) 16 m)
+
+    pub tests-few : length xs ≡ length ys → length xs ≤ 16 → least < 2 * t + 1 → lowest (fitTests t least xs ys) ≡ Fail WrongLength
+    tests-few l m n =
+        rw (le-leb t 3 degree, eq-eqb (length xs) (length ys) l, le-leb (length xs) 16 m, lt-leb (2 * t + 1) least n)
+
+  pub tests-pass : Admitted t least xs ys ↔ (lowest (fitTests t least xs ys) ≡ Pass)
+  tests-pass = (
+    λ a.
+        let lengths = eq-eqb (length xs) (length ys) (a .bounded .lengths) in
+        let most = le-leb (length xs) 16 (a .bounded .most) in
+        rw (le-leb t 3 (a .degree), lengths, most, le-leb (2 * t + 1) least (a .enough)),
+    λ e.
+        let all = lowest-pass (fitTests t least xs ys) e in
+        record {
+          degree = leb-true t 3 (all .0);
+          bounded = record { lengths = eqb-true (length xs) (length ys) (all .1 .0); most = leb-true (length xs) 16 (all .1 .1 .0) };
+          enough = leb-true (2 * t + 1) least (all .1 .1 .1 .0);
+        },
+  )
+
 module _ (p t least : ℕ) (xs ys : List ℕ) where
   -- ---- refused
   pub fit-degree : 3 < t → refusedFit WrongSize ≡ fitIn p t least xs ys
   unfolding fitIn
-  fit-degree h = rw (lt-leb t 3 h)
+  fit-degree h = rw (tests-degree t least xs ys h)
 
   module _ (degree : t ≤ 3) where
     pub fit-lengths : (length xs ≡ length ys → ⊥) → refusedFit WrongLength ≡ fitIn p t least xs ys
     unfolding fitIn
-    fit-lengths l = rw (le-leb t 3 degree, ne-eqb (length xs) (length ys) l)
+    fit-lengths l = rw (tests-lengths t least xs ys degree l)
 
     pub fit-many : length xs ≡ length ys → 16 < length xs → refusedFit WrongLength ≡ fitIn p t least xs ys
     unfolding fitIn
-    fit-many l m = rw (le-leb t 3 degree, eq-eqb (length xs) (length ys) l, lt-leb (length xs) 16 m)
+    fit-many l m = rw (tests-many t least xs ys degree l m)
 
     pub fit-few : length xs ≡ length ys → length xs ≤ 16 → least < 2 * t + 1 → refusedFit WrongLength ≡ fitIn p t least xs ys
     unfolding fitIn
-    fit-few l m n =
-        rw (le-leb t 3 degree, eq-eqb (length xs) (length ys) l, le-leb (length xs) 16 m, lt-leb (2 * t + 1) least n)
+    fit-few l m n = rw (tests-few t least xs ys degree l m n)
 
   -- ---- admitted
   module _ (a : Admitted t least xs ys) where
@@ -59,10 +93,7 @@ module _ (p t least : ℕ) (xs ys : List ℕ) where
 
     pub fit-admitted : fitIn p t least xs ys ≡ decoded (fit p t need xs ys)
     unfolding fitIn
-    fit-admitted =
-        let lengths = eq-eqb (length xs) (length ys) (a .bounded .lengths) in
-        let most = le-leb (length xs) 16 (a .bounded .most) in
-        rw (le-leb t 3 (a .degree), lengths, most, le-leb (2 * t + 1) least (a .enough))
+    fit-admitted = rw (tests-pass t least xs ys .0 a)
 
     -- Where at most t more than `least` were sent, `least` is what must agree.
     pub fit-least : sent p ys ≤ least + t → fitIn p t least xs ys ≡ decoded (fit p t least xs ys)

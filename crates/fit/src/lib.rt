@@ -1,4 +1,6 @@
 // Decoding: the polynomial of degree at most t that agrees with enough of the points.
+mod pairs;
+
 ghost use mathlib.Core.Path.{_≡_};
 ghost use mathlib.Core.Bool.{_&&_};
 ghost use mathlib.Core.Option.{none};
@@ -6,23 +8,25 @@ ghost use Prim.Native.Nat.{_+_, _*_, _≤_, _<_};
 ghost use lib.Dec.{ltb, eqb};
 ghost use lib.ListN.{length, take};
 ghost use Rattle.answers.specs.Fits.{decoded};
+ghost use Rattle.answers.specs.Refusals.{lowest};
 ghost use Rattle.field.specs.Modulus.{primeOf};
 ghost use Rattle.polynomial.specs.Polynomial.{Residues, Points};
 ghost use Rattle.trial.specs.Trial.{pointsOf, pointsSent, fittingThrough, tried};
 ghost use Rattle.trial.specs.Results.{Bounded, resultOf};
 ghost use Rattle.fit.specs.Fit.{sent, fit};
 ghost use Rattle.fit.specs.Opening.{needed};
-ghost use Rattle.fit.specs.Admitted.{Admitted, fittedOf, fitIn};
+ghost use Rattle.fit.specs.Admitted.{Admitted, fitTests, fittedOf, fitIn};
 ghost use Rattle.fit.specs.Grouping.{Behind, Grouping};
-ghost use Rattle.fit.specs.Pairs.{fourAt};
+use answers::Admission;
 use answers::Decoding;
 use answers::Fitted;
 use answers::Refusal;
 use field::Width;
+use pairs::by_pairs;
 use trial::Tried;
 
 // What is answered for what was found by trial.
-fn decoded(tried: Tried) -> Fitted
+pub(crate) fn decoded(tried: Tried) -> Fitted
     ensures { λ r. ⌜ r ≡ fittedOf tried ⌝ }
 {
     let f = tried.coefficients;
@@ -39,7 +43,7 @@ fn decoded(tried: Tried) -> Fitted
 }
 
 // The answer where nothing fits.
-fn nothing() -> Fitted
+pub fn nothing() -> Fitted
     ensures { λ r. ⌜ r ≡ decoded none ⌝ }
 {
     Fitted {
@@ -61,7 +65,7 @@ fn copied(fitted: Fitted) -> Fitted
 }
 
 // How many values were sent, p being the prime. The loop goes from the end: n is always the count of the values from i on.
-fn sent(p: u32, ys: &[u32]) -> usize
+pub fn sent(p: u32, ys: &[u32]) -> usize
     ensures { λ r. ⌜ r ≡ sent p (now (ys .entry)) ⌝ }
 {
     let mut n = 0;
@@ -128,15 +132,16 @@ fn groups(
     decoded(trial::choices(w, xs, ys, need, i, t + 1, wrong))
 }
 
-// The first ten points sent.
-fn first_ten(p: u32, xs: &[u32], ys: &[u32], px: &mut [u32], py: &mut [u32])
-    requires { ⌜ (length (now xs) ≡ length (now ys)) × (10 ≤ length (pointsSent p (now xs) (now ys))) ⌝ }
-    requires { ⌜ (length (now px) ≡ 10) × (length (now py) ≡ 10) ⌝ }
-    ensures { λ r. ⌜ pointsOf (now (px .exit)) (now (py .exit)) ≡ take 10 (pointsSent p (now (xs .entry)) (now (ys .entry))) ⌝ }
+// The first points sent, as many as there is room for.
+pub fn first_sent(p: u32, xs: &[u32], ys: &[u32], px: &mut [u32], py: &mut [u32])
+    requires { ⌜ (length (now xs) ≡ length (now ys)) × (length (now px) ≤ length (pointsSent p (now xs) (now ys))) ⌝ }
+    requires { ⌜ length (now py) ≡ length (now px) ⌝ }
+    ensures { λ r. ⌜ pointsOf (now (px .exit)) (now (py .exit))
+        ≡ take (length (now (px .entry))) (pointsSent p (now (xs .entry)) (now (ys .entry))) ⌝ }
 {
     let mut d = 0;
     let mut i = 0;
-    while d < 10 {
+    while d < px.len() {
         if xs.len() <= i {
             return;
         }
@@ -149,64 +154,6 @@ fn first_ten(p: u32, xs: &[u32], ys: &[u32], px: &mut [u32], py: &mut [u32])
             d += 1;
         }
     }
-}
-
-// The numbers at places a and a + 1, b and b + 1.
-fn four_at(list: &[u32; 10], a: usize, b: usize) -> [u32; 4]
-    requires { ⌜ (a ≤ 8) × (b ≤ 8) ⌝ }
-    ensures { λ r. ⌜ r ≡ fourAt a b (now (list .entry)) ⌝ }
-{
-    [list[a], list[a + 1], list[b], list[b + 1]]
-}
-
-// The polynomial through two of five pairs of points, those at places a and a + 1, b and b + 1, if it agrees with enough of all points.
-fn test_pairs(
-    w: Width,
-    xs: &[u32],
-    ys: &[u32],
-    need: usize,
-    px: &[u32; 10],
-    py: &[u32; 10],
-    a: usize,
-    b: usize,
-) -> Tried
-    requires { ⌜ Bounded (now xs) (now ys) × (a ≤ 8) × (b ≤ 8) ⌝ }
-    requires { ⌜ Residues (primeOf w) (now xs)
-        × Residues (primeOf w) (fourAt a b (now px)) × Residues (primeOf w) (fourAt a b (now py)) ⌝ }
-    ensures { λ r. ⌜ r ≡ resultOf (fittingThrough (primeOf w) need (now (xs .entry)) (now (ys .entry))
-        (fourAt a b (now (px .entry))) (fourAt a b (now (py .entry)))) ⌝ }
-{
-    trial::four(w, xs, ys, need, four_at(px, a, b), four_at(py, a, b))
-}
-
-// Two of five pairs of points, each by the place of its first point: every choice but that of the first two.
-const FIRST_PAIRS: [usize; 9] = [4, 0, 0, 2, 2, 0, 2, 4, 6];
-
-const SECOND_PAIRS: [usize; 9] = [6, 4, 6, 4, 6, 8, 8, 8, 8];
-
-// The search for a cubic where at most one fits, at most three of the points sent are wrong, and one of the first four is. Of five
-// pairs of points two have no wrong point, so ten choices are enough where points one by one would take 35.
-fn by_pairs(w: Width, xs: &[u32], ys: &[u32], need: usize, sent: usize) -> Fitted
-    requires { ⌜ Grouping (primeOf w) 3 need (now xs) (now ys) 0 sent 3 × (10 ≤ sent) ⌝ }
-    ensures { λ r. ⌜ r ≡ decoded (fit (primeOf w) 3 need (now (xs .entry)) (now (ys .entry))) ⌝ }
-{
-    let mut px = [0u32; 10];
-    let mut py = [0u32; 10];
-    first_ten(field::modulus(w), xs, ys, &mut px, &mut py);
-    // A constant would be written to memory anew wherever it is named.
-    let firsts = FIRST_PAIRS;
-    let seconds = SECOND_PAIRS;
-    let mut k = 0;
-    while k < 9 {
-        let a = firsts[k];
-        let b = seconds[k];
-        let tested = test_pairs(w, xs, ys, need, &px, &py, a, b);
-        if tested.found {
-            return decoded(tested);
-        }
-        k += 1;
-    }
-    nothing()
 }
 
 // Whether a cubic is looked for, three of the n points may be wrong, and there are too few for four groups of four.
@@ -239,7 +186,7 @@ fn later(w: Width, t: usize, need: usize, xs: &[u32], ys: &[u32], s: usize) -> F
 }
 
 // How many of s values sent must agree: at least `least`, and all but t.
-fn needed(t: usize, least: usize, s: usize) -> usize
+pub fn needed(t: usize, least: usize, s: usize) -> usize
     ensures { λ r. ⌜ r ≡ needed t least s ⌝ }
 {
     if s <= t {
@@ -283,6 +230,26 @@ fn among_sent(w: Width, t: usize, least: usize, xs: &[u32], ys: &[u32]) -> Fitte
         return decoded(first);
     }
     later(w, t, need, xs, ys, s)
+}
+
+// What decoding is refused for: a degree above 3 as a wrong size; lists of two lengths, more than 16 points, or a `least` below 2t + 1, as
+// a wrong length.
+pub fn admission(t: usize, least: usize, xs: &[u32], ys: &[u32]) -> Admission
+    ensures { λ r. ⌜ r ≡ lowest (fitTests t least (now (xs .entry)) (now (ys .entry))) ⌝ }
+{
+    if 3 < t {
+        return Admission::Fail(Refusal::WrongSize);
+    }
+    if xs.len() != ys.len() {
+        return Admission::Fail(Refusal::WrongLength);
+    }
+    if 16 < xs.len() {
+        return Admission::Fail(Refusal::WrongLength);
+    }
+    if least <= 2 * t {
+        return Admission::Fail(Refusal::WrongLength);
+    }
+    Admission::Pass
 }
 
 // The polynomial of degree at most t with which at least `least` of the points (xs[i], ys[i]) agree, and from which at most t of those

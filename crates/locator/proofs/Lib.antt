@@ -2,3 +2,4 @@ pub mod Mixing
 pub mod Solving
 pub mod Products
 pub mod Locating
+mod Loops

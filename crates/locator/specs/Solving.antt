@@ -4,6 +4,7 @@
 --   off p x y Q E              Q(x) − y E(x)
 --   Solves p xs ys k Q E       that is 0 at the first k points
 --   front l, raised p x l      a list without its last place, which is room; X − x times what stands before the room
+--   Short p l, Roomy p l       at most 11 residues; these, and a last place that is room
 --   mixed p d R g Q            d R − g Q, coefficient by coefficient
 --   Met ..                     what two solutions become with one point more
 --   Solution p n m xs ys k Q E   one solution: Q of n coefficients, E of m
@@ -15,11 +16,22 @@ use mathlib.Core.List.{List, [], _∷_, _++_, tail}
 use Prim.Native.Nat.{ℕ, suc, _+_, _-_, _<_, _≤_}
 use lib.ListN.{length, getD, take, drop}
 use Rattle.field.specs.Arithmetic.{sub, mul}
-use Rattle.polynomial.specs.Polynomial.{Poly, value, raise}
+use Rattle.polynomial.specs.Polynomial.{Poly, Residues, value, raise}
 
 -- The list without its last place.
 abbrev pub front : List ℕ → List ℕ
 front l = take (length l - 1) l
+
+-- Residues, so few that they are evaluated.
+pub record Short (p : ℕ) (l : List ℕ) : Type 0 where
+  pub residues : Residues p l
+  pub most : length l ≤ 11
+
+-- These, and a last place that is room.
+pub record Roomy (p : ℕ) (l : List ℕ) : Type 0 where
+  pub residues : Residues p (front l)
+  pub some : 0 < length l
+  pub most : length l ≤ 12
 
 module _ (p : ℕ) where
   -- Q(x) − y E(x).

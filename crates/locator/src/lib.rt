@@ -1,1 +1,112 @@
-// Decoding by an error locator (Berlekamp and Welch).
+// Decoding by an error locator, after Berlekamp and Welch: a numerator Q and a locator E with Q(x) = y E(x) at each point. Where a
+// polynomial f fits, E is 0 at every wrong point and Q is f E: Q divided by E is f. Nothing is tried.
+ghost use mathlib.Core.Path.{_≡_};
+ghost use mathlib.Core.List.{[], _∷_, _++_};
+ghost use Prim.Native.Nat.{_+_, _*_, _-_, _≤_, _<_};
+ghost use lib.ListN.{length, take, drop, getD};
+ghost use Rattle.field.specs.Modulus.{primeOf};
+ghost use Rattle.polynomial.specs.Polynomial.{Residues, raise};
+ghost use Rattle.locator.specs.Solving.{off, mixed, raised, Short, Roomy, Met};
+use field::Width;
+
+// (X − x) f, in the place of f, whose last place is room.
+fn raise(w: Width, x: u32, f: &mut [u32])
+    requires { ⌜ Residues (primeOf w) (take (length (now f) - 1) (now f)) × (x < primeOf w) × (0 < length (now f)) ⌝ }
+    ensures { λ _. ⌜ now (f .exit) ≡ raised (primeOf w) x (now (f .entry)) ⌝ }
+{
+    let last = f.len() - 1;
+    let mut carried: u32 = 0;
+    let mut i = 0;
+    while i < last {
+        let c = f[i];
+        f[i] = field::mul_sub(w, x, c, carried);
+        carried = c;
+        i += 1;
+    }
+    f[last] = carried;
+}
+
+// d r − g q, in the place of r, which is no shorter.
+fn mix(w: Width, d: u32, r: &mut [u32], g: u32, q: &[u32])
+    requires { ⌜ Residues (primeOf w) (now r) × Residues (primeOf w) (now q) × (d < primeOf w) × (g < primeOf w) ⌝ }
+    ensures { λ _. ⌜ now (r .exit) ≡ mixed (primeOf w) d (now (r .entry)) g (now (q .entry)) ⌝ }
+{
+    let mut i = 0;
+    while i < r.len() {
+        let c = polynomial::coefficient(q, i);
+        r[i] = field::determinant(w, d, r[i], g, c);
+        i += 1;
+    }
+}
+
+// Q(x) − y E(x).
+fn off(w: Width, x: u32, y: u32, q: &[u32], e: &[u32]) -> u32
+    requires { ⌜ Short (primeOf w) (now q) × Short (primeOf w) (now e) × (x < primeOf w) × (y < primeOf w) ⌝ }
+    ensures { λ r. ⌜ (r ≡ off (primeOf w) x y (now (q .entry)) (now (e .entry))) × (r < primeOf w) ⌝ }
+{
+    let numerator = polynomial::divided(w, q, x);
+    let locator = polynomial::divided(w, e, x);
+    field::mul_sub(w, y, locator.value, numerator.value)
+}
+
+// X − x times both polynomials of a solution, each with a place of room.
+fn raise_both(w: Width, x: u32, q: &mut [u32], e: &mut [u32])
+    requires { ⌜ Roomy (primeOf w) (now q) × Roomy (primeOf w) (now e) × (x < primeOf w) ⌝ }
+    ensures { λ _. ⌜ (now (q .exit) ≡ raised (primeOf w) x (now (q .entry))) × (now (e .exit) ≡ raised (primeOf w) x (now (e .entry))) ⌝ }
+{
+    raise(w, x, q);
+    raise(w, x, e);
+}
+
+// As much of the solution (q, e), which is off by d at the point, is taken from (r, f) that this holds there. Nothing is divided: (r, f) is
+// multiplied by d first.
+fn take_away(
+    w: Width,
+    x: u32,
+    y: u32,
+    d: u32,
+    q: &[u32],
+    e: &[u32],
+    r: &mut [u32],
+    f: &mut [u32],
+)
+    requires { ⌜ Short (primeOf w) (now q) × Short (primeOf w) (now e) × Short (primeOf w) (now r) × Short (primeOf w) (now f) ⌝ }
+    requires { ⌜ (x < primeOf w) × (y < primeOf w) × (d < primeOf w) ⌝ }
+    ensures { λ _. ⌜ now (r .exit) ≡ mixed (primeOf w) d (now (r .entry)) (off (primeOf w) x y (now (r .entry)) (now (f .entry))) (now (q .entry)) ⌝ }
+    ensures { λ _. ⌜ now (f .exit) ≡ mixed (primeOf w) d (now (f .entry)) (off (primeOf w) x y (now (r .entry)) (now (f .entry))) (now (e .entry)) ⌝ }
+{
+    let g = off(w, x, y, r, f);
+    mix(w, d, r, g, q);
+    mix(w, d, f, g, e);
+}
+
+// Two solutions, (q, e) and (r, f), each with a place of room, brought up to one more point. Where the first holds there, the second times
+// X − x does too; otherwise the second does less as much of the first, and the first times X − x. Answers whether the first was
+// multiplied by X − x.
+fn meet(
+    w: Width,
+    x: u32,
+    y: u32,
+    q: &mut [u32],
+    e: &mut [u32],
+    r: &mut [u32],
+    f: &mut [u32],
+) -> bool
+    requires { ⌜ Roomy (primeOf w) (now q) × Roomy (primeOf w) (now e) × Roomy (primeOf w) (now r) × Roomy (primeOf w) (now f) ⌝ }
+    requires { ⌜ (x < primeOf w) × (y < primeOf w) ⌝ }
+    ensures { λ m. ⌜ Met (primeOf w) x y (now (q .entry)) (now (e .entry)) (now (r .entry)) (now (f .entry)) m
+        (now (q .exit)) (now (e .exit)) (now (r .exit)) (now (f .exit)) ⌝ }
+{
+    let nq = q.len() - 1;
+    let ne = e.len() - 1;
+    let d = off(w, x, y, &q[..nq], &e[..ne]);
+    if d == 0 {
+        raise_both(w, x, r, f);
+        return false;
+    }
+    let nr = r.len() - 1;
+    let nf = f.len() - 1;
+    take_away(w, x, y, d, &q[..nq], &e[..ne], &mut r[..nr], &mut f[..nf]);
+    raise_both(w, x, q, e);
+    true
+}

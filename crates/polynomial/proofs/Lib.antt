@@ -1,5 +1,6 @@
 pub mod Below
 pub mod Division
 pub mod Raising
+pub mod Schemes
 pub mod Uniqueness
-mod Few
+pub mod Few

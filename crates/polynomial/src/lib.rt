@@ -3,8 +3,14 @@ ghost use mathlib.Core.Path.{_≡_};
 ghost use Prim.Native.Nat.{_≤_, _<_};
 ghost use lib.ListN.{length, getD};
 ghost use Rattle.field.specs.Modulus.{primeOf};
-ghost use Rattle.polynomial.specs.Polynomial.{Residues, residues, value};
+ghost use Rattle.polynomial.specs.Polynomial.{Residues, residues, schemeOf};
 use field::Width;
+
+// Horner's scheme of a polynomial at a point x: its value there, and its quotient by X − x with 0 behind the coefficients.
+pub struct Scheme {
+    pub value: u32,
+    pub quotient: [u32; 11],
+}
 
 // Whether every number of the list is below p.
 fn all_below(p: u32, list: &[u32]) -> bool
@@ -28,7 +34,7 @@ pub fn residues(w: Width, list: &[u32]) -> bool
 }
 
 // The coefficient at a place, 0 behind the last.
-fn coefficient(f: &[u32], k: usize) -> u32
+pub fn coefficient(f: &[u32], k: usize) -> u32
     ensures { λ r. ⌜ r ≡ getD (now (f .entry)) k 0 ⌝ }
 {
     if f.len() <= k {
@@ -37,17 +43,47 @@ fn coefficient(f: &[u32], k: usize) -> u32
     f[k]
 }
 
-// The value of f at x. Rows and columns have at most four coefficients: their value needs no loop, and one reduction.
-pub fn value(w: Width, f: &[u32], x: u32) -> u32
-    requires { ⌜ Residues (primeOf w) (now f) × (x < primeOf w) × (length (now f) ≤ 4) ⌝ }
-    ensures { λ r. ⌜ (r ≡ value (primeOf w) (now (f .entry)) x) × (r < primeOf w) ⌝ }
+// Longer ones, by Horner's rule from the last coefficient on: the value of those behind a place is the quotient's coefficient there.
+fn divided_by_turns(w: Width, f: &[u32], x: u32) -> Scheme
+    requires { ⌜ Residues (primeOf w) (now f) × (x < primeOf w) × (0 < length (now f)) × (length (now f) ≤ 11) ⌝ }
+    ensures { λ r. ⌜ r ≡ schemeOf (primeOf w) (now (f .entry)) x ⌝ }
 {
-    field::cubic_value(
+    let mut quotient = [0u32; 11];
+    let mut i = f.len() - 1;
+    let mut value = f[i];
+    while 0 < i {
+        i -= 1;
+        quotient[i] = value;
+        value = field::mul_add(w, x, value, f[i]);
+    }
+    Scheme { value, quotient }
+}
+
+// f divided by X − x: the value at x, which is the remainder, and the quotient. Rows and columns have at most four coefficients: these need
+// no loop, and their value one reduction, that of two a quicker one. Where a caller takes the value alone, a compiler leaves out the rest.
+pub fn divided(w: Width, f: &[u32], x: u32) -> Scheme
+    requires { ⌜ Residues (primeOf w) (now f) × (x < primeOf w) × (length (now f) ≤ 11) ⌝ }
+    ensures { λ r. ⌜ (r ≡ schemeOf (primeOf w) (now (f .entry)) x) × (r .value < primeOf w) ⌝ }
+{
+    if 4 < f.len() {
+        return divided_by_turns(w, f, x);
+    }
+    if f.len() == 2 {
+        return Scheme {
+            value: field::mul_add(w, x, f[1], f[0]),
+            quotient: [f[1], 0, 0, 0, 0, 0, 0, 0, 0, 0, 0],
+        };
+    }
+    let g = field::cubic_divided(
         w,
         coefficient(f, 0),
         coefficient(f, 1),
         coefficient(f, 2),
         coefficient(f, 3),
         x,
-    )
+    );
+    Scheme {
+        value: g[0],
+        quotient: [g[1], g[2], g[3], 0, 0, 0, 0, 0, 0, 0, 0],
+    }
 }

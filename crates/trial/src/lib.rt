@@ -56,7 +56,7 @@ fn copied(f: Tried) -> Tried
 
 // Whether at least `need` of the points agree with a + b X + c X² + d X³. The loop goes from the end, and stops as soon as too many
 // have differed: with a wrong polynomial that is soon.
-fn enough(w: Width, a: u32, b: u32, c: u32, d: u32, xs: &[u32], ys: &[u32], need: usize) -> bool
+pub fn enough(w: Width, a: u32, b: u32, c: u32, d: u32, xs: &[u32], ys: &[u32], need: usize) -> bool
     requires { ⌜ length (now xs) ≡ length (now ys) ⌝ }
     requires { ⌜ (a < primeOf w) × (b < primeOf w) × (c < primeOf w) × (d < primeOf w) × Residues (primeOf w) (now xs) ⌝ }
     ensures { λ r. ⌜ r ≡ leb need (hits (primeOf w) (a ∷ b ∷ c ∷ d ∷ []) (now (xs .entry)) (now (ys .entry))) ⌝ }

@@ -1,14 +1,15 @@
--- `fit::first_ten` meets its contract. The loop keeps `Gathering`; the places that are left become fewer with each turn.
+-- `fit::first_sent` meets its contract. The loop keeps `Gathering`; the places that are left become fewer with each turn.
+use mathlib.Core.Path.{refl}
 use Prim.Native.Nat.{_-_}
 use native.Mathlib.Omega.{arith}
 use borrow.Author.Needs.{needs}
 use lib.ListN.{length}
-use Rattle.fit.proofs.Pairs.{Gathering, gathering-start, gathering-short, gathering-done, gathering-sent, gathering-unsent}
-use Rattle.fit.proofs.first_ten.Statement.{statement}
-use Rattle.fit.proofs.first_ten.Tie as tie
+use Rattle.fit.proofs.Gathering.{Gathering, gathering-start, gathering-short, gathering-done, gathering-sent, gathering-unsent}
+use Rattle.fit.proofs.first_sent.Statement.{statement}
+use Rattle.fit.proofs.first_sent.Tie as tie
 
 abbrev Inv-loop : tie.InvT-loop
-Inv-loop p xs ys px₀ py₀ d₀ i₀ px py d i = Gathering p xs ys px py d i
+Inv-loop p xs ys px₀ py₀ d₀ i₀ px py d i = Gathering p (length px₀) xs ys px py d i
 
 abbrev μ-loop : tie.MeasureT-loop
 μ-loop p xs ys px₀ py₀ d₀ i₀ px py d i = length xs - i
@@ -18,7 +19,7 @@ abbrev turn : tie.After-shared-slice-known2 Inv-loop μ-loop → tie.At-loop Inv
 turn read = read .before .before .before .before
 
 loop-holds : tie.Need-loop-holds Inv-loop μ-loop
-loop-holds c = gathering-start _ _ _ _ _ (c .pre .1 .0) (c .pre .1 .1)
+loop-holds c = gathering-start _ _ _ _ _ _ refl (c .pre .1)
 
 same-length : tie.Need-same-length Inv-loop μ-loop
 same-length c = omega (arith, c .before .before .loop .inv .width-x)
@@ -29,7 +30,7 @@ same-length-2 c = omega (arith, c .before .before .loop .inv .width-y)
 returns : tie.Need-returns Inv-loop μ-loop
 returns c =
     let k = c .before .before .loop in
-    absurd (gathering-short _ _ _ _ _ (k .d) (k .i) (k .inv) (c .before .before .before .pre .0 .1) (omega arith) (c .if1 .taken))
+    absurd (gathering-short _ _ _ _ _ _ (k .d) (k .i) (k .inv) (c .before .before .before .pre .0 .1) (omega arith) (c .if1 .taken))
 
 mul-x : tie.Need-mul-x Inv-loop μ-loop
 mul-x c = search needs
@@ -67,7 +68,7 @@ loop-less c = search needs
 loop-again : tie.Need-loop-again Inv-loop μ-loop
 loop-again c =
     let k = turn (c .before) .loop in
-    gathering-sent _ _ _ _ _ (k .d) (k .i) (k .inv) (omega arith) (omega arith) (omega arith) (c .if2 .taken)
+    gathering-sent _ _ _ _ _ _ (k .d) (k .i) (k .inv) (omega arith) (omega arith) (omega arith) (c .if2 .taken)
 
 loop-less-2 : tie.Need-loop-less-2 Inv-loop μ-loop
 loop-less-2 c = search needs
@@ -75,7 +76,7 @@ loop-less-2 c = search needs
 loop-again-2 : tie.Need-loop-again-2 Inv-loop μ-loop
 loop-again-2 c =
     let k = turn (c .before) .loop in
-    gathering-unsent _ _ _ _ _ (k .d) (k .i) (k .inv) (omega arith) (omega arith) (c .if2 .left)
+    gathering-unsent _ _ _ _ _ _ (k .d) (k .i) (k .inv) (omega arith) (omega arith) (c .if2 .left)
 
 same-length-3 : tie.Need-same-length-3 Inv-loop μ-loop
 same-length-3 c = omega (arith, c .before .loop .inv .width-x)
@@ -86,10 +87,10 @@ same-length-4 c = omega (arith, c .before .loop .inv .width-y)
 returns-2 : tie.Need-returns-2 Inv-loop μ-loop
 returns-2 c =
     let k = c .before .loop in
-    gathering-done _ _ _ _ _ (k .d) (k .i) (k .inv) (omega arith)
+    gathering-done _ _ _ _ _ _ (k .d) (k .i) (k .inv) (omega arith)
 
-pub first-ten-spec : {M : Type 1} → statement M
-first-ten-spec =
+pub first-sent-spec : {M : Type 1} → statement M
+first-sent-spec =
     tie.close
     (tie.spec
     Inv-loop

@@ -1,4 +1,4 @@
--- `fit::by_pairs` meets its contract. The loop keeps `Trying`; each answer is one law of proofs/Pairs.
+-- `fit::pairs::by_pairs` meets its contract. The loop keeps `Trying`; each answer is one law of proofs/FivePairs.
 use mathlib.Core.Path.{ap, _∙_}
 use Prim.Native.Nat.{_-_}
 use native.Mathlib.Omega.{arith}
@@ -8,9 +8,9 @@ use Rattle.field.specs.Arithmetic.{Prime}
 use Rattle.field.specs.Modulus.{primeOf}
 use Rattle.field.proofs.Primes.{prime-of}
 use Rattle.trial.specs.Trial.{pointsSent}
-use Rattle.fit.proofs.Pairs.{Trying, apart, trying-start, trying-next, trying-end, four-residues, pairs-found}
-use Rattle.fit.proofs.by_pairs.Statement.{statement}
-use Rattle.fit.proofs.by_pairs.Tie as tie
+use Rattle.fit.proofs.FivePairs.{Trying, apart, trying-start, trying-next, trying-end, four-residues, pairs-found}
+use Rattle.fit.proofs.pairs.by_pairs.Statement.{statement}
+use Rattle.fit.proofs.pairs.by_pairs.Tie as tie
 
 abbrev Inv-loop : tie.InvT-loop
 Inv-loop w xs ys need sent px py firsts seconds k₀ k = Trying (primeOf w) need xs ys px py k
@@ -22,38 +22,38 @@ abbrev μ-loop : tie.MeasureT-loop
 abbrev turn : tie.After-test-pairs Inv-loop μ-loop → tie.At-loop Inv-loop μ-loop
 turn tested = tested .before .before .before .before
 
-abbrev gathered : tie.At-loop Inv-loop μ-loop → tie.After-first-ten Inv-loop μ-loop
+abbrev gathered : tie.At-loop Inv-loop μ-loop → tie.After-first-sent Inv-loop μ-loop
 gathered k = k .before .before .before
 
-abbrev start : tie.After-first-ten Inv-loop μ-loop → tie.Start Inv-loop μ-loop
+abbrev start : tie.After-first-sent Inv-loop μ-loop → tie.Start Inv-loop μ-loop
 start ten = ten .before .before .before .before .before .before
 
 -- The modulus is a prime.
-abbrev prime-at : (ten : tie.After-first-ten Inv-loop μ-loop) → Prime (primeOf (start ten .args .w))
+abbrev prime-at : (ten : tie.After-first-sent Inv-loop μ-loop) → Prime (primeOf (start ten .args .w))
 prime-at ten = prime-of (start ten .args .w)
 
 modulus-requires : tie.Need-modulus-requires Inv-loop μ-loop
 modulus-requires c κs = search needs
 
-slice-aggregate-first-ten : tie.Need-slice-aggregate-first-ten Inv-loop μ-loop
-slice-aggregate-first-ten c = search needs
+slice-aggregate-first-sent : tie.Need-slice-aggregate-first-sent Inv-loop μ-loop
+slice-aggregate-first-sent c = search needs
 
-slice-aggregate-first-ten-2 : tie.Need-slice-aggregate-first-ten-2 Inv-loop μ-loop
-slice-aggregate-first-ten-2 c = search needs
+slice-aggregate-first-sent-2 : tie.Need-slice-aggregate-first-sent-2 Inv-loop μ-loop
+slice-aggregate-first-sent-2 c = search needs
 
-first-ten-requires : tie.Need-first-ten-requires Inv-loop μ-loop
-first-ten-requires c κs =
+first-sent-requires : tie.Need-first-sent-requires Inv-loop μ-loop
+first-sent-requires c κs =
     let called = c .before .before in
     let s = called .before .before .before in
     let same = ap (λ q. length (pointsSent q (s .args .xs .now) (s .args .ys .now))) (called .modulus .ensures) in
-    ((s .pre .0 .bounded .lengths, omega (arith, same, s .pre .0 .size, s .pre .1)), (omega arith, omega arith))
+    ((s .pre .0 .bounded .lengths, omega (arith, same, s .pre .0 .size, s .pre .1)), omega arith)
 
 loop-holds : tie.Need-loop-holds Inv-loop μ-loop
 loop-holds c =
     let ten = c .before .before in
     let s = start ten in
     trying-start _ (prime-at ten) _ _ _ _ _ (s .args .sent) (s .pre .0) (s .pre .1) (omega arith) (omega arith)
-    (ten .first-ten .ensures
+    (ten .first-sent .ensures
     ∙ ap (λ q. take 10 (pointsSent q (s .args .xs .now) (s .args .ys .now))) (ten .before .before .before .modulus .ensures))
 
 mul-a : tie.Need-mul-a Inv-loop μ-loop
@@ -74,8 +74,8 @@ test-pairs-requires c κs =
     let ten = gathered k in
     let s = start ten in
     let far = apart (k .loop .k) (omega arith) in
-    let px = ten .first-ten .last .1 .1 .1 .0 in
-    let py = ten .first-ten .last .1 .1 .1 .1 .0 in
+    let px = ten .first-sent .last .1 .1 .1 .0 in
+    let py = ten .first-sent .last .1 .1 .1 .1 .0 in
     let four = four-residues _ (prime-at ten) _ _ _ px py (s .args .sent) (s .pre .0) (s .pre .1) (omega arith) (omega arith)
     (k .loop .inv .ten) _ _ (far .0) (far .1) in
     ((s .pre .0 .bounded, omega (arith, far .0, far .1), far .1), (s .pre .0 .points .0, four .0, four .1))
@@ -90,8 +90,8 @@ returns c =
     let ten = gathered (turn tested) in
     let s = start ten in
     let far = apart (k .k) (omega arith) in
-    let px = ten .first-ten .last .1 .1 .1 .0 in
-    let py = ten .first-ten .last .1 .1 .1 .1 .0 in
+    let px = ten .first-sent .last .1 .1 .1 .0 in
+    let py = ten .first-sent .last .1 .1 .1 .1 .0 in
     c .decoded .ensures
     ∙ pairs-found _ (prime-at ten) _ _ _ px py (s .args .sent) (s .pre .0) (s .pre .1) (omega arith) (omega arith) (k .inv .ten) _ _
     (far .0) (far .1) _ (tested .test-pairs .ensures) (c .before .if1 .taken)
@@ -130,9 +130,9 @@ by-pairs-spec =
     Inv-loop
     μ-loop
     modulus-requires
-    slice-aggregate-first-ten
-    slice-aggregate-first-ten-2
-    first-ten-requires
+    slice-aggregate-first-sent
+    slice-aggregate-first-sent-2
+    first-sent-requires
     loop-holds
     mul-a
     array-read-a

@@ -1,0 +1,30 @@
+-- `locator::off` meets its contract: two values, and their difference.
+use borrow.Author.Needs.{needs}
+use mathlib.Core.Path.{ap, ap₂, _∙_}
+use Prim.Native.Nat.{ℕ}
+use Rattle.field.specs.Arithmetic.{sub, mul}
+use Rattle.field.specs.Modulus.{primeOf}
+use Rattle.polynomial.specs.declared.Scheme.{Scheme}
+use borrow.Author.Needs.{needs}
+use Rattle.locator.proofs.off.Statement.{statement}
+use Rattle.locator.proofs.off.Tie as tie
+
+divided-requires : tie.Need-divided-requires
+divided-requires c κs = search needs
+
+divided-requires-2 : tie.Need-divided-requires-2
+divided-requires-2 c κs = search needs
+
+mul-sub-requires : tie.Need-mul-sub-requires
+mul-sub-requires c κs = search needs
+
+returns : tie.Need-returns
+returns c =
+    let s = c .before .before .before .before .before .args in
+    let p = primeOf (s .w) in
+    let q = ap (λ (v : Scheme). v .value) (c .before .before .divided .ensures .0) in
+    let e = ap (λ (v : Scheme). v .value) (c .before .divided2 .ensures .0) in
+    (c .mul-sub .ensures .0 ∙ ap₂ (λ (a b : ℕ). sub p a (mul p (s .y) b)) q e, c .mul-sub .ensures .1)
+
+pub off-spec : {M : Type 1} → statement M
+off-spec = tie.close (tie.spec divided-requires divided-requires-2 mul-sub-requires returns)
