@@ -3,3 +3,4 @@ pub mod Solving
 pub mod Products
 pub mod Locating
 mod Loops
+mod Stepping

@@ -9,6 +9,7 @@
 --   Met ..                     what two solutions become with one point more
 --   Solution p n m xs ys k Q E   one solution: Q of n coefficients, E of m
 --   Pair p t xs ys k a b ..      both
+--   Solving p t xs ys k a ..     both in front of four lists
 -- Laws: proofs/Mixing, proofs/Solving, proofs/Locating.
 use mathlib.Core.Path.{_≡_}
 use mathlib.Core.Bool.{Bool, true, false}
@@ -86,3 +87,11 @@ module _ (p : ℕ) where
     pub two : Solution (suc (b + t)) (suc b) xs ys k Q2 E2
     pub top-one : getD Q1 a 0 ≡ 0 → ⊥
     pub top-two : getD E2 b 0 ≡ 0 → ⊥
+
+  -- The same in front of four lists, two of 12 numbers for the numerators and two of 8 for the locators.
+  pub record Solving (t : ℕ) (xs ys : List ℕ) (k a : ℕ) (q1 e1 q2 e2 : List ℕ) : Type 0 where
+    pub room-q1 : length q1 ≡ 12
+    pub room-e1 : length e1 ≡ 8
+    pub room-q2 : length q2 ≡ 12
+    pub room-e2 : length e2 ≡ 8
+    pub pair : Pair t xs ys k a (k - a) (take (suc a) q1) (take (a - t) e1) (take (suc (k - a + t)) q2) (take (suc (k - a)) e2)

@@ -6,7 +6,7 @@ ghost use Prim.Native.Nat.{_+_, _*_, _-_, _≤_, _<_};
 ghost use lib.ListN.{length, take, drop, getD};
 ghost use Rattle.field.specs.Modulus.{primeOf};
 ghost use Rattle.polynomial.specs.Polynomial.{Residues, raise};
-ghost use Rattle.locator.specs.Solving.{off, mixed, raised, Short, Roomy, Met};
+ghost use Rattle.locator.specs.Solving.{off, mixed, raised, Short, Roomy, Met, Solving};
 use field::Width;
 
 // (X − x) f, in the place of f, whose last place is room.
@@ -109,4 +109,38 @@ fn meet(
     take_away(w, x, y, d, &q[..nq], &e[..ne], &mut r[..nr], &mut f[..nf]);
     raise_both(w, x, q, e);
     true
+}
+
+// Both solutions, the first of degree a, brought up to the point at place k: the one with the lower degree is taken from the other, which
+// so keeps its own. Answers the first solution's degree.
+fn step(
+    w: Width,
+    t: usize,
+    k: usize,
+    a: usize,
+    xs: &[u32],
+    ys: &[u32],
+    q1: &mut [u32],
+    e1: &mut [u32],
+    q2: &mut [u32],
+    e2: &mut [u32],
+) -> usize
+    requires { ⌜ (t ≤ 3) × (k ≤ t + 6) × (k < length (now xs)) × (k < length (now ys)) × Residues (primeOf w) (now xs) × Residues (primeOf w) (now ys) ⌝ }
+    requires { ⌜ Solving (primeOf w) t (now xs) (now ys) k a (now q1) (now e1) (now q2) (now e2) ⌝ }
+    ensures { λ r. ⌜ Solving (primeOf w) t (now (xs .entry)) (now (ys .entry)) (k + 1) r
+        (now (q1 .exit)) (now (e1 .exit)) (now (q2 .exit)) (now (e2 .exit)) ⌝ }
+{
+    let b = k - a;
+    let x = xs[k];
+    let y = ys[k];
+    if a <= b + t {
+        if meet(w, x, y, &mut q1[..a + 2], &mut e1[..a - t + 1], &mut q2[..b + t + 2], &mut e2[..b + 2]) {
+            return a + 1;
+        }
+        return a;
+    }
+    if meet(w, x, y, &mut q2[..b + t + 2], &mut e2[..b + 2], &mut q1[..a + 2], &mut e1[..a - t + 1]) {
+        return a;
+    }
+    a + 1
 }
