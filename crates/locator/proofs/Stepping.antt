@@ -3,33 +3,16 @@
 --   first-lower, second-lower   both solutions with one point more, the first or the second being the lower
 use mathlib.Core.Path.{_≡_, refl, sym, ap, subst, _∙_}
 use mathlib.Core.Bool.{Bool, true, false, cond}
-use mathlib.Core.List.{List, [], _∷_, _++_, append-assoc, append-nil}
-use Prim.Native.Nat.{ℕ, zero, suc, _+_, _-_, _<_, _≤_}
+use mathlib.Core.List.{List, _∷_, _++_}
+use Prim.Native.Nat.{ℕ, suc, _+_, _-_, _<_, _≤_}
 use native.Mathlib.Omega.{arith}
-use lib.ListN.{length, getD, take, drop, length-append, length-drop, take-append-drop}
-use lib.Seq.{length-take-le, take-at}
-use Rattle.lists.proofs.Sublists.{take-take}
+use lib.ListN.{length, getD, take, drop}
+use lib.Seq.{length-take-le}
 use Rattle.field.specs.Arithmetic.{Prime}
 use Rattle.polynomial.specs.Polynomial.{Poly, Residues, raise}
-use Rattle.polynomial.proofs.Raising.{length-raise}
-use Rattle.locator.specs.Solving.{front, Roomy, off, mixed, raised, Kept, Mixed, Met, Pair, Solving}
-use Rattle.locator.proofs.Mixing.{length-mixed}
+use Rattle.locator.specs.Solving.{front, Roomy, off, mixed, raised, Met, Pair, Solving}
+use Rattle.locator.proofs.Parts.{front-part, back-size, raised-front, kept-front, mixed-front}
 use Rattle.locator.proofs.Solving.{first-holds, second-holds, first-mixed, second-mixed}
-
--- ---- parts
-pub front-part : (n : ℕ) (l : List ℕ) → suc n ≤ length l → front (take (suc n) l) ≡ take n l
-front-part n l h =
-    let size : length (take (suc n) l) - 1 ≡ n = omega (arith, length-take-le (suc n) l h) in
-    let one : n + 1 ≡ suc n = omega arith in
-    ap (λ i. take i (take (suc n) l)) size ∙ ap (λ i. take n (take i l)) (sym one) ∙ take-take n 1 l
-
--- What stands in front of a part that comes back stands in front of the list.
-back-in-front : (n k : ℕ) (l part front : List ℕ) (rest : List ℕ) → part ≡ front ++ rest → length front ≡ k → take k (part ++ drop n l) ≡ front
-back-in-front n k l part front rest e size =
-    ap (λ z. take k (z ++ drop n l)) e ∙ ap (take k) (append-assoc front rest (drop n l)) ∙ take-at front (rest ++ drop n l) k size
-
-back-size : (n : ℕ) (l part : List ℕ) → n ≤ length l → length part ≡ n → length (part ++ drop n l) ≡ length l
-back-size n l part h size = length-append part (drop n l) ∙ omega (arith, length-drop n l)
 
 same-pair : (p t : ℕ) (xs ys : List ℕ) (k a b : ℕ) (Q1 E1 Q2 E2 Q1' E1' Q2' E2' : List ℕ) → Q1' ≡ Q1 → E1' ≡ E1 → Q2' ≡ Q2 → E2' ≡ E2
     → Pair p t xs ys k a b Q1 E1 Q2 E2 → Pair p t xs ys k a b Q1' E1' Q2' E2'
@@ -103,39 +86,6 @@ module _ (p : ℕ) (P : Prime p) (t : ℕ) (xs ys : List ℕ) (points : Residues
   front-e2 : front (take (suc (suc b)) e2) ≡ take (suc b) e2
   front-e2 = front-part (suc b) e2 (omega (arith, s .room-e2, sum, least))
 
-  -- ---- what comes back
-  -- X − x times what stood before the room.
-  raised-front : (n : ℕ) (l part : List ℕ) → Poly p n (take n l) → front (take (suc n) l) ≡ take n l → part ≡ raised p x (take (suc n) l)
-      → (take (suc n) (part ++ drop (suc n) l) ≡ raise p x (0 ∷ take n l)) × (length part ≡ suc n)
-  raised-front n l part h f e =
-      let is : part ≡ raise p x (0 ∷ take n l) = e ∙ ap (λ z. raise p x (0 ∷ z)) f in
-      let size : length (raise p x (0 ∷ take n l)) ≡ suc n = length-raise p x (0 ∷ take n l) ∙ ap suc (h .size) in
-      (
-        back-in-front (suc n) (suc n) l part (raise p x (0 ∷ take n l)) []
-            (is ∙ sym (append-nil (raise p x (0 ∷ take n l)))) size,
-        ap length is ∙ size,
-      )
-
-  -- The part as it was.
-  kept-front : (n : ℕ) (l part : List ℕ) → suc n ≤ length l → part ≡ take (suc n) l
-      → (part ++ drop (suc n) l ≡ l) × (length part ≡ suc n)
-  kept-front n l part h e =
-      (ap (λ z. z ++ drop (suc n) l) e ∙ take-append-drop (suc n) l, ap length e ∙ length-take-le (suc n) l h)
-
-  -- Mixed with another, and the room behind it.
-  mixed-front : (n : ℕ) (l part : List ℕ) (d g : ℕ) (m : List ℕ) → Poly p n (take n l) → suc n ≤ length l → front (take (suc n) l) ≡ take n l
-      → part ≡ mixed p d (front (take (suc n) l)) g m ++ drop (length (take (suc n) l) - 1) (take (suc n) l)
-      → (take n (part ++ drop (suc n) l) ≡ mixed p d (take n l) g m) × (length part ≡ suc n)
-  mixed-front n l part d g m h inside f e =
-      let rest : List ℕ = drop (length (take (suc n) l) - 1) (take (suc n) l) in
-      let is : part ≡ mixed p d (take n l) g m ++ rest = e ∙ ap (λ z. mixed p d z g m ++ rest) f in
-      let size : length (mixed p d (take n l) g m) ≡ n = length-mixed p d (take n l) g m ∙ h .size in
-      let all : length (take (suc n) l) ≡ suc n = length-take-le (suc n) l inside in
-      (
-        back-in-front (suc n) n l part (mixed p d (take n l) g m) rest is size,
-        ap length is ∙ length-append (mixed p d (take n l) g m) rest ∙ omega (arith, length-drop (length (take (suc n) l) - 1) (take (suc n) l)),
-      )
-
   -- ---- both with one point more
   build : (a' b' : ℕ) (q1' e1' q2' e2' : List ℕ) → suc k ≡ a' + b' → length q1' ≡ 12 → length e1' ≡ 8 → length q2' ≡ 12 → length e2' ≡ 8
       → Pair p t xs ys (suc k) a' b' (take (suc a') q1') (take (a' - t) e1') (take (suc (b' + t)) q2') (take (suc b') e2')
@@ -169,8 +119,8 @@ module _ (p : ℕ) (P : Prime p) (t : ℕ) (xs ys : List ℕ) (points : Residues
         → (take (suc (suc a)) back-q1 ≡ raise p x (0 ∷ take (suc a) q1)) × (take (suc a - t) back-e1 ≡ raise p x (0 ∷ take (a - t) e1))
         × (length back-q1 ≡ 12) × (length back-e1 ≡ 8)
     raised-1 i j =
-        let (q, n) = raised-front (suc a) q1 q1' (s .pair .one .numerator) front-q1 i in
-        let (e, m) = raised-front (a - t) e1 e1' (s .pair .one .locator) front-e1 j in
+        let (q, n) = raised-front p x (suc a) q1 q1' (s .pair .one .numerator) front-q1 i in
+        let (e, m) = raised-front p x (a - t) e1 e1' (s .pair .one .locator) front-e1 j in
         let up : suc a - t ≡ suc (a - t) = omega (arith, least) in
         (
           q,
@@ -183,8 +133,8 @@ module _ (p : ℕ) (P : Prime p) (t : ℕ) (xs ys : List ℕ) (points : Residues
         → (take (suc (suc b + t)) back-q2 ≡ raise p x (0 ∷ take (suc (b + t)) q2)) × (take (suc (suc b)) back-e2 ≡ raise p x (0 ∷ take (suc b) e2))
         × (length back-q2 ≡ 12) × (length back-e2 ≡ 8)
     raised-2 i j =
-        let (q, n) = raised-front (suc (b + t)) q2 q2' (s .pair .two .numerator) front-q2 i in
-        let (e, m) = raised-front (suc b) e2 e2' (s .pair .two .locator) front-e2 j in
+        let (q, n) = raised-front p x (suc (b + t)) q2 q2' (s .pair .two .numerator) front-q2 i in
+        let (e, m) = raised-front p x (suc b) e2 e2' (s .pair .two .locator) front-e2 j in
         let up : suc (suc b + t) ≡ suc (suc (b + t)) = omega arith in
         (
           ap (λ c. take c back-q2) up ∙ q,
@@ -224,9 +174,9 @@ module _ (p : ℕ) (P : Prime p) (t : ℕ) (xs ys : List ℕ) (points : Residues
         let d = off p x y (take (suc a) q1) (take (a - t) e1) in
         let g = off p x y (take (suc (b + t)) q2) (take (suc b) e2) in
         let (q, e, n, l) = raised-1 (m .first-q) (m .first-e) in
-        let (i, h) = mixed-front (suc (b + t)) q2 q2' d g (take (suc a) q1) (s .pair .two .numerator)
+        let (i, h) = mixed-front p (suc (b + t)) q2 q2' d g (take (suc a) q1) (s .pair .two .numerator)
         (omega (arith, s .room-q2, sum, least)) front-q2 (m .second-q ∙ rw (front-q1, front-e1, front-q2, front-e2) refl) in
-        let (j, f) = mixed-front (suc b) e2 e2' d g (take (a - t) e1) (s .pair .two .locator)
+        let (j, f) = mixed-front p (suc b) e2 e2' d g (take (a - t) e1) (s .pair .two .locator)
         (omega (arith, s .room-e2, sum, least)) front-e2 (m .second-e ∙ rw (front-q1, front-e1, front-q2, front-e2) refl) in
         build (suc a) b back-q1 back-e1 back-q2 back-e2 (omega (arith, sum)) n l
         (back-size (suc (suc (b + t))) q2 q2' (omega (arith, s .room-q2, sum, least)) h ∙ s .room-q2)
@@ -253,9 +203,9 @@ module _ (p : ℕ) (P : Prime p) (t : ℕ) (xs ys : List ℕ) (points : Residues
         let d = off p x y (take (suc (b + t)) q2) (take (suc b) e2) in
         let g = off p x y (take (suc a) q1) (take (a - t) e1) in
         let (q, e, n, l) = raised-2 (m .first-q) (m .first-e) in
-        let (i, h) = mixed-front (suc a) q1 q1' d g (take (suc (b + t)) q2) (s .pair .one .numerator)
+        let (i, h) = mixed-front p (suc a) q1 q1' d g (take (suc (b + t)) q2) (s .pair .one .numerator)
         (omega (arith, s .room-q1, sum)) front-q1 (m .second-q ∙ rw (front-q1, front-e1, front-q2, front-e2) refl) in
-        let (j, f) = mixed-front (a - t) e1 e1' d g (take (suc b) e2) (s .pair .one .locator)
+        let (j, f) = mixed-front p (a - t) e1 e1' d g (take (suc b) e2) (s .pair .one .locator)
         (omega (arith, s .room-e1, sum)) front-e1 (m .second-e ∙ rw (front-q1, front-e1, front-q2, front-e2) refl) in
         build a (suc b) back-q1 back-e1 back-q2 back-e2 (omega (arith, sum))
         (back-size (suc (suc a)) q1 q1' (omega (arith, s .room-q1, sum)) h ∙ s .room-q1)

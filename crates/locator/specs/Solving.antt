@@ -10,6 +10,7 @@
 --   Solution p n m xs ys k Q E   one solution: Q of n coefficients, E of m
 --   Pair p t xs ys k a b ..      both
 --   Solving p t xs ys k a ..     both in front of four lists
+--   Roots p xs k l               l is a multiple of X − x for the first k points
 -- Laws: proofs/Mixing, proofs/Solving, proofs/Locating.
 use mathlib.Core.Path.{_≡_}
 use mathlib.Core.Bool.{Bool, true, false}
@@ -95,3 +96,9 @@ module _ (p : ℕ) where
     pub room-q2 : length q2 ≡ 12
     pub room-e2 : length e2 ≡ 8
     pub pair : Pair t xs ys k a (k - a) (take (suc a) q1) (take (a - t) e1) (take (suc (k - a + t)) q2) (take (suc (k - a)) e2)
+
+  -- k + 1 coefficients, a top that is not 0, and 0 at each of the first k points.
+  pub record Roots (xs : List ℕ) (k : ℕ) (l : List ℕ) : Type 0 where
+    pub poly : Poly p (suc k) l
+    pub vanishes : (j : ℕ) → j < k → value p l (getD xs j 0) ≡ 0
+    pub top : getD l k 0 ≡ 0 → ⊥

@@ -4,10 +4,20 @@ ghost use mathlib.Core.Path.{_≡_};
 ghost use mathlib.Core.List.{[], _∷_, _++_};
 ghost use Prim.Native.Nat.{_+_, _*_, _-_, _≤_, _<_};
 ghost use lib.ListN.{length, take, drop, getD};
+ghost use Rattle.lists.specs.Tabulate.{pad};
 ghost use Rattle.field.specs.Modulus.{primeOf};
-ghost use Rattle.polynomial.specs.Polynomial.{Residues, raise};
-ghost use Rattle.locator.specs.Solving.{off, mixed, raised, Short, Roomy, Met, Solving};
+ghost use Rattle.polynomial.specs.Polynomial.{Residues, Points};
+ghost use Rattle.interpolation.specs.Interpolation.{interpolate};
+ghost use Rattle.locator.specs.Solving.{off, mixed, raised, Short, Roomy, Met, Solving, Roots};
+ghost use Rattle.locator.specs.Solved.{Solved};
 use field::Width;
+
+// The second solution: a numerator, and a locator of such a degree.
+pub struct Located {
+    pub numerator: [u32; 12],
+    pub locator: [u32; 8],
+    pub degree: usize,
+}
 
 // (X − x) f, in the place of f, whose last place is room.
 fn raise(w: Width, x: u32, f: &mut [u32])
@@ -143,4 +153,43 @@ fn step(
         return a;
     }
     a + 1
+}
+
+// The product of X − x for all points.
+fn roots(w: Width, xs: &[u32], out: &mut [u32])
+    requires { ⌜ Residues (primeOf w) (now xs) × (length (now out) ≡ length (now xs) + 1) ⌝ }
+    ensures { λ _. ⌜ Roots (primeOf w) (now (xs .entry)) (length (now (xs .entry))) (now (out .exit)) ⌝ }
+{
+    out[0] = 1;
+    let mut k = 0;
+    while k < xs.len() {
+        raise(w, xs[k], &mut out[..k + 2]);
+        k += 1;
+    }
+}
+
+// The second solution for all points, at most t + 7 of them. The start has the first t + 1: f goes through them, so that the locator 1
+// holds there; and their product is 0 there, so that the locator 0 does.
+fn solve(w: Width, t: usize, xs: &[u32], ys: &[u32], f: [u32; 4]) -> Located
+    requires { ⌜ (t ≤ 3) × Points (primeOf w) (now xs) × Residues (primeOf w) (now ys) × (length (now xs) ≡ length (now ys))
+        × (t + 1 ≤ length (now xs)) × (length (now xs) ≤ t + 7) ⌝ }
+    requires { ⌜ f ≡ pad 4 (interpolate (primeOf w) (take (t + 1) (now xs)) (take (t + 1) (now ys))) ⌝ }
+    ensures { λ r. ⌜ Solved (primeOf w) t (now (xs .entry)) (now (ys .entry)) r ⌝ }
+{
+    let mut q1 = [0u32; 12];
+    let mut e1 = [0u32; 8];
+    let mut q2 = [f[0], f[1], f[2], f[3], 0, 0, 0, 0, 0, 0, 0, 0];
+    let mut e2 = [1, 0, 0, 0, 0, 0, 0, 0];
+    roots(w, &xs[..t + 1], &mut q1[..t + 2]);
+    let mut a = t + 1;
+    let mut k = t + 1;
+    while k < xs.len() {
+        a = step(w, t, k, a, xs, ys, &mut q1, &mut e1, &mut q2, &mut e2);
+        k += 1;
+    }
+    Located {
+        numerator: q2,
+        locator: e2,
+        degree: k - a,
+    }
 }
