@@ -2,7 +2,9 @@ pub mod Mixing
 pub mod Solving
 pub mod Products
 pub mod Locating
+pub mod Answer
 mod Loops
 mod Parts
 mod Stepping
 mod Starting
+mod Dividing

@@ -25,12 +25,8 @@ use Rattle.polynomial.proofs.Uniqueness.{unique}
 use Rattle.trial.specs.Trial.{pointsOf, xsOf, ysOf, meets}
 use Rattle.fit.proofs.Decoding.{points-sublist}
 use Rattle.locator.specs.Solving.{Solves, Solution, Pair}
-use Rattle.locator.specs.Quotient.{plusProduct}
+use Rattle.locator.specs.Quotient.{product}
 use Rattle.locator.proofs.Products.{length-product, product-residues, value-product}
-
--- F E, of so many coefficients as both have together, but one.
-pub product : ℕ → List ℕ → List ℕ → List ℕ
-product p F E = plusProduct p (replicate (length E - 1) 0) F E
 
 module _ (p : ℕ) (P : Prime p) where
   positive : 0 < p
@@ -41,7 +37,6 @@ module _ (p : ℕ) (P : Prime p) where
   zeros-residues (suc n) = (positive, zeros-residues n)
 
   product-poly : (n m : ℕ) (F E : List ℕ) → Poly p n F → Poly p (suc m) E → Poly p (n + m) (product p F E)
-  unfolding product
   product-poly n m F E f e =
       let b : length E - 1 ≡ m = omega (arith, e .size) in
       let l : length (replicate {A = ℕ} (length E - 1) 0) ≡ m = length-replicate (length E - 1) 0 ∙ b in
@@ -51,7 +46,6 @@ module _ (p : ℕ) (P : Prime p) where
       }
 
   product-value : (m : ℕ) (F E : List ℕ) (x : ℕ) → length E ≡ suc m → value p (product p F E) x ≡ mul p (value p F x) (value p E x)
-  unfolding product
   product-value m F E x e =
       value-product p (replicate (length E - 1) 0) F E x (omega (arith, length-replicate {A = ℕ} (length E - 1) 0))
       ∙ ap (λ z. add p z (mul p (value p F x) (value p E x))) (value-zeros p [] (length E - 1) x)

@@ -1,12 +1,14 @@
 -- R + F E: its length, residues and values; and that it is divided by E into F and R again.
 use mathlib.Core.Path.{_≡_, refl, sym, ap, ap₂, subst, _∙_}
-use mathlib.Core.List.{List, [], _∷_, tail}
+use mathlib.Core.List.{List, [], _∷_, tail, zipWith}
 use Prim.Native.Nat.{ℕ, zero, suc, _+_, _-_, _%_, _<_, _≤_}
 use native.Mathlib.Nat.{zero-mod, mod-eq-of-lt}
 use native.Mathlib.Omega.{arith}
 use lib.ListN.{length, getD, take}
+use lib.Seq.{length-take-le}
+use Rattle.lists.proofs.InPlace.{length-zipWith}
 use Rattle.field.specs.Arithmetic.{Prime, add, sub, mul}
-use Rattle.field.proofs.Ring.{ring, add-comm, add-zero, zero-add, add-lt, mul-zero, mul-comm, mul-assoc, mul-one, mul-mod, mul-residue}
+use Rattle.field.proofs.Ring.{ring, add-comm, add-zero, zero-add, add-lt, mul-lt, mul-zero, mul-comm, mul-assoc, mul-one, mul-mod, mul-residue}
 use Rattle.field.proofs.Ring.{add-sub, add-cancel, add-residue, sub-lt}
 use Rattle.polynomial.specs.Polynomial.{Poly, Residues, value}
 use Rattle.polynomial.proofs.Division.{value-residue}
@@ -89,6 +91,7 @@ module _ (p : ℕ) where
 
   taken : (b : ℕ) (R : List ℕ) (c : ℕ) (E : List ℕ) → 0 < p → Residues p R → length R ≡ b → length E ≡ suc b
       → take b (lessTimes p (plusTimes p R c E) c E) ≡ R
+  unfolding zipWith
   taken zero [] c E positive r l m = refl
   taken zero (d ∷ R) c E positive r l m = absurd (omega arith)
   taken (suc b) [] c E positive r l m = absurd (omega arith)
@@ -140,3 +143,24 @@ module _ (p : ℕ) where
         (ap₂ (λ (u : ℕ) (v : List ℕ). take (length E - 1) (lessTimes p v u E)) h whole
         ∙ ap (λ j. take j (lessTimes p S c E)) top
         ∙ taken b R c E positive r l size)
+
+  -- ---- what division gives, whatever is divided
+  module _ (i : ℕ) (E : List ℕ) (some : 0 < length E) where
+    pub quotient-size : (n : ℕ) (Q : List ℕ) → n ≤ length Q → length (division p i E n Q .0) ≡ n
+    quotient-size zero Q h = refl
+    quotient-size (suc n) [] h = absurd (omega arith)
+    quotient-size (suc n) (c ∷ Q) h = ap suc (quotient-size n Q (omega arith))
+
+    pub quotient-residues : (n : ℕ) (Q : List ℕ) → 0 < p → Residues p (division p i E n Q .0)
+    quotient-residues zero Q positive = tt
+    quotient-residues (suc n) [] positive = tt
+    quotient-residues (suc n) (c ∷ Q) positive = (mul-lt p i _ positive, quotient-residues n Q positive)
+
+    pub remainder-size : (n : ℕ) (Q : List ℕ) → length Q ≡ n + (length E - 1) → length (division p i E n Q .1) ≡ length E - 1
+    remainder-size zero Q h = h ∙ omega arith
+    remainder-size (suc n) [] h = absurd (omega arith)
+    remainder-size (suc n) (c ∷ Q) h =
+        let rest : length (division p i E n Q .1) ≡ length E - 1 = remainder-size n Q (omega arith) in
+        let r : List ℕ = c ∷ division p i E n Q .1 in
+        let whole : length (lessTimes p r (leading p i E r) E) ≡ length r = length-zipWith _ E r (omega arith) in
+        length-take-le (length E - 1) (lessTimes p r (leading p i E r) E) (omega arith)

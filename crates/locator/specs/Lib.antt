@@ -1,3 +1,4 @@
 pub mod Solving
 pub mod Solved
 pub mod Quotient
+pub mod Answer

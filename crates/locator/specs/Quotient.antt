@@ -1,16 +1,17 @@
 -- Division by a polynomial E of degree b, whose top coefficient has the inverse i.
 --   plusTimes p R c E     R + c E, as long as E
 --   plusProduct p R F E   R + F E, coefficient by coefficient, for R with b coefficients
---   lessTimes p r h E     r − h E, as long as r
+--   product p F E         F E
+--   lessTimes p r h E     r − h E
 --   division p i E n Q    n coefficients of the quotient, and the remainder, of b
 --   exactly p i E n Q     the quotient where nothing remains
 -- Laws: proofs/Products.
 use mathlib.Core.Bool.{Bool, true, _&&_, cond}
 use mathlib.Core.Option.{Option, none, some}
-use mathlib.Core.List.{List, [], _∷_, tail}
+use mathlib.Core.List.{List, [], _∷_, tail, zipWith}
 use Prim.Native.Nat.{ℕ, zero, suc, _-_}
 use lib.Dec.{eqb}
-use lib.ListN.{length, getD, take}
+use lib.ListN.{length, getD, take, replicate}
 use Rattle.field.specs.Arithmetic.{add, sub, mul}
 
 module _ (p : ℕ) where
@@ -24,10 +25,13 @@ module _ (p : ℕ) where
   plusProduct R [] E = R
   plusProduct R (c ∷ F) E = getD (plusTimes R c E) 0 0 ∷ plusProduct (tail (plusTimes R c E)) F E
 
-  -- r − h E, as long as r.
+  -- F E, of as many coefficients as both have together but one.
+  abbrev pub product : List ℕ → List ℕ → List ℕ
+  product F E = plusProduct (replicate (length E - 1) 0) F E
+
+  -- r − h E, coefficient by coefficient.
   abbrev pub lessTimes : List ℕ → ℕ → List ℕ → List ℕ
-  lessTimes [] h E = []
-  lessTimes (c ∷ r) h E = sub p c (mul p h (getD E 0 0)) ∷ lessTimes r h (tail E)
+  lessTimes r h E = zipWith (λ d c. sub p c (mul p h d)) E r
 
   -- The next coefficient of the quotient is that by which E takes the top away.
   abbrev pub leading : ℕ → List ℕ → List ℕ → ℕ

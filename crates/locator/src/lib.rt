@@ -10,6 +10,7 @@ ghost use Rattle.polynomial.specs.Polynomial.{Residues, Points};
 ghost use Rattle.interpolation.specs.Interpolation.{interpolate};
 ghost use Rattle.locator.specs.Solving.{off, mixed, raised, Short, Roomy, Met, Solving, Roots};
 ghost use Rattle.locator.specs.Solved.{Solved};
+ghost use Rattle.locator.specs.Quotient.{lessTimes, leading, division, zeros};
 use field::Width;
 
 // The second solution: a numerator, and a locator of such a degree.
@@ -192,4 +193,60 @@ fn solve(w: Width, t: usize, xs: &[u32], ys: &[u32], f: [u32; 4]) -> Located
         locator: e2,
         degree: k - a,
     }
+}
+
+// r − h e, in the place of r.
+fn less_times(w: Width, h: u32, e: &[u32], r: &mut [u32])
+    requires { ⌜ (length (now e) ≡ length (now r)) × Residues (primeOf w) (now e) × Residues (primeOf w) (now r) × (h < primeOf w) ⌝ }
+    ensures { λ _. ⌜ (now (r .exit) ≡ lessTimes (primeOf w) (now (r .entry)) h (now (e .entry))) × Residues (primeOf w) (now (r .exit)) ⌝ }
+{
+    let mut i = 0;
+    while i < e.len() {
+        r[i] = field::mul_sub(w, h, e[i], r[i]);
+        i += 1;
+    }
+}
+
+// The quotient's next coefficient: so many times is e, whose top has the given inverse, taken from r, that the top of r is gone.
+fn next_coefficient(w: Width, inverse: u32, e: &[u32], r: &mut [u32]) -> u32
+    requires { ⌜ (length (now e) ≡ length (now r)) × Residues (primeOf w) (now e) × Residues (primeOf w) (now r) × (inverse < primeOf w) ⌝ }
+    requires { ⌜ 0 < length (now e) ⌝ }
+    ensures { λ h. ⌜ (h ≡ leading (primeOf w) inverse (now (e .entry)) (now (r .entry))) × (h < primeOf w)
+        × (now (r .exit) ≡ lessTimes (primeOf w) (now (r .entry)) h (now (e .entry))) × Residues (primeOf w) (now (r .exit)) ⌝ }
+{
+    let top = e.len() - 1;
+    let h = field::mul_add(w, inverse, r[top], 0);
+    less_times(w, h, e, r);
+    h
+}
+
+// The n coefficients of q divided by e, with 0 behind them. The remainder is left in front of q. It calls itself n times.
+fn divide(w: Width, n: usize, inverse: u32, e: &[u32], q: &mut [u32]) -> [u32; 4]
+    requires { ⌜ (n ≤ 4) × (0 < length (now e)) × (length (now q) + 1 ≡ n + length (now e)) ⌝ }
+    requires { ⌜ Residues (primeOf w) (now e) × Residues (primeOf w) (now q) × (inverse < primeOf w) ⌝ }
+    ensures { λ f. ⌜ (f ≡ pad 4 (division (primeOf w) inverse (now (e .entry)) n (now (q .entry)) .0))
+        × (take (length (now (e .entry)) - 1) (now (q .exit)) ≡ division (primeOf w) inverse (now (e .entry)) n (now (q .entry)) .1)
+        × Residues (primeOf w) (now (q .exit)) ⌝ }
+{
+    if n == 0 {
+        return [0; 4];
+    }
+    let rest = divide(w, n - 1, inverse, e, &mut q[1..]);
+    let size = e.len();
+    let h = next_coefficient(w, inverse, e, &mut q[..size]);
+    [h, rest[0], rest[1], rest[2]]
+}
+
+// Whether every number is 0.
+fn zeros(list: &[u32]) -> bool
+    ensures { λ r. ⌜ r ≡ zeros (now (list .entry)) ⌝ }
+{
+    let mut i = list.len();
+    while 0 < i {
+        i -= 1;
+        if list[i] != 0 {
+            return false;
+        }
+    }
+    true
 }

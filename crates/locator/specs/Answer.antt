@@ -1,0 +1,26 @@
+-- What is answered for a solution.
+--   judged p need xs ys o   what o gives, if it agrees with at least `need` of all points
+--   locatedBy ..            the numerator divided by the locator, of degree b, if that is at most `spare`, nothing remains and enough agree
+-- Laws: proofs/Answer.
+use mathlib.Core.Bool.{cond}
+use mathlib.Core.Option.{Option, none, some}
+use mathlib.Core.List.{List, [], _∷_}
+use Prim.Native.Nat.{ℕ, suc, _+_}
+use lib.Dec.{leb}
+use lib.ListN.{getD, take}
+use Rattle.field.specs.Arithmetic.{inv}
+use Rattle.trial.specs.Trial.{firstFitting}
+use Rattle.locator.specs.Quotient.{exactly}
+
+-- Remainder zero alone does not make enough points agree.
+abbrev pub judged : ℕ → ℕ → List ℕ → List ℕ → Option (List ℕ) → Option (List ℕ)
+judged p need xs ys none = none
+judged p need xs ys (some f) = firstFitting p need xs ys (f ∷ [])
+
+-- The quotient of the numerator by the locator.
+abbrev pub quotientOf : ℕ → ℕ → ℕ → List ℕ → List ℕ → Option (List ℕ)
+quotientOf p t b q e = exactly p (inv p (getD e b 0)) (take (suc b) e) (suc t) (take (suc (b + t)) q)
+
+-- The answer, where at most `spare` of the points sent may be wrong.
+unfoldable pub locatedBy : ℕ → ℕ → ℕ → ℕ → List ℕ → List ℕ → ℕ → List ℕ → List ℕ → Option (List ℕ)
+locatedBy p t need spare xs ys b q e = cond (leb b spare) (judged p need xs ys (quotientOf p t b q e)) none
