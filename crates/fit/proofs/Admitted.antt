@@ -1,6 +1,6 @@
 -- What `fit` answers: why it refuses, and what an admitted call says of the points.
 --   fitted-result   what is answered for what was found by trial
---   fit-degree, fit-lengths, fit-many, fit-few   the four refusals
+--   fit-refused     a refusal is answered; fit-degree, fit-lengths, fit-many, fit-few   the four refusals
 --   tests-..        the same of the tests by themselves; tests-pass: what is admitted passes them, and what passes them is admitted
 --   fit-admitted    an admitted call answers what fits with the need of those sent; fit-least: that need is `least` where few were sent
 --   fit-nothing-iff, fit-found-fits   nothing exactly if nothing fits; what is found fits
@@ -13,6 +13,7 @@ use native.Mathlib.Omega.{arith}
 use borrow.Author.Tests.{le-leb, lt-leb, eq-eqb, ne-eqb, leb-true, eqb-true}
 use lib.ListN.{length}
 use Rattle.lists.specs.Tabulate.{pad}
+use Rattle.answers.specs.declared.Refusal.{Refusal}
 use Rattle.answers.specs.declared.Refusal.the-variants.{WrongSize, WrongLength}
 use Rattle.answers.specs.declared.Admission.the-variants.{Pass, Fail}
 use Rattle.answers.specs.declared.Decoding.the-variants.{Found, Nothing}
@@ -26,7 +27,7 @@ use Rattle.trial.specs.declared.Tried.{Tried}
 use Rattle.trial.specs.Results.{resultOf}
 use Rattle.fit.specs.Fit.{sent, Fits, fit}
 use Rattle.fit.specs.Opening.{needed}
-use Rattle.fit.specs.Admitted.{Admitted, fitTests, fittedOf, fitIn}
+use Rattle.fit.specs.Admitted.{Admitted, fitTests, decodedIf, fittedOf, fitIn}
 use Rattle.fit.proofs.Decoding.{fit-sound, fit-none-iff}
 
 pub fitted-result : (r : Tried) (o : Option (List ℕ)) → r ≡ resultOf o → fittedOf r ≡ decoded o
@@ -69,22 +70,22 @@ module _ (t least : ℕ) (xs ys : List ℕ) where
 
 module _ (p t least : ℕ) (xs ys : List ℕ) where
   -- ---- refused
-  pub fit-degree : 3 < t → refusedFit WrongSize ≡ fitIn p t least xs ys
+  pub fit-refused : (why : Refusal) → lowest (fitTests t least xs ys) ≡ Fail why → refusedFit why ≡ fitIn p t least xs ys
   unfolding fitIn
-  fit-degree h = rw (tests-degree t least xs ys h)
+  fit-refused why e = ap (λ a. decodedIf a (fit p t (needed t least (sent p ys)) xs ys)) (sym e)
+
+  pub fit-degree : 3 < t → refusedFit WrongSize ≡ fitIn p t least xs ys
+  fit-degree h = fit-refused WrongSize (tests-degree t least xs ys h)
 
   module _ (degree : t ≤ 3) where
     pub fit-lengths : (length xs ≡ length ys → ⊥) → refusedFit WrongLength ≡ fitIn p t least xs ys
-    unfolding fitIn
-    fit-lengths l = rw (tests-lengths t least xs ys degree l)
+    fit-lengths l = fit-refused WrongLength (tests-lengths t least xs ys degree l)
 
     pub fit-many : length xs ≡ length ys → 16 < length xs → refusedFit WrongLength ≡ fitIn p t least xs ys
-    unfolding fitIn
-    fit-many l m = rw (tests-many t least xs ys degree l m)
+    fit-many l m = fit-refused WrongLength (tests-many t least xs ys degree l m)
 
     pub fit-few : length xs ≡ length ys → length xs ≤ 16 → least < 2 * t + 1 → refusedFit WrongLength ≡ fitIn p t least xs ys
-    unfolding fitIn
-    fit-few l m n = rw (tests-few t least xs ys degree l m n)
+    fit-few l m n = fit-refused WrongLength (tests-few t least xs ys degree l m n)
 
   -- ---- admitted
   module _ (a : Admitted t least xs ys) where

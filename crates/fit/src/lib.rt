@@ -136,8 +136,9 @@ fn groups(
 pub fn first_sent(p: u32, xs: &[u32], ys: &[u32], px: &mut [u32], py: &mut [u32])
     requires { ⌜ (length (now xs) ≡ length (now ys)) × (length (now px) ≤ length (pointsSent p (now xs) (now ys))) ⌝ }
     requires { ⌜ length (now py) ≡ length (now px) ⌝ }
-    ensures { λ r. ⌜ pointsOf (now (px .exit)) (now (py .exit))
-        ≡ take (length (now (px .entry))) (pointsSent p (now (xs .entry)) (now (ys .entry))) ⌝ }
+    ensures { λ r. ⌜ (pointsOf (now (px .exit)) (now (py .exit))
+        ≡ take (length (now (px .entry))) (pointsSent p (now (xs .entry)) (now (ys .entry))))
+        × (length (now (px .exit)) ≡ length (now (px .entry))) × (length (now (py .exit)) ≡ length (now (px .entry))) ⌝ }
 {
     let mut d = 0;
     let mut i = 0;

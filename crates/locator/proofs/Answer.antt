@@ -14,6 +14,7 @@ use native.Mathlib.Omega.{arith}
 use borrow.Author.Tests.{le-leb, lt-leb, leb-true}
 use lib.Dec.{leb}
 use lib.ListN.{length, getD, take, replicate, length-replicate}
+use lib.Seq.{getD-take}
 use Rattle.lists.specs.Choices.{count}
 use Rattle.lists.proofs.All.{all-getD}
 use Rattle.lists.proofs.Cases.{le-or-lt, true-or-false}
@@ -50,19 +51,21 @@ module _ (p need : ℕ) (xs ys : List ℕ) where
   judged-found : (f : List ℕ) → need ≤ hits p f xs ys → judged p need xs ys (some f) ≡ some f
   judged-found f h = rw (le-leb need (hits p f xs ys) h)
 
-exactly-sound : (p i : ℕ) (E : List ℕ) (n : ℕ) (Q f : List ℕ) → exactly p i E n Q ≡ some f → f ≡ division p i E n Q .0
+-- The code's numbers, and those of the laws.
+quotient-is : (p t b : ℕ) (q e : List ℕ) → quotientOf p t b q e ≡ exactly p (inv p (getD e b 0)) (take (suc b) e) (suc t) (take (suc (b + t)) q)
+quotient-is p t b q e =
+    let i : b + 1 ≡ suc b = omega arith in
+    let j : t + 1 ≡ suc t = omega arith in
+    let k : b + t + 1 ≡ suc (b + t) = omega arith in
+    rw (i, j, k) refl
+
+pub exactly-sound : (p i : ℕ) (E : List ℕ) (n : ℕ) (Q f : List ℕ) → exactly p i E n Q ≡ some f → f ≡ division p i E n Q .0
 unfolding exactly
 exactly-sound p i E n Q f e = cases (zeros (division p i E n Q .1)) (division p i E n Q .0) e
   where
     cases : (b : Bool) (g : List ℕ) → cond b (some g) none ≡ some f → f ≡ g
     cases true g e = let same : some g ≡ some f = e in cc
     cases false g e = none-not-some none f refl e
-
-getD-front : (n j : ℕ) (l : List ℕ) → j < n → getD (take n l) j 0 ≡ getD l j 0
-getD-front zero j l h = absurd (omega arith)
-getD-front (suc n) j [] h = refl
-getD-front (suc n) zero (c ∷ l) h = refl
-getD-front (suc n) (suc j) (c ∷ l) h = getD-front n j l (omega arith)
 
 module _ (p : ℕ) (P : Prime p) (t need spare : ℕ) (xs ys : List ℕ) (lengths : length xs ≡ length ys) (points : Points p xs)
     (all : sent p ys ≡ need + spare) (least : 2 * t + 1 ≤ need) (few : spare ≤ t) (px py : List ℕ)
@@ -96,7 +99,8 @@ module _ (p : ℕ) (P : Prime p) (t need spare : ℕ) (xs ys : List ℕ) (length
       ⊎-elim
       (λ low.
       let (found, enough) = judged-sound p need xs ys (quotientOf p t b (r .numerator) (r .locator)) f (rw (le-leb b spare low) at e) in
-      let is : f ≡ division p i E (suc t) Q .0 = exactly-sound p i E (suc t) Q f found in
+      let is : f ≡ division p i E (suc t) Q .0 =
+      exactly-sound p i E (suc t) Q f (sym (quotient-is p t b (r .numerator) (r .locator)) ∙ found) in
       record {
         poly = subst (Poly p (suc t)) (sym is) (record {
           residues = quotient-residues p i E some-E (suc t) Q positive;
@@ -133,7 +137,7 @@ module _ (p : ℕ) (P : Prime p) (t need spare : ℕ) (xs ys : List ℕ) (length
     unfolding i
     inverse =
         let top = getD (r .locator) b 0 in
-        let same : getD E b 0 ≡ top = getD-front (suc b) b (r .locator) (omega arith) in
+        let same : getD E b 0 ≡ top = getD-take (suc b) (r .locator) b 0 (omega arith) in
         let small : top < p =
         subst (λ c. c < p) same (all-getD (λ c. c < p) E b 0 (omega (arith, size-E)) (s .pair .two .locator .residues)) in
         ap (mul p (inv p top)) same
@@ -155,7 +159,8 @@ module _ (p : ℕ) (P : Prime p) (t need spare : ℕ) (xs ys : List ℕ) (length
     unfolding locatedBy exactly i
     located-found =
         rw (le-leb b spare low)
-        (ap (λ (o : List ℕ × List ℕ). judged p need xs ys (cond (zeros (o .1)) (some (o .0)) none)) divided
+        (ap (judged p need xs ys) (quotient-is p t b (r .numerator) (r .locator))
+        ∙ ap (λ (o : List ℕ × List ℕ). judged p need xs ys (cond (zeros (o .1)) (some (o .0)) none)) divided
         ∙ ap (λ c. judged p need xs ys (cond c (some F) none)) (zeros-true b)
         ∙ judged-found p need xs ys F (fits .enough))
 

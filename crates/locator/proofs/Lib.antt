@@ -8,3 +8,5 @@ mod Parts
 mod Stepping
 mod Starting
 mod Dividing
+mod Judging
+mod Gathered

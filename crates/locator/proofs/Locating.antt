@@ -28,6 +28,18 @@ use Rattle.locator.specs.Solving.{Solves, Solution, Pair}
 use Rattle.locator.specs.Quotient.{product}
 use Rattle.locator.proofs.Products.{length-product, product-residues, value-product}
 
+-- The coordinates of points.
+pub points-xs : (xs ys : List ℕ) → length xs ≡ length ys → xsOf (pointsOf xs ys) ≡ xs
+points-xs [] ys l = refl
+points-xs (x ∷ xs) [] l = absurd (omega arith)
+points-xs (x ∷ xs) (y ∷ ys) l = ap (λ z. x ∷ z) (points-xs xs ys (omega arith))
+
+pub points-ys : (xs ys : List ℕ) → length xs ≡ length ys → ysOf (pointsOf xs ys) ≡ ys
+points-ys [] [] l = refl
+points-ys [] (y ∷ ys) l = absurd (omega arith)
+points-ys (x ∷ xs) [] l = absurd (omega arith)
+points-ys (x ∷ xs) (y ∷ ys) l = ap (λ z. y ∷ z) (points-ys xs ys (omega arith))
+
 module _ (p : ℕ) (P : Prime p) where
   positive : 0 < p
   positive = omega (arith, P .two)
@@ -62,11 +74,6 @@ module _ (p : ℕ) (P : Prime p) where
         go [] ys h = tt
         go (x ∷ xs) [] h = tt
         go (x ∷ xs) (y ∷ ys) h = (h 0 (omega arith), go xs ys (λ j l. h (suc j) (omega arith)))
-
-    points-xs : (xs ys : List ℕ) → length xs ≡ length ys → xsOf (pointsOf xs ys) ≡ xs
-    points-xs [] ys l = refl
-    points-xs (x ∷ xs) [] l = absurd (omega arith)
-    points-xs (x ∷ xs) (y ∷ ys) l = ap (λ z. x ∷ z) (points-xs xs ys (omega arith))
 
     module _ (F : List ℕ) where
       -- At n points where F agrees, Q is a polynomial of n coefficients with the values of F E.

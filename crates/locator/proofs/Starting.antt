@@ -8,7 +8,7 @@ use native.Mathlib.Decide.{ℕ-discrete}
 use native.Mathlib.Nat.{zero-mod, mod-eq-of-lt}
 use native.Mathlib.Omega.{arith}
 use lib.ListN.{length, getD, take, drop, set, replicate, length-append, length-drop, length-replicate}
-use lib.Seq.{length-take-le, take-at, take-all}
+use lib.Seq.{length-take-le, take-at, take-all, getD-take}
 use Rattle.lists.specs.Tabulate.{pad}
 use Rattle.lists.proofs.Padded.{four}
 use Rattle.lists.proofs.All.{all-getD, all-take, distinct-take}
@@ -107,12 +107,6 @@ module _ (p : ℕ) (P : Prime p) (xs : List ℕ) (points : Residues p xs) where
       (subst (λ j. Roots p xs j (take (suc j) out)) here (r .roots))
 
 -- ---- the pair for the first t + 1 points
-getD-taken : (n j : ℕ) (l : List ℕ) → j < n → getD (take n l) j 0 ≡ getD l j 0
-getD-taken zero j l h = absurd (omega arith)
-getD-taken (suc n) j [] h = refl
-getD-taken (suc n) zero (c ∷ l) h = refl
-getD-taken (suc n) (suc j) (c ∷ l) h = getD-taken n j l (omega arith)
-
 mapped : (g : ℕ → ℕ) (xs ys : List ℕ) → map g xs ≡ ys → (j : ℕ) → j < length xs → g (getD xs j 0) ≡ getD ys j 0
 mapped g [] ys e j h = absurd (omega arith)
 mapped g (x ∷ xs) ys e zero h = ap (λ l. getD l 0 0) e
@@ -147,12 +141,12 @@ module _ (p : ℕ) (P : Prime p) (t : ℕ) (low : t ≤ 3) (xs ys : List ℕ) (p
   -- It takes the values at the points, so that the locator 1 holds there.
   first-value : (j : ℕ) → j < suc t → value p first (getD xs j 0) ≡ getD ys j 0
   first-value j h =
-      ap (value p first) (sym (getD-taken (suc t) j xs h))
+      ap (value p first) (sym (getD-take (suc t) xs j 0 h))
       ∙ mapped (value p first) px py
       (interpolate-values p P px py (all-take (λ c. c < p) (suc t) xs (points .0), distinct-take (suc t) xs (points .1))
       (all-take (λ c. c < p) (suc t) ys values) (size-x ∙ sym size-y))
       j (omega (arith, size-x))
-      ∙ getD-taken (suc t) j ys h
+      ∙ getD-take (suc t) ys j 0 h
 
   one-lt : 1 < p
   one-lt = omega (arith, P .two)
@@ -176,7 +170,7 @@ module _ (p : ℕ) (P : Prime p) (t : ℕ) (low : t ≤ 3) (xs ys : List ℕ) (p
     numerator = r .poly;
     locator = record { residues = (omega (arith, P .two), tt); size = refl };
     solves = λ j h.
-        ap (value p Q) (sym (getD-taken (suc t) j xs h))
+        ap (value p Q) (sym (getD-take (suc t) xs j 0 h))
         ∙ r .vanishes j h
         ∙ sym (ap (mul p (getD ys j 0)) (constant-value 0 (getD xs j 0) (omega (arith, P .two))) ∙ mul-zero p (getD ys j 0));
   }

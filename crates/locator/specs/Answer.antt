@@ -5,7 +5,7 @@
 use mathlib.Core.Bool.{cond}
 use mathlib.Core.Option.{Option, none, some}
 use mathlib.Core.List.{List, [], _∷_}
-use Prim.Native.Nat.{ℕ, suc, _+_}
+use Prim.Native.Nat.{ℕ, _+_}
 use lib.Dec.{leb}
 use lib.ListN.{getD, take}
 use Rattle.field.specs.Arithmetic.{inv}
@@ -19,7 +19,7 @@ judged p need xs ys (some f) = firstFitting p need xs ys (f ∷ [])
 
 -- The quotient of the numerator by the locator.
 abbrev pub quotientOf : ℕ → ℕ → ℕ → List ℕ → List ℕ → Option (List ℕ)
-quotientOf p t b q e = exactly p (inv p (getD e b 0)) (take (suc b) e) (suc t) (take (suc (b + t)) q)
+quotientOf p t b q e = exactly p (inv p (getD e b 0)) (take (b + 1) e) (t + 1) (take (b + t + 1) q)
 
 -- The answer, where at most `spare` of the points sent may be wrong.
 unfoldable pub locatedBy : ℕ → ℕ → ℕ → ℕ → List ℕ → List ℕ → ℕ → List ℕ → List ℕ → Option (List ℕ)

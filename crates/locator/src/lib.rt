@@ -8,10 +8,20 @@ ghost use Rattle.lists.specs.Tabulate.{pad};
 ghost use Rattle.field.specs.Modulus.{primeOf};
 ghost use Rattle.polynomial.specs.Polynomial.{Residues, Points};
 ghost use Rattle.interpolation.specs.Interpolation.{interpolate};
+ghost use Rattle.answers.specs.Fits.{decoded};
+ghost use Rattle.trial.specs.Results.{Bounded, resultOf};
+ghost use Rattle.fit.specs.Fit.{sent, fit};
+ghost use Rattle.fit.specs.Opening.{needed};
+ghost use Rattle.fit.specs.Admitted.{Admitted, fitIn};
 ghost use Rattle.locator.specs.Solving.{off, mixed, raised, Short, Roomy, Met, Solving, Roots};
 ghost use Rattle.locator.specs.Solved.{Solved};
-ghost use Rattle.locator.specs.Quotient.{lessTimes, leading, division, zeros};
+ghost use Rattle.locator.specs.Quotient.{lessTimes, leading, division, zeros, exactly};
+ghost use Rattle.locator.specs.Answer.{quotientOf, locatedBy};
+use answers::Admission;
+use answers::Decoding;
+use answers::Fitted;
 use field::Width;
+use trial::Tried;
 
 // The second solution: a numerator, and a locator of such a degree.
 pub struct Located {
@@ -249,4 +259,108 @@ fn zeros(list: &[u32]) -> bool
         }
     }
     true
+}
+
+// The n coefficients of q divided by e, if nothing remains.
+fn exactly(w: Width, n: usize, inverse: u32, e: &[u32], q: &mut [u32]) -> Tried
+    requires { ⌜ (n ≤ 4) × (0 < length (now e)) × (length (now q) + 1 ≡ n + length (now e)) ⌝ }
+    requires { ⌜ Residues (primeOf w) (now e) × Residues (primeOf w) (now q) × (inverse < primeOf w) ⌝ }
+    ensures { λ r. ⌜ r ≡ resultOf (exactly (primeOf w) inverse (now (e .entry)) n (now (q .entry))) ⌝ }
+{
+    let f = divide(w, n, inverse, e, q);
+    let degree = e.len() - 1;
+    if zeros(&q[..degree]) {
+        return Tried {
+            found: true,
+            coefficients: f,
+        };
+    }
+    trial::nothing()
+}
+
+// The numerator divided by the locator, of such a degree, if nothing remains.
+fn quotient(w: Width, t: usize, degree: usize, numerator: [u32; 12], locator: [u32; 8]) -> Tried
+    requires { ⌜ (t ≤ 3) × (degree ≤ 3) ⌝ }
+    requires { ⌜ Residues (primeOf w) (take (degree + t + 1) numerator) × Residues (primeOf w) (take (degree + 1) locator) ⌝ }
+    ensures { λ r. ⌜ r ≡ resultOf (quotientOf (primeOf w) t degree numerator locator) ⌝ }
+{
+    let inverse = field::inverse_of(w, locator[degree]);
+    let mut rest = numerator;
+    exactly(w, t + 1, inverse, &locator[..degree + 1], &mut rest[..degree + t + 1])
+}
+
+// The answer for a solution: the numerator divided by the locator, if this is of no higher degree than points may be wrong, nothing remains,
+// and enough of all points agree.
+fn judged(
+    w: Width,
+    t: usize,
+    need: usize,
+    spare: usize,
+    xs: &[u32],
+    ys: &[u32],
+    degree: usize,
+    numerator: [u32; 12],
+    locator: [u32; 8],
+) -> Fitted
+    requires { ⌜ (t ≤ 3) × (spare ≤ 3) × (length (now xs) ≡ length (now ys)) × Residues (primeOf w) (now xs) ⌝ }
+    requires { ⌜ Residues (primeOf w) (take (degree + t + 1) numerator) × Residues (primeOf w) (take (degree + 1) locator) ⌝ }
+    ensures { λ r. ⌜ r ≡ decoded (locatedBy (primeOf w) t need spare (now (xs .entry)) (now (ys .entry)) degree numerator locator) ⌝ }
+{
+    if spare < degree {
+        return fit::nothing();
+    }
+    let divided = quotient(w, t, degree, numerator, locator);
+    if !divided.found {
+        return fit::nothing();
+    }
+    let f = divided.coefficients;
+    if !trial::enough(w, f[0], f[1], f[2], f[3], xs, ys, need) {
+        return fit::nothing();
+    }
+    Fitted {
+        outcome: Decoding::Found,
+        coefficients: f,
+    }
+}
+
+// The search where at most `spare` of the points sent are wrong. The first t + 1 + 2 spare of them are solved for: of these so many are
+// right that the locator is of no higher degree than points are wrong.
+fn by_locator(w: Width, t: usize, need: usize, spare: usize, xs: &[u32], ys: &[u32]) -> Fitted
+    requires { ⌜ (t ≤ 3) × Bounded (now xs) (now ys) × Points (primeOf w) (now xs) ⌝ }
+    requires { ⌜ (sent (primeOf w) (now ys) ≡ need + spare) × (2 * t + 1 ≤ need) × (spare ≤ t) ⌝ }
+    ensures { λ r. ⌜ r ≡ decoded (fit (primeOf w) t need (now (xs .entry)) (now (ys .entry))) ⌝ }
+{
+    let m = t + 1 + 2 * spare;
+    let mut px = [0u32; 10];
+    let mut py = [0u32; 10];
+    fit::first_sent(field::modulus(w), xs, ys, &mut px[..m], &mut py[..m]);
+    let f = interpolation::through(w, t + 1, &px[..4], &py[..4]);
+    let solved = solve(w, t, &px[..m], &py[..m], f);
+    let q = solved.numerator;
+    let e = solved.locator;
+    judged(w, t, need, spare, xs, ys, solved.degree, q, e)
+}
+
+// The search where the arguments are admitted.
+fn admitted(w: Width, t: usize, least: usize, xs: &[u32], ys: &[u32]) -> Fitted
+    requires { ⌜ Admitted t least (now xs) (now ys) × Points (primeOf w) (now xs) ⌝ }
+    ensures { λ r. ⌜ r ≡ decoded (fit (primeOf w) t (needed t least (sent (primeOf w) (now (ys .entry)))) (now (xs .entry)) (now (ys .entry))) ⌝ }
+{
+    let s = fit::sent(field::modulus(w), ys);
+    let need = fit::needed(t, least, s);
+    if s < need {
+        return fit::nothing();
+    }
+    by_locator(w, t, need, s - need, xs, ys)
+}
+
+// What `fit::fit` answers, by an error locator: for every prime, any distinct points, and whatever is missing.
+pub fn fit(w: Width, t: usize, least: usize, xs: &[u32], ys: &[u32]) -> Fitted
+    requires { ⌜ Points (primeOf w) (now xs) ⌝ }
+    ensures { λ r. ⌜ r ≡ fitIn (primeOf w) t least (now (xs .entry)) (now (ys .entry)) ⌝ }
+{
+    match fit::admission(t, least, xs, ys) {
+        Admission::Fail(why) => answers::refused_fit(why),
+        Admission::Pass => admitted(w, t, least, xs, ys),
+    }
 }

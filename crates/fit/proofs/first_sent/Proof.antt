@@ -87,7 +87,7 @@ same-length-4 c = omega (arith, c .before .loop .inv .width-y)
 returns-2 : tie.Need-returns-2 Inv-loop μ-loop
 returns-2 c =
     let k = c .before .loop in
-    gathering-done _ _ _ _ _ _ (k .d) (k .i) (k .inv) (omega arith)
+    (gathering-done _ _ _ _ _ _ (k .d) (k .i) (k .inv) (omega arith), k .inv .width-x, k .inv .width-y)
 
 pub first-sent-spec : {M : Type 1} → statement M
 first-sent-spec =

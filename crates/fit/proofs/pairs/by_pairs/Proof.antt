@@ -53,7 +53,7 @@ loop-holds c =
     let ten = c .before .before in
     let s = start ten in
     trying-start _ (prime-at ten) _ _ _ _ _ (s .args .sent) (s .pre .0) (s .pre .1) (omega arith) (omega arith)
-    (ten .first-sent .ensures
+    (ten .first-sent .ensures .0
     ∙ ap (λ q. take 10 (pointsSent q (s .args .xs .now) (s .args .ys .now))) (ten .before .before .before .modulus .ensures))
 
 mul-a : tie.Need-mul-a Inv-loop μ-loop
