@@ -9,9 +9,9 @@ use lib.Seq.{drop-drop, length-take-le}
 use Rattle.lists.proofs.All.{all-take, all-drop}
 use Rattle.lists.proofs.InPlace.{write-next, write-end, length-zipWith}
 use Rattle.polynomial.specs.Polynomial.{Residues, value}
+use Rattle.polynomial.proofs.Division.{value-alone}
 use Rattle.bivariate.specs.Bivariate.{plusTimes, row, column}
 use Rattle.bivariate.proofs.Crossing.{plusTimes-residues}
-use Rattle.bivariate.proofs.Spaced.{alone}
 
 -- ---- n blocks of n numbers: block u stands at u n
 block-within : (u n at len : ℕ) → u < n → at ≡ u * n → len ≡ n * n → at + n ≤ len
@@ -107,7 +107,7 @@ module _ (p : ℕ) where
   unfolding zipWith
   top-block [] x h = refl
   top-block (c ∷ f) x h =
-      ap₂ _∷_ (sym (alone p x c (h .0))) (top-block f x (h .1))
+      ap₂ _∷_ (sym (value-alone p x c (h .0))) (top-block f x (h .1))
 
   top-column : (n : ℕ) (f : List ℕ) (x : ℕ) → plusTimes p (take n f) x (replicate n 0) ≡ column p (n - (n - 1)) n f x
   unfolding zipWith

@@ -1,17 +1,15 @@
--- The numbers of a row and of a column one by one. A number of a column is the value of coefficients that stand n apart.
---   spaced p x n F at k   the value at x of k coefficients of F that stand n apart, the first at place `at`
+-- The numbers of a column one by one: each is the value of coefficients that stand n apart.
+--   spaced n F at k   k coefficients of F that stand n apart, the first at place `at`
+--   column-two, column-three, column-four   the numbers of a column of so many
 use mathlib.Core.Path.{_≡_, refl, sym, ap, ap₂, _∙_}
 use mathlib.Core.List.{List, [], _∷_, zipWith}
 use Prim.Native.Nat.{ℕ, zero, suc, _+_, _*_, _<_}
-use native.Mathlib.Nat.{mod-eq-of-lt}
 use native.Mathlib.Omega.{arith}
 use lib.ListN.{length, take, drop, getD}
 use lib.Seq.{getD-take, getD-drop}
-use Rattle.lists.proofs.All.{all-getD}
 use Rattle.lists.proofs.Padded.{getD-zeros}
-use Rattle.field.specs.Arithmetic.{add, mul, cubicValue}
-use Rattle.field.proofs.Ring.{add-zero, mul-zero}
-use Rattle.polynomial.specs.Polynomial.{Residues, value}
+use Rattle.field.specs.Arithmetic.{add, mul}
+use Rattle.polynomial.specs.Polynomial.{value}
 use Rattle.bivariate.specs.Bivariate.{column}
 use Rattle.bivariate.proofs.Crossing.{front, back, length-column}
 
@@ -24,56 +22,40 @@ getD-zip f (x ∷ xs) [] v h l = absurd (omega arith)
 getD-zip f (x ∷ xs) (y ∷ ys) zero h l = refl
 getD-zip f (x ∷ xs) (y ∷ ys) (suc v) h l = getD-zip f xs ys v (omega arith) (omega arith)
 
+abbrev spaced : ℕ → List ℕ → ℕ → ℕ → List ℕ
+spaced n F at zero = []
+spaced n F at (suc k) = getD F at 0 ∷ spaced n F (at + n) k
+
+-- Of the parts behind the first: the same coefficients, n places further on.
+spaced-drop : (n : ℕ) (F : List ℕ) (at k : ℕ) → spaced n (drop n F) at k ≡ spaced n F (at + n) k
+spaced-drop n F at zero = refl
+spaced-drop n F at (suc k) =
+    ap₂ _∷_ (getD-drop n F at 0 ∙ ap (λ z. getD F z 0) (omega arith)) (spaced-drop n F (at + n) k)
+
 module _ (p : ℕ) (x : ℕ) where
-  -- A coefficient with none above it stands for itself.
-  pub alone : (c : ℕ) → c < p → add p c (mul p x 0) ≡ c
-  alone c small = ap (add p c) (mul-zero p x) ∙ add-zero p c ∙ mod-eq-of-lt small
-
-  -- The value of two coefficients.
-  pub value-pair : (f : List ℕ) → length f ≡ 2 → Residues p f → add p (getD f 0 0) (mul p x (getD f 1 0)) ≡ value p f x
-  value-pair [] l r = absurd (omega arith)
-  value-pair (a ∷ []) l r = absurd (omega arith)
-  value-pair (a ∷ b ∷ []) l r = ap (λ z. add p a (mul p x z)) (sym (alone b (r .1 .0)))
-  value-pair (a ∷ b ∷ c ∷ f) l r = absurd (omega arith)
-
-  -- By Horner's rule.
-  abbrev spaced : ℕ → List ℕ → ℕ → ℕ → ℕ
-  spaced n F at zero = 0
-  spaced n F at (suc k) = add p (getD F at 0) (mul p x (spaced n F (at + n) k))
-
-  -- Of the parts behind the first: the same coefficients, n places further on.
-  spaced-drop : (n : ℕ) (F : List ℕ) (at k : ℕ) → spaced n (drop n F) at k ≡ spaced n F (at + n) k
-  spaced-drop n F at zero = refl
-  spaced-drop n F at (suc k) =
-      ap₂ (λ c z. add p c (mul p x z)) (getD-drop n F at 0 ∙ ap (λ z. getD F z 0) (omega arith)) (spaced-drop n F (at + n) k)
-
   -- A number of the column.
-  entry : (k n : ℕ) (F : List ℕ) (v : ℕ) → length F ≡ k * n → v < n → getD (column p k n F x) v 0 ≡ spaced n F v k
+  entry : (k n : ℕ) (F : List ℕ) (v : ℕ) → length F ≡ k * n → v < n → getD (column p k n F x) v 0 ≡ value p (spaced n F v k) x
   entry zero n F v l h = getD-zeros [] n v
   entry (suc k) n F v l h =
       getD-zip (λ c d. add p c (mul p x d)) (take n F) (column p k n (drop n F) x) v
       (omega (arith, front p k n F l)) (omega (arith, length-column p k n (drop n F) x (back p k n F l)))
-      ∙ ap₂ (λ c z. add p c (mul p x z)) (getD-take n F v 0 h) (entry k n (drop n F) v (back p k n F l) h ∙ spaced-drop n F v k)
+      ∙ ap₂ (λ c z. add p c (mul p x z)) (getD-take n F v 0 h)
+      (entry k n (drop n F) v (back p k n F l) h ∙ ap (λ f. value p f x) (spaced-drop n F v k))
 
-  -- A column of two numbers, of three, of four.
-  pub column-two : (F : List ℕ) (v : ℕ) → length F ≡ 4 → v < 2 → Residues p F
-      → add p (getD F v 0) (mul p x (getD F (v + 2) 0)) ≡ getD (column p 2 2 F x) v 0
-  column-two F v l h residues =
-      sym (entry 2 2 F v l h
-      ∙ ap (λ z. add p (getD F v 0) (mul p x z)) (alone (getD F (v + 2) 0) (all-getD (λ c. c < p) F (v + 2) 0 (omega arith) residues)))
+  pub column-two : (F : List ℕ) (v : ℕ) → length F ≡ 4 → v < 2
+      → value p (getD F v 0 ∷ getD F (v + 2) 0 ∷ []) x ≡ getD (column p 2 2 F x) v 0
+  column-two F v l h = sym (entry 2 2 F v l h)
 
   pub column-three : (F : List ℕ) (v : ℕ) → length F ≡ 9 → v < 3
-      → cubicValue p (getD F v 0) (getD F (v + 3) 0) (getD F (v + 6) 0) 0 x ≡ getD (column p 3 3 F x) v 0
+      → value p (getD F v 0 ∷ getD F (v + 3) 0 ∷ getD F (v + 6) 0 ∷ []) x ≡ getD (column p 3 3 F x) v 0
   column-three F v l h =
       let there : v + 3 + 3 ≡ v + 6 = omega arith in
-      sym (entry 3 3 F v l h ∙ ap (λ z. cubicValue p (getD F v 0) (getD F (v + 3) 0) (getD F z 0) 0 x) there)
+      sym (entry 3 3 F v l h ∙ ap (λ z. value p (getD F v 0 ∷ getD F (v + 3) 0 ∷ getD F z 0 ∷ []) x) there)
 
-  pub column-four : (F : List ℕ) (v : ℕ) → length F ≡ 16 → v < 4 → Residues p F
-      → cubicValue p (getD F v 0) (getD F (v + 4) 0) (getD F (v + 8) 0) (getD F (v + 12) 0) x ≡ getD (column p 4 4 F x) v 0
-  column-four F v l h residues =
+  pub column-four : (F : List ℕ) (v : ℕ) → length F ≡ 16 → v < 4
+      → value p (getD F v 0 ∷ getD F (v + 4) 0 ∷ getD F (v + 8) 0 ∷ getD F (v + 12) 0 ∷ []) x ≡ getD (column p 4 4 F x) v 0
+  column-four F v l h =
       let second : v + 4 + 4 ≡ v + 8 = omega arith in
       let third : v + 4 + 4 + 4 ≡ v + 12 = omega arith in
-      let small : getD F (v + 4 + 4 + 4) 0 < p = all-getD (λ c. c < p) F (v + 4 + 4 + 4) 0 (omega arith) residues in
       sym (entry 4 4 F v l h
-      ∙ ap (λ z. cubicValue p (getD F v 0) (getD F (v + 4) 0) (getD F (v + 4 + 4) 0) z x) (alone (getD F (v + 4 + 4 + 4) 0) small)
-      ∙ ap₂ (λ a b. cubicValue p (getD F v 0) (getD F (v + 4) 0) (getD F a 0) (getD F b 0) x) second third)
+      ∙ ap₂ (λ a b. value p (getD F v 0 ∷ getD F (v + 4) 0 ∷ getD F a 0 ∷ getD F b 0 ∷ []) x) second third)

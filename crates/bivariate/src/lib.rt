@@ -4,7 +4,7 @@ ghost use lib.Dec.{eqb};
 ghost use lib.ListN.{length, getD};
 ghost use Prim.Native.Nat.{_*_, _≤_, _<_};
 ghost use Rattle.field.specs.Modulus.{primeOf};
-ghost use Rattle.polynomial.specs.Polynomial.{Residues, value};
+ghost use Rattle.polynomial.specs.Polynomial.{Residues};
 ghost use Rattle.bivariate.specs.Bivariate.{plusTimes, column, rowIn, columnIn};
 use field::Width;
 
@@ -21,17 +21,6 @@ fn is_square(len: usize, n: usize) -> bool
     len / n == n
 }
 
-// The value of a part at y. That of two coefficients is one product and one sum, which are reduced quicker than a cubic's.
-fn part_value(w: Width, part: &[u32], y: u32) -> u32
-    requires { ⌜ Residues (primeOf w) (now part) × (y < primeOf w) × (length (now part) ≤ 4) ⌝ }
-    ensures { λ r. ⌜ r ≡ value (primeOf w) (now (part .entry)) y ⌝ }
-{
-    if part.len() == 2 {
-        return field::mul_add(w, y, part[1], part[0]);
-    }
-    polynomial::value(w, part, y)
-}
-
 // The coefficients of F(X, y), written into a lent part as long as the row. F of another size leaves it alone.
 pub fn row(w: Width, f: &[u32], y: u32, out: &mut [u32])
     requires { ⌜ Residues (primeOf w) (now f) × (y < primeOf w) × (length (now out) ≤ 4) ⌝ }
@@ -44,7 +33,8 @@ pub fn row(w: Width, f: &[u32], y: u32, out: &mut [u32])
     let mut u = 0;
     let mut at = 0;
     while u < n {
-        out[u] = part_value(w, &f[at..at + n], y);
+        let part = polynomial::divided_at_once(w, &f[at..at + n], y);
+        out[u] = part.value;
         at += n;
         u += 1;
     }
@@ -91,19 +81,22 @@ fn by_parts(w: Width, f: &[u32], x: u32, out: &mut [u32])
     }
 }
 
-// The coefficient of Y^v in F(x, Y) of few by few: the value at x of those that stand n apart from place v on, by one reduction.
+// The coefficient of Y^v in F(x, Y) of few by few: the value at x of those that stand n apart from place v on.
 fn column_value(w: Width, f: &[u32], n: usize, v: usize, x: u32) -> u32
     requires { ⌜ (1 < n) × (n ≤ 4) × (length (now f) ≡ n * n) × (v < n) ⌝ }
     requires { ⌜ Residues (primeOf w) (now f) × (x < primeOf w) ⌝ }
     ensures { λ r. ⌜ r ≡ getD (column (primeOf w) n n (now (f .entry)) x) v 0 ⌝ }
 {
     if n == 4 {
-        return field::cubic_value(w, f[v], f[v + 4], f[v + 8], f[v + 12], x);
+        let four = polynomial::divided_at_once(w, &[f[v], f[v + 4], f[v + 8], f[v + 12]], x);
+        return four.value;
     }
     if n == 2 {
-        return field::mul_add(w, x, f[v + 2], f[v]);
+        let two = polynomial::divided_at_once(w, &[f[v], f[v + 2]], x);
+        return two.value;
     }
-    field::cubic_value(w, f[v], f[v + 3], f[v + 6], 0, x)
+    let three = polynomial::divided_at_once(w, &[f[v], f[v + 3], f[v + 6]], x);
+    three.value
 }
 
 // The coefficients of F(x, Y) of few by few, value by value.

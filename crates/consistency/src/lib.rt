@@ -29,7 +29,9 @@ pub fn sound(w: Width, table: &[u32], i: u8, row: &[u32], column: &[u32]) -> boo
         return false;
     }
     let point = tables::point_at(table, i);
-    polynomial::value(w, row, point) == polynomial::value(w, column, point)
+    let own_row = polynomial::divided_at_once(w, row, point);
+    let own_column = polynomial::divided_at_once(w, column, point);
+    own_row.value == own_column.value
 }
 
 // Party i's pair for party j: for itself, or with an unsound deal, nothing is sent.
@@ -50,9 +52,12 @@ pub fn pair_for(w: Width, table: &[u32], i: u8, row: &[u32], column: &[u32], j: 
         };
     }
     let point = tables::point_at(table, j);
-    let first = polynomial::value(w, row, point);
-    let second = polynomial::value(w, column, point);
-    Pair { first, second }
+    let first = polynomial::divided_at_once(w, row, point);
+    let second = polynomial::divided_at_once(w, column, point);
+    Pair {
+        first: first.value,
+        second: second.value,
+    }
 }
 
 // Whether party i, whose deal is sound, has a one for party j, which said these two numbers.
@@ -74,10 +79,12 @@ fn confirms(
         return false;
     }
     let point = tables::point_at(table, j);
-    if first != polynomial::value(w, column, point) {
+    let own_column = polynomial::divided_at_once(w, column, point);
+    if first != own_column.value {
         return false;
     }
-    second == polynomial::value(w, row, point)
+    let own_row = polynomial::divided_at_once(w, row, point);
+    second == own_row.value
 }
 
 // The parties that party i, whose deal is sound, has a one for.

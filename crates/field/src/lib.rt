@@ -64,13 +64,13 @@ fn less_once(v: u64) -> u32
     (v - 2147483647) as u32
 }
 
-// The residue of a number: the narrow divisor is a constant, so nothing is divided; for the wide one a number is folded.
+// The residue of a number: either divisor is a constant, so nothing is divided.
 fn reduced(w: Width, v: u64) -> u32
     ensures { λ r. ⌜ (r ≡ v % primeOf w) × (r < primeOf w) ⌝ }
 {
     match w {
         Width::Narrow => (v % 65521) as u32,
-        Width::Wide => less_once(folded(folded(v))),
+        Width::Wide => (v % 2147483647) as u32,
     }
 }
 
@@ -146,14 +146,15 @@ fn cubic_sum(w: Width, a: u32, b: u32, c: u32, d: u32, x: u32) -> u64
     }
 }
 
-// a + b x + c x² + d x³ by one reduction, and behind it the quotient by X − x, three coefficients: Horner's values on the way. Nothing that
-// makes the value waits for them.
+// a + b x + c x² + d x³ by one reduction, and behind it the three coefficients of the quotient by X − x, Horner's values on the way, which
+// the value does not wait for. A caller of the value alone pays for no more: a compiler writes this out there and drops the rest.
 pub fn cubic_divided(w: Width, a: u32, b: u32, c: u32, d: u32, x: u32) -> [u32; 4]
     requires { ⌜ (a < primeOf w) × (b < primeOf w) × (c < primeOf w) × (d < primeOf w) × (x < primeOf w) ⌝ }
     ensures { λ r. ⌜ r ≡ cubicScheme (primeOf w) a b c d x ⌝ }
 {
-    let middle = mul_add(w, x, d, c);
-    let low = mul_add(w, x, middle, b);
+    let by = x as u64;
+    let middle = reduced(w, by * d as u64 + c as u64);
+    let low = reduced(w, by * middle as u64 + b as u64);
     [reduced(w, cubic_sum(w, a, b, c, d, x)), low, middle, d]
 }
 

@@ -13,10 +13,7 @@ use Rattle.field.specs.Arithmetic.{add, mul, cubicValue, cubicScheme}
 use Rattle.polynomial.specs.declared.Scheme.{Scheme}
 use Rattle.polynomial.specs.Polynomial.{Residues, value, quotient, schemeOf}
 use Rattle.polynomial.proofs.Division.{value-lt, value-alone, value-cubic, value-zeros}
-
--- A value and a quotient.
-abbrev pub both : ℕ → List ℕ → Scheme
-both v q = record { value = v; quotient = q }
+use Rattle.polynomial.proofs.Schemes.{both}
 
 -- The four numbers of a cubic's scheme, as this one's.
 abbrev pub fromFour : List ℕ → Scheme

@@ -1,9 +1,10 @@
 -- Horner's scheme written place by place, from the end: place k of the quotient holds the value of the coefficients behind k.
---   place                       the coefficient of X^k in the quotient
---   Written                     from place i on the quotient is written, and 0 stands before it
---   written-start, written-next, written-end   the start, a turn and the end of the loop
+--   both v q     a value and a quotient
+--   place        the coefficient of X^k in the quotient
+--   last-value, one-more   the value of the last coefficient, and of one more before those from i on
+--   Written      from place i on the quotient is written, and 0 stands before it; with the start, a turn and the end of the loop
 use mathlib.Core.Path.{_≡_, refl, sym, ap, _∙_}
-use mathlib.Core.List.{List, [], _∷_, _++_}
+use mathlib.Core.List.{List, [], _∷_}
 use Prim.Native.Nat.{ℕ, zero, suc, _+_, _-_, _<_, _≤_}
 use native.Mathlib.Decide.{ℕ-discrete}
 use native.Mathlib.Omega.{arith}
@@ -14,8 +15,12 @@ use Rattle.lists.proofs.All.{all-getD}
 use Rattle.lists.proofs.InPlace.{drop-end, drop-next, drop-back}
 use Rattle.lists.proofs.Padded.{getD-zeros}
 use Rattle.field.specs.Arithmetic.{add, mul}
+use Rattle.polynomial.specs.declared.Scheme.{Scheme}
 use Rattle.polynomial.specs.Polynomial.{Residues, value, quotient}
 use Rattle.polynomial.proofs.Division.{value-alone, length-quotient}
+
+abbrev pub both : ℕ → List ℕ → Scheme
+both v q = record { value = v; quotient = q }
 
 module _ (p : ℕ) (x : ℕ) where
   pub place : (f : List ℕ) (k : ℕ) → getD (quotient p f x) k 0 ≡ value p (drop (suc k) f) x
@@ -24,7 +29,6 @@ module _ (p : ℕ) (x : ℕ) where
   place (c ∷ d ∷ f) zero = refl
   place (c ∷ d ∷ f) (suc k) = place (d ∷ f) k
 
-  -- The value of the last coefficient, and of one more before those from i on.
   pub last-value : (f : List ℕ) → Residues p f → 0 < length f → getD f (length f - 1) 0 ≡ value p (drop (length f - 1) f) x
   last-value f r h =
       let i : ℕ = length f - 1 in

@@ -43,31 +43,13 @@ pub fn coefficient(f: &[u32], k: usize) -> u32
     f[k]
 }
 
-// Longer ones, by Horner's rule from the last coefficient on: the value of those behind a place is the quotient's coefficient there.
-fn divided_by_turns(w: Width, f: &[u32], x: u32) -> Scheme
-    requires { ⌜ Residues (primeOf w) (now f) × (x < primeOf w) × (0 < length (now f)) × (length (now f) ≤ 11) ⌝ }
-    ensures { λ r. ⌜ r ≡ schemeOf (primeOf w) (now (f .entry)) x ⌝ }
-{
-    let mut quotient = [0u32; 11];
-    let mut i = f.len() - 1;
-    let mut value = f[i];
-    while 0 < i {
-        i -= 1;
-        quotient[i] = value;
-        value = field::mul_add(w, x, value, f[i]);
-    }
-    Scheme { value, quotient }
-}
-
-// f divided by X − x: the value at x, which is the remainder, and the quotient. Rows and columns have at most four coefficients: these need
-// no loop, and their value one reduction, that of two a quicker one. Where a caller takes the value alone, a compiler leaves out the rest.
-pub fn divided(w: Width, f: &[u32], x: u32) -> Scheme
-    requires { ⌜ Residues (primeOf w) (now f) × (x < primeOf w) × (length (now f) ≤ 11) ⌝ }
+// f divided by X − x: the value at x, which is the remainder, and the quotient. At most four coefficients, as rows and columns have, need
+// no loop, and their value one reduction, that of two a quicker one. This is so small that a compiler writes it out where it is called,
+// and drops the quotient where nobody asks for it; with a way for more coefficients in it, it would be called, and twice as slow.
+pub fn divided_at_once(w: Width, f: &[u32], x: u32) -> Scheme
+    requires { ⌜ Residues (primeOf w) (now f) × (x < primeOf w) × (length (now f) ≤ 4) ⌝ }
     ensures { λ r. ⌜ (r ≡ schemeOf (primeOf w) (now (f .entry)) x) × (r .value < primeOf w) ⌝ }
 {
-    if 4 < f.len() {
-        return divided_by_turns(w, f, x);
-    }
     if f.len() == 2 {
         return Scheme {
             value: field::mul_add(w, x, f[1], f[0]),
@@ -86,4 +68,31 @@ pub fn divided(w: Width, f: &[u32], x: u32) -> Scheme
         value: g[0],
         quotient: [g[1], g[2], g[3], 0, 0, 0, 0, 0, 0, 0, 0],
     }
+}
+
+// More coefficients, by Horner's rule from the last one on: the value of those behind a place is the quotient's coefficient there.
+fn divided_by_turns(w: Width, f: &[u32], x: u32) -> Scheme
+    requires { ⌜ Residues (primeOf w) (now f) × (x < primeOf w) × (0 < length (now f)) × (length (now f) ≤ 11) ⌝ }
+    ensures { λ r. ⌜ (r ≡ schemeOf (primeOf w) (now (f .entry)) x) × (r .value < primeOf w) ⌝ }
+{
+    let mut quotient = [0u32; 11];
+    let mut i = f.len() - 1;
+    let mut value = f[i];
+    while 0 < i {
+        i -= 1;
+        quotient[i] = value;
+        value = field::mul_add(w, x, value, f[i]);
+    }
+    Scheme { value, quotient }
+}
+
+// f divided by X − x where f may have more coefficients than a row: up to eleven.
+pub fn divided(w: Width, f: &[u32], x: u32) -> Scheme
+    requires { ⌜ Residues (primeOf w) (now f) × (x < primeOf w) × (length (now f) ≤ 11) ⌝ }
+    ensures { λ r. ⌜ (r ≡ schemeOf (primeOf w) (now (f .entry)) x) × (r .value < primeOf w) ⌝ }
+{
+    if f.len() <= 4 {
+        return divided_at_once(w, f, x);
+    }
+    divided_by_turns(w, f, x)
 }

@@ -1,12 +1,13 @@
 -- `bivariate::column_value` meets its contract: coefficients that stand n apart, of two, three or four by as many.
 use mathlib.Core.Path.{_≡_, sym, ap, ap₂, _∙_}
-use Prim.Native.Nat.{ℕ, _+_, _*_, _<_}
+use Prim.Native.Nat.{ℕ, _*_, _<_}
 use native.Mathlib.Omega.{arith}
+use lib.Dec.{lit≤}
 use lib.ListN.{length, getD}
 use borrow.Author.Needs.{needs}
 use Rattle.lists.proofs.All.{all-getD}
 use Rattle.field.specs.Modulus.{primeOf}
-use Rattle.field.proofs.Primes.{positive}
+use Rattle.polynomial.specs.declared.Scheme.{Scheme}
 use Rattle.bivariate.specs.Bivariate.{column}
 use Rattle.bivariate.proofs.Spaced.{column-two, column-three, column-four}
 use Rattle.bivariate.proofs.column_value.Statement.{statement}
@@ -28,172 +29,190 @@ of-n s k e = let a = s .args in ap (λ z. getD (column (primeOf (a .w)) z z (a .
 three : (t : tie.Else2) → t .before .before .before .args .n ≡ 3
 three t = let s = t .before .before .before in omega (arith, s .pre .0 .0, s .pre .0 .1)
 
-mul-cubic-value : tie.Need-mul-cubic-value
-mul-cubic-value c = search needs
+mul-t11 : tie.Need-mul-t11
+mul-t11 c = search needs
 
-shared-slice-read-cubic-value : tie.Need-shared-slice-read-cubic-value
-shared-slice-read-cubic-value c = omega (arith, size (c .before .before .before) 4 (c .before .if1 .taken))
+shared-slice-read-t13 : tie.Need-shared-slice-read-t13
+shared-slice-read-t13 c =
+    let t = c .before in omega (arith, size (t .before .before) 4 (t .if1 .taken))
 
-add-cubic-value : tie.Need-add-cubic-value
-add-cubic-value c = search needs
+add-t14 : tie.Need-add-t14
+add-t14 c = search needs
 
-mul-cubic-value-2 : tie.Need-mul-cubic-value-2
-mul-cubic-value-2 c = search needs
+mul-t15 : tie.Need-mul-t15
+mul-t15 c = search needs
 
-shared-slice-read-cubic-value-2 : tie.Need-shared-slice-read-cubic-value-2
-shared-slice-read-cubic-value-2 c = omega (arith, size (c .before .before .before .before) 4 (c .before .before .if1 .taken))
+shared-slice-read-t17 : tie.Need-shared-slice-read-t17
+shared-slice-read-t17 c =
+    let t = c .before .before in omega (arith, size (t .before .before) 4 (t .if1 .taken))
 
-add-cubic-value-2 : tie.Need-add-cubic-value-2
-add-cubic-value-2 c = search needs
+add-t18 : tie.Need-add-t18
+add-t18 c = search needs
 
-mul-cubic-value-3 : tie.Need-mul-cubic-value-3
-mul-cubic-value-3 c = search needs
+mul-t19 : tie.Need-mul-t19
+mul-t19 c = search needs
 
-shared-slice-read-cubic-value-3 : tie.Need-shared-slice-read-cubic-value-3
-shared-slice-read-cubic-value-3 c =
-    let t = c .before .before .before .if1 .taken in omega (arith, size (c .before .before .before .before .before) 4 t)
+shared-slice-read-t21 : tie.Need-shared-slice-read-t21
+shared-slice-read-t21 c =
+    let t = c .before .before .before in omega (arith, size (t .before .before) 4 (t .if1 .taken))
 
-add-cubic-value-3 : tie.Need-add-cubic-value-3
-add-cubic-value-3 c = search needs
+add-t22 : tie.Need-add-t22
+add-t22 c = search needs
 
-mul-cubic-value-4 : tie.Need-mul-cubic-value-4
-mul-cubic-value-4 c = search needs
+mul-t23 : tie.Need-mul-t23
+mul-t23 c = search needs
 
-shared-slice-read-cubic-value-4 : tie.Need-shared-slice-read-cubic-value-4
-shared-slice-read-cubic-value-4 c =
-    let t = c .before .before .before .before .if1 .taken in omega (arith, size (c .before .before .before .before .before .before) 4 t)
+shared-slice-read-t25 : tie.Need-shared-slice-read-t25
+shared-slice-read-t25 c =
+    let t = c .before .before .before .before in omega (arith, size (t .before .before) 4 (t .if1 .taken))
 
-cubic-value-requires : tie.Need-cubic-value-requires
-cubic-value-requires c κs =
-    let t = c .before .before .before .before in
+slice-aggregate-divided-at-once : tie.Need-slice-aggregate-divided-at-once
+slice-aggregate-divided-at-once c = search needs
+
+divided-at-once-requires : tie.Need-divided-at-once-requires
+divided-at-once-requires c κs =
+    let t = c .before .before .before .before .before in
     let s = t .before .before in
-    let v = s .args .v in
     let h = size s 4 (t .if1 .taken) in (
-      small s v (omega (arith, h)),
-      small s (v + 4) (omega (arith, h)),
-      small s (v + 8) (omega (arith, h)),
-      small s (v + 12) (omega (arith, h)),
+      (small s _ (omega (arith, h)), (small s _ (omega (arith, h)), (small s _ (omega (arith, h)), (small s _ (omega (arith, h)), tt)))),
       s .pre .1 .1,
+      lit≤ tt,
     )
 
 returns : tie.Need-returns
 returns c =
-    let t = c .before .before .before .before .before in
+    let t = c .before .before .before .before .before .before in
     let s = t .before .before in
     let a = s .args in
     let h = size s 4 (t .if1 .taken) in
-    c .cubic-value .ensures .0 ∙ column-four (primeOf (a .w)) (a .x) (a .f .now) (a .v) (h .0) (h .1) (s .pre .1 .0)
+    ap (λ (r : Scheme). r .value) (c .divided-at-once .ensures .0)
+    ∙ column-four (primeOf (a .w)) (a .x) (a .f .now) (a .v) (h .0) (h .1)
     ∙ of-n s 4 (t .if1 .taken)
 
-add-mul-add : tie.Need-add-mul-add
-add-mul-add c = search needs
+mul-t29 : tie.Need-mul-t29
+mul-t29 c = search needs
 
-mul-mul-add : tie.Need-mul-mul-add
-mul-mul-add c = search needs
+shared-slice-read-t31 : tie.Need-shared-slice-read-t31
+shared-slice-read-t31 c =
+    let t = c .before in omega (arith, size (t .before .before .before) 2 (t .if2 .taken))
 
-shared-slice-read-mul-add : tie.Need-shared-slice-read-mul-add
-shared-slice-read-mul-add c = omega (arith, size (c .before .before .before .before) 2 (c .before .if2 .taken))
+add-t32 : tie.Need-add-t32
+add-t32 c = search needs
 
-mul-mul-add-2 : tie.Need-mul-mul-add-2
-mul-mul-add-2 c = search needs
+mul-t33 : tie.Need-mul-t33
+mul-t33 c = search needs
 
-shared-slice-read-mul-add-2 : tie.Need-shared-slice-read-mul-add-2
-shared-slice-read-mul-add-2 c = omega (arith, size (c .before .before .before .before .before) 2 (c .before .before .if2 .taken))
+shared-slice-read-t35 : tie.Need-shared-slice-read-t35
+shared-slice-read-t35 c =
+    let t = c .before .before in omega (arith, size (t .before .before .before) 2 (t .if2 .taken))
 
-mul-add-requires : tie.Need-mul-add-requires
-mul-add-requires c κs =
-    let t = c .before .before in
+slice-aggregate-divided-at-once-2 : tie.Need-slice-aggregate-divided-at-once-2
+slice-aggregate-divided-at-once-2 c = search needs
+
+divided-at-once-requires-2 : tie.Need-divided-at-once-requires-2
+divided-at-once-requires-2 c κs =
+    let t = c .before .before .before in
     let s = t .before .before .before in
-    let v = s .args .v in
-    let h = size s 2 (t .if2 .taken) in
-    (omega (arith, s .pre .1 .1), small s (v + 2) (omega (arith, h)), small s v (omega (arith, h)))
+    let h = size s 2 (t .if2 .taken) in (
+      (small s _ (omega (arith, h)), (small s _ (omega (arith, h)), tt)),
+      s .pre .1 .1,
+      lit≤ tt,
+    )
 
 returns-2 : tie.Need-returns-2
 returns-2 c =
-    let t = c .before .before .before in
+    let t = c .before .before .before .before in
     let s = t .before .before .before in
     let a = s .args in
     let h = size s 2 (t .if2 .taken) in
-    c .mul-add .ensures .0 ∙ column-two (primeOf (a .w)) (a .x) (a .f .now) (a .v) (h .0) (h .1) (s .pre .1 .0)
+    ap (λ (r : Scheme). r .value) (c .divided-at-once2 .ensures .0)
+    ∙ column-two (primeOf (a .w)) (a .x) (a .f .now) (a .v) (h .0) (h .1)
     ∙ of-n s 2 (t .if2 .taken)
 
-mul-cubic-value-5 : tie.Need-mul-cubic-value-5
-mul-cubic-value-5 c = search needs
+mul-t39 : tie.Need-mul-t39
+mul-t39 c = search needs
 
-shared-slice-read-cubic-value-5 : tie.Need-shared-slice-read-cubic-value-5
-shared-slice-read-cubic-value-5 c = omega (arith, size (c .before .before .before .before) 3 (three (c .before)))
+shared-slice-read-t41 : tie.Need-shared-slice-read-t41
+shared-slice-read-t41 c =
+    let t = c .before in omega (arith, size (t .before .before .before) 3 (three t))
 
-add-cubic-value-4 : tie.Need-add-cubic-value-4
-add-cubic-value-4 c = search needs
+add-t42 : tie.Need-add-t42
+add-t42 c = search needs
 
-mul-cubic-value-6 : tie.Need-mul-cubic-value-6
-mul-cubic-value-6 c = search needs
+mul-t43 : tie.Need-mul-t43
+mul-t43 c = search needs
 
-shared-slice-read-cubic-value-6 : tie.Need-shared-slice-read-cubic-value-6
-shared-slice-read-cubic-value-6 c = omega (arith, size (c .before .before .before .before .before) 3 (three (c .before .before)))
+shared-slice-read-t45 : tie.Need-shared-slice-read-t45
+shared-slice-read-t45 c =
+    let t = c .before .before in omega (arith, size (t .before .before .before) 3 (three t))
 
-add-cubic-value-5 : tie.Need-add-cubic-value-5
-add-cubic-value-5 c = search needs
+add-t46 : tie.Need-add-t46
+add-t46 c = search needs
 
-mul-cubic-value-7 : tie.Need-mul-cubic-value-7
-mul-cubic-value-7 c = search needs
+mul-t47 : tie.Need-mul-t47
+mul-t47 c = search needs
 
-shared-slice-read-cubic-value-7 : tie.Need-shared-slice-read-cubic-value-7
-shared-slice-read-cubic-value-7 c =
-    let t = three (c .before .before .before) in omega (arith, size (c .before .before .before .before .before .before) 3 t)
+shared-slice-read-t49 : tie.Need-shared-slice-read-t49
+shared-slice-read-t49 c =
+    let t = c .before .before .before in omega (arith, size (t .before .before .before) 3 (three t))
 
-cubic-value-requires-2 : tie.Need-cubic-value-requires-2
-cubic-value-requires-2 c κs =
-    let t = c .before .before .before in
+slice-aggregate-divided-at-once-3 : tie.Need-slice-aggregate-divided-at-once-3
+slice-aggregate-divided-at-once-3 c = search needs
+
+divided-at-once-requires-3 : tie.Need-divided-at-once-requires-3
+divided-at-once-requires-3 c κs =
+    let t = c .before .before .before .before in
     let s = t .before .before .before in
-    let v = s .args .v in
     let h = size s 3 (three t) in (
-      small s v (omega (arith, h)),
-      small s (v + 3) (omega (arith, h)),
-      small s (v + 6) (omega (arith, h)),
-      positive (s .args .w),
+      (small s _ (omega (arith, h)), (small s _ (omega (arith, h)), (small s _ (omega (arith, h)), tt))),
       s .pre .1 .1,
+      lit≤ tt,
     )
 
 returns-3 : tie.Need-returns-3
 returns-3 c =
-    let t = c .before .before .before .before in
+    let t = c .before .before .before .before .before in
     let s = t .before .before .before in
     let a = s .args in
     let h = size s 3 (three t) in
-    c .cubic-value2 .ensures .0 ∙ column-three (primeOf (a .w)) (a .x) (a .f .now) (a .v) (h .0) (h .1) ∙ of-n s 3 (three t)
+    ap (λ (r : Scheme). r .value) (c .divided-at-once3 .ensures .0)
+    ∙ column-three (primeOf (a .w)) (a .x) (a .f .now) (a .v) (h .0) (h .1)
+    ∙ of-n s 3 (three t)
 
 pub column-value-spec : {M : Type 1} → statement M
 column-value-spec =
     tie.close
     (tie.spec
-    mul-cubic-value
-    shared-slice-read-cubic-value
-    add-cubic-value
-    mul-cubic-value-2
-    shared-slice-read-cubic-value-2
-    add-cubic-value-2
-    mul-cubic-value-3
-    shared-slice-read-cubic-value-3
-    add-cubic-value-3
-    mul-cubic-value-4
-    shared-slice-read-cubic-value-4
-    cubic-value-requires
+    mul-t11
+    shared-slice-read-t13
+    add-t14
+    mul-t15
+    shared-slice-read-t17
+    add-t18
+    mul-t19
+    shared-slice-read-t21
+    add-t22
+    mul-t23
+    shared-slice-read-t25
+    slice-aggregate-divided-at-once
+    divided-at-once-requires
     returns
-    add-mul-add
-    mul-mul-add
-    shared-slice-read-mul-add
-    mul-mul-add-2
-    shared-slice-read-mul-add-2
-    mul-add-requires
+    mul-t29
+    shared-slice-read-t31
+    add-t32
+    mul-t33
+    shared-slice-read-t35
+    slice-aggregate-divided-at-once-2
+    divided-at-once-requires-2
     returns-2
-    mul-cubic-value-5
-    shared-slice-read-cubic-value-5
-    add-cubic-value-4
-    mul-cubic-value-6
-    shared-slice-read-cubic-value-6
-    add-cubic-value-5
-    mul-cubic-value-7
-    shared-slice-read-cubic-value-7
-    cubic-value-requires-2
+    mul-t39
+    shared-slice-read-t41
+    add-t42
+    mul-t43
+    shared-slice-read-t45
+    add-t46
+    mul-t47
+    shared-slice-read-t49
+    slice-aggregate-divided-at-once-3
+    divided-at-once-requires-3
     returns-3)

@@ -5,7 +5,8 @@ use Rattle.bivariate.proofs.Lent.{row-in, row-out}
 use borrow.Author.Tests.{eqb-true, eqb-false, not-true, not-false}
 use Rattle.bivariate.proofs.Loops.{RowLoop, block-residues, row-start, row-bounds, row-next, row-end}
 use Rattle.field.specs.Modulus.{primeOf}
-use mathlib.Core.Path.{sym, _∙_}
+use mathlib.Core.Path.{sym, ap, _∙_}
+use Rattle.polynomial.specs.declared.Scheme.{Scheme}
 use Prim.Native.Nat.{_+_, _-_}
 use lib.ListN.{length, drop, length-take}
 use Rattle.bivariate.proofs.row.Statement.{statement}
@@ -26,23 +27,23 @@ returns c = sym (row-out _ _ _ _ (eqb-false _ _ (sym (c .before .is-square .ensu
 loop-holds : tie.Need-loop-holds Inv-loop μ-loop
 loop-holds c = row-start _ _ _ _ (eqb-true _ _ (sym (c .before .is-square .ensures) ∙ not-false _ (c .if1 .left)))
 
-add-part-value : tie.Need-add-part-value Inv-loop μ-loop
-add-part-value c = omega (arith, row-bounds _ _ _ _ _ _ _ (c .before .loop .inv) (omega arith))
+add-divided-at-once : tie.Need-add-divided-at-once Inv-loop μ-loop
+add-divided-at-once c = omega (arith, row-bounds _ _ _ _ _ _ _ (c .before .loop .inv) (omega arith))
 
-mul-part-value : tie.Need-mul-part-value Inv-loop μ-loop
-mul-part-value c = omega (arith, row-bounds _ _ _ _ _ _ _ (c .before .loop .inv) (omega arith))
+mul-divided-at-once : tie.Need-mul-divided-at-once Inv-loop μ-loop
+mul-divided-at-once c = omega (arith, row-bounds _ _ _ _ _ _ _ (c .before .loop .inv) (omega arith))
 
-sub-part-value : tie.Need-sub-part-value Inv-loop μ-loop
-sub-part-value c = search needs
+sub-divided-at-once : tie.Need-sub-divided-at-once Inv-loop μ-loop
+sub-divided-at-once c = search needs
 
-part-part-value-start : tie.Need-part-part-value-start Inv-loop μ-loop
-part-part-value-start c = omega (arith, row-bounds _ _ _ _ _ _ _ (c .before .loop .inv) (omega arith))
+part-divided-at-once-start : tie.Need-part-divided-at-once-start Inv-loop μ-loop
+part-divided-at-once-start c = omega (arith, row-bounds _ _ _ _ _ _ _ (c .before .loop .inv) (omega arith))
 
-part-part-value-end : tie.Need-part-part-value-end Inv-loop μ-loop
-part-part-value-end c = omega (arith, row-bounds _ _ _ _ _ _ _ (c .before .loop .inv) (omega arith))
+part-divided-at-once-end : tie.Need-part-divided-at-once-end Inv-loop μ-loop
+part-divided-at-once-end c = omega (arith, row-bounds _ _ _ _ _ _ _ (c .before .loop .inv) (omega arith))
 
-part-value-requires : tie.Need-part-value-requires Inv-loop μ-loop
-part-value-requires c κs =
+divided-at-once-requires : tie.Need-divided-at-once-requires Inv-loop μ-loop
+divided-at-once-requires c κs =
     let s = c .before .before .before .before .before .before .before in
     let k = c .before .before .loop in
     let count = k .at + length (s .args .out .now) - k .at in (
@@ -69,7 +70,8 @@ loop-less c = search needs
 loop-again : tie.Need-loop-again Inv-loop μ-loop
 loop-again c =
     let k = c .before .before .before .loop in
-    row-next _ _ _ _ (k .out) (k .u) (k .at) _ (k .inv) (omega arith) (c .part-value .ensures)
+    row-next _ _ _ _ (k .out) (k .u) (k .at) _ (k .inv) (omega arith)
+    (ap (λ (r : Scheme). r .value) (c .divided-at-once .ensures .0))
 
 same-length : tie.Need-same-length Inv-loop μ-loop
 same-length c = search needs
@@ -88,12 +90,12 @@ row-spec =
     is-square-requires
     returns
     loop-holds
-    add-part-value
-    mul-part-value
-    sub-part-value
-    part-part-value-start
-    part-part-value-end
-    part-value-requires
+    add-divided-at-once
+    mul-divided-at-once
+    sub-divided-at-once
+    part-divided-at-once-start
+    part-divided-at-once-end
+    divided-at-once-requires
     mul-out
     slice-write-out
     add-at

@@ -5,6 +5,7 @@ use Prim.Native.Nat.{ℕ, _<_}
 use borrow.Author.Tests.{not-true, not-false}
 use Rattle.field.specs.Modulus.{primeOf}
 use Rattle.field.proofs.Primes.{positive}
+use Rattle.polynomial.specs.declared.Scheme.{Scheme}
 use Rattle.polynomial.specs.Polynomial.{Residues}
 use Rattle.consistency.specs.Deal.{said, sound}
 use Rattle.consistency.proofs.Reports.{at-point, sound-residues, pair-self, pair-unsound, pair-sound}
@@ -59,18 +60,18 @@ both k = let a = start k .args in sound-residues _ (a .table .now) (a .i) (a .ro
 point : (k : tie.After-point-at) → k .point-at .result < primeOf (start k .args .w)
 point k = let s = start k in at-point _ (s .args .table .now) (s .args .j) _ (positive (s .args .w)) (s .pre .0) (k .point-at .ensures)
 
-value-requires : tie.Need-value-requires
-value-requires c κs = (both c .0, point c, start c .pre .1)
+divided-at-once-requires : tie.Need-divided-at-once-requires
+divided-at-once-requires c κs = (both c .0, point c, start c .pre .1)
 
-value-requires-2 : tie.Need-value-requires-2
-value-requires-2 c κs = let k = c .before in (both k .1, point k, start k .pre .2)
+divided-at-once-requires-2 : tie.Need-divided-at-once-requires-2
+divided-at-once-requires-2 c κs = let k = c .before in (both k .1, point k, start k .pre .2)
 
 returns-3 : tie.Need-returns-3
 returns-3 c =
     let k = c .before .before in
     let a = start k .args in
-    ap₂ (λ (a b : ℕ). said (a, b)) (rw (k .point-at .ensures) at (c .before .value .ensures .0))
-    (rw (k .point-at .ensures) at (c .value2 .ensures .0))
+    ap₂ (λ (a b : Scheme). said (a .value, b .value)) (rw (k .point-at .ensures) at (c .before .divided-at-once .ensures .0))
+    (rw (k .point-at .ensures) at (c .divided-at-once2 .ensures .0))
     ∙ ap said
     (pair-sound _ (a .table .now) (a .i) (a .row .now) (a .column .now) (a .j) (λ e. k .before .before .before .if1 .left (sym e))
     (is-sound k))
@@ -87,6 +88,6 @@ pair-for-spec =
     not-sent-requires-4
     returns-2
     point-at-requires
-    value-requires
-    value-requires-2
+    divided-at-once-requires
+    divided-at-once-requires-2
     returns-3)

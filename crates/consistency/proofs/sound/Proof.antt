@@ -6,6 +6,7 @@ use borrow.Author.Tests.{not-true, not-false}
 use lib.Dec.{eqb}
 use Rattle.field.specs.Modulus.{primeOf}
 use Rattle.field.proofs.Primes.{positive}
+use Rattle.polynomial.specs.declared.Scheme.{Scheme}
 use Rattle.polynomial.specs.Polynomial.{residues}
 use Rattle.polynomial.proofs.Below.{residues-facts}
 use Rattle.consistency.proofs.Reports.{at-point, sound-not-row, sound-not-column, sound-crossing}
@@ -47,16 +48,18 @@ columns k = let r = k .before .before in sym (r .residues2 .ensures) ∙ not-fal
 point : (k : tie.After-point-at) → k .point-at .result < primeOf (start k .args .w)
 point k = let s = start k in at-point _ (s .args .table .now) (s .args .i) _ (positive (s .args .w)) (s .pre .0) (k .point-at .ensures)
 
-value-requires : tie.Need-value-requires
-value-requires c κs = (residues-facts _ (start c .args .row .now) (rows c), point c, start c .pre .1)
+divided-at-once-requires : tie.Need-divided-at-once-requires
+divided-at-once-requires c κs = (residues-facts _ (start c .args .row .now) (rows c), point c, start c .pre .1)
 
-value-requires-2 : tie.Need-value-requires-2
-value-requires-2 c κs = let k = c .before in (residues-facts _ (start k .args .column .now) (columns k), point k, start k .pre .2)
+divided-at-once-requires-2 : tie.Need-divided-at-once-requires-2
+divided-at-once-requires-2 c κs =
+    let k = c .before in (residues-facts _ (start k .args .column .now) (columns k), point k, start k .pre .2)
 
 returns-3 : tie.Need-returns-3
 returns-3 c =
-    let k = c .before .before in
-    ap₂ eqb (c .before .value .ensures .0) (c .value2 .ensures .0)
+    let d = c .before .before in
+    let k = d .before .before in
+    ap₂ (λ (a b : Scheme). eqb (a .value) (b .value)) (d .before .divided-at-once .ensures .0) (d .divided-at-once2 .ensures .0)
     ∙ sound-crossing _ _ _ _ _ _ (rows k) (columns k) (k .point-at .ensures)
 
 pub sound-spec : {M : Type 1} → statement M
@@ -68,6 +71,6 @@ sound-spec =
     residues-requires-2
     returns-2
     point-at-requires
-    value-requires
-    value-requires-2
+    divided-at-once-requires
+    divided-at-once-requires-2
     returns-3)

@@ -1,6 +1,5 @@
--- `field::reduced` meets its contract: the divisor is the narrow prime, and twice folded a number is below twice the wide one.
-use mathlib.Core.Path.{ap, _∙_}
-use native.Mathlib.Omega.{arith}
+-- `field::reduced` meets its contract: each divisor is the prime of its width.
+use mathlib.Core.Path.{ap}
 use lib.Dec.{lit<}
 use Rattle.field.specs.Modulus.{primeOf}
 use Rattle.field.proofs.Residues.{chosen}
@@ -17,36 +16,15 @@ cast-result c = search needs
 enum-told-2 : tie.Need-enum-told-2
 enum-told-2 c = search needs
 
-folded-requires : tie.Need-folded-requires
-folded-requires c κs = search needs
-
-folded-requires-2 : tie.Need-folded-requires-2
-folded-requires-2 c κs = search needs
-
-less-once-requires : tie.Need-less-once-requires
-less-once-requires c κs = omega (arith, c .folded2 .ensures .1, c .before .folded .ensures .1)
+cast-result-2 : tie.Need-cast-result-2
+cast-result-2 c = search needs
 
 returns : tie.Need-returns
 returns c = chosen _ 65521 _ (ap primeOf (c .enum-told .given .1)) (lit< tt)
 
 returns-2 : tie.Need-returns-2
-returns-2 c =
-    let a = c .before .before .before .before .before .args in
-    let wide = ap primeOf (c .before .before .before .enum-told2 .given .1) in
-    let k = chosen (primeOf (a .w)) 2147483647 (a .v) wide (lit< tt) in (
-      c .less-once .ensures .0 ∙ c .before .folded2 .ensures .0 ∙ c .before .before .folded .ensures .0 ∙ k .0,
-      omega (arith, wide, c .less-once .ensures .1),
-    )
+returns-2 c = chosen _ 2147483647 _ (ap primeOf (c .enum-told2 .given .1)) (lit< tt)
 
 pub reduced-spec : {M : Type 1} → statement M
 reduced-spec =
-    tie.close
-    (tie.spec
-    enum-told
-    cast-result
-    enum-told-2
-    folded-requires
-    folded-requires-2
-    less-once-requires
-    returns
-    returns-2)
+    tie.close (tie.spec enum-told cast-result enum-told-2 cast-result-2 returns returns-2)

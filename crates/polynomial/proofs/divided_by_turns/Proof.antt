@@ -1,14 +1,13 @@
 -- `polynomial::divided_by_turns` meets its contract. The loop goes from the end: `value` is that of the coefficients from i on, and the
 -- quotient is written from place i on.
-use mathlib.Core.Path.{_≡_, sym, subst, ap₂, _∙_}
-use mathlib.Core.List.{List}
-use Prim.Native.Nat.{ℕ, _-_, _<_, _≤_}
+use mathlib.Core.Path.{_≡_, ap₂, _∙_}
+use Prim.Native.Nat.{ℕ, _-_, _<_}
 use native.Mathlib.Omega.{arith}
 use lib.ListN.{length, getD, drop}
 use Rattle.lists.proofs.All.{all-getD}
 use Rattle.field.specs.Modulus.{primeOf}
 use Rattle.polynomial.specs.Polynomial.{value}
-use Rattle.polynomial.proofs.Schemes.{Written, last-value, one-more, written-start, written-next, written-end}
+use Rattle.polynomial.proofs.Schemes.{both, Written, last-value, one-more, written-start, written-next, written-end}
 use borrow.Author.Needs.{needs}
 use Rattle.polynomial.proofs.divided_by_turns.Statement.{statement}
 use Rattle.polynomial.proofs.divided_by_turns.Tie as tie
@@ -37,8 +36,9 @@ loop-holds : tie.Need-loop-holds Inv-loop μ-loop
 loop-holds c =
     let s = c .before .before in
     let f = s .args .f .now in
+    let x = s .args .x in
     let p = primeOf (s .args .w) in
-    (omega arith, last-value p (s .args .x) f (s .pre .0) (omega arith), small s (length f - 1) (omega arith), written-start p (s .args .x) f)
+    (omega arith, last-value p x f (s .pre .0) (omega arith), small s (length f - 1) (omega arith), written-start p x f)
 
 sub-i-2 : tie.Need-sub-i-2 Inv-loop μ-loop
 sub-i-2 c = search needs
@@ -83,9 +83,10 @@ returns c =
     let k = c .before .loop in
     let f = s .args .f .now in
     let p = primeOf (s .args .w) in
-    let done : k .i ≡ 0 = omega arith in
-    ap₂ (λ (v : ℕ) (q : List ℕ). record { value = v; quotient = q }) (rw done at (k .inv .1))
-    (written-end p (s .args .x) f (k .quotient) (omega arith) (rw done at (k .inv .3)))
+    let done : k .i ≡ 0 = omega arith in (
+      ap₂ both (rw done at (k .inv .1)) (written-end p (s .args .x) f (k .quotient) (omega arith) (rw done at (k .inv .3))),
+      k .inv .2,
+    )
 
 pub divided-by-turns-spec : {M : Type 1} → statement M
 divided-by-turns-spec =

@@ -1,4 +1,4 @@
--- `polynomial::divided` meets its contract: four coefficients are a cubic's, two a line's, and longer ones go by turns.
+-- `polynomial::divided_at_once` meets its contract: four coefficients are a cubic's, with 0 behind fewer, and two a line's.
 use mathlib.Core.Path.{_≡_, sym, subst, _∙_}
 use Prim.Native.Nat.{ℕ, _<_}
 use native.Mathlib.Omega.{arith}
@@ -10,8 +10,8 @@ use Rattle.polynomial.specs.declared.Scheme.{Scheme}
 use Rattle.polynomial.specs.Polynomial.{schemeOf}
 use Rattle.polynomial.proofs.Few.{coefficient-below, scheme-below, scheme-pair, scheme-few}
 use borrow.Author.Needs.{needs}
-use Rattle.polynomial.proofs.divided.Statement.{statement}
-use Rattle.polynomial.proofs.divided.Tie as tie
+use Rattle.polynomial.proofs.divided_at_once.Statement.{statement}
+use Rattle.polynomial.proofs.divided_at_once.Tie as tie
 
 -- The scheme, whose value is a residue.
 with-value : (s : tie.Start) (r : Scheme) → let a = s .args in
@@ -23,12 +23,6 @@ with-value s r e = let a = s .args in (e, scheme-below (primeOf (a .w)) (a .f .n
 small : (s : tie.Start) (k : ℕ) → getD (s .args .f .now) k 0 < primeOf (s .args .w)
 small s k = coefficient-below (primeOf (s .args .w)) (s .args .f .now) k (positive (s .args .w)) (s .pre .0)
 
-divided-by-turns-requires : tie.Need-divided-by-turns-requires
-divided-by-turns-requires c κs = search needs
-
-returns : tie.Need-returns
-returns c = with-value (c .before .before .before) (c .divided-by-turns .result) (c .divided-by-turns .ensures)
-
 shared-slice-read-mul-add : tie.Need-shared-slice-read-mul-add
 shared-slice-read-mul-add c = search needs
 
@@ -36,17 +30,17 @@ shared-slice-read-mul-add-2 : tie.Need-shared-slice-read-mul-add-2
 shared-slice-read-mul-add-2 c = search needs
 
 mul-add-requires : tie.Need-mul-add-requires
-mul-add-requires c κs = let s = c .before .before .before .before .before in (omega (arith, s .pre .1), small s 1, small s 0)
+mul-add-requires c κs = let s = c .before .before .before .before in (omega (arith, s .pre .1), small s _, small s _)
 
 shared-slice-read-t13 : tie.Need-shared-slice-read-t13
 shared-slice-read-t13 c = search needs
 
-returns-2 : tie.Need-returns-2
-returns-2 c =
+returns : tie.Need-returns
+returns c =
     let t = c .before .before .before .before in
-    let s = t .before .before .before in
+    let s = t .before .before in
     with-value s _
-    (scheme-pair (primeOf (s .args .w)) (s .args .f .now) (s .args .x) _ (s .pre .0) (t .if2 .taken) (c .before .mul-add .ensures .0))
+    (scheme-pair (primeOf (s .args .w)) (s .args .f .now) (s .args .x) _ (s .pre .0) (t .if1 .taken) (c .before .mul-add .ensures .0))
 
 coefficient-requires : tie.Need-coefficient-requires
 coefficient-requires c κs = search needs
@@ -62,7 +56,7 @@ coefficient-requires-4 c κs = search needs
 
 cubic-divided-requires : tie.Need-cubic-divided-requires
 cubic-divided-requires c κs =
-    let s = c .before .before .before .before .before .before .before in
+    let s = c .before .before .before .before .before .before in
     let read : (k a : ℕ) → a ≡ getD (s .args .f .now) k 0 → a < primeOf (s .args .w) =
     λ k a e. subst (λ z. z < primeOf (s .args .w)) (sym e) (small s k) in (
       read 0 _ (c .before .before .before .coefficient .ensures),
@@ -84,31 +78,29 @@ array-read-t18 c = search needs
 array-read-t17 : tie.Need-array-read-t17
 array-read-t17 c = search needs
 
-returns-3 : tie.Need-returns-3
-returns-3 c =
-    let s = c .before .before .before .before .before .before .before .before in
+returns-2 : tie.Need-returns-2
+returns-2 c =
+    let s = c .before .before .before .before .before .before .before in
     let p = primeOf (s .args .w) in
     let f = s .args .f .now in
     let read : (a b d e : ℕ) → a ≡ getD f 0 0 → b ≡ getD f 1 0 → d ≡ getD f 2 0 → e ≡ getD f 3 0
     → cubicScheme p a b d e (s .args .x) ≡ cubicScheme p (getD f 0 0) (getD f 1 0) (getD f 2 0) (getD f 3 0) (s .args .x) =
     λ a b d e i j k l. rw (i, j, k, l) in
     with-value s _
-    (scheme-few p f (s .args .x) (c .cubic-divided .result) (positive (s .args .w)) (s .pre .0) (omega arith)
+    (scheme-few p f (s .args .x) (c .cubic-divided .result) (positive (s .args .w)) (s .pre .0) (s .pre .2)
     (c .cubic-divided .ensures
     ∙ read _ _ _ _ (c .before .before .before .before .coefficient .ensures) (c .before .before .before .coefficient2 .ensures)
     (c .before .before .coefficient3 .ensures) (c .before .coefficient4 .ensures)))
 
-pub divided-spec : {M : Type 1} → statement M
-divided-spec =
+pub divided-at-once-spec : {M : Type 1} → statement M
+divided-at-once-spec =
     tie.close
     (tie.spec
-    divided-by-turns-requires
-    returns
     shared-slice-read-mul-add
     shared-slice-read-mul-add-2
     mul-add-requires
     shared-slice-read-t13
-    returns-2
+    returns
     coefficient-requires
     coefficient-requires-2
     coefficient-requires-3
@@ -118,4 +110,4 @@ divided-spec =
     array-read-t19
     array-read-t18
     array-read-t17
-    returns-3)
+    returns-2)
