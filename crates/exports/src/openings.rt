@@ -9,7 +9,7 @@ ghost use Rattle.answers.specs.declared.Refusal.the-variants.{WrongTable};
 ghost use Rattle.answers.specs.Refusals.{lowest};
 ghost use Rattle.tables.specs.Tables.{isTable};
 ghost use Rattle.fit.specs.Opening.{openingOf};
-ghost use Rattle.exports.specs.Exports.{openingLengths, openedIf};
+ghost use Rattle.exports.specs.Exports.{openingLengths, openedIf, openingAt, opening};
 ghost use Rattle.exports.specs.Pieces.{openedBy, Openings};
 use answers::Admission;
 use answers::Decoding;
@@ -17,9 +17,10 @@ use answers::Refusal;
 use answers::also;
 use answers::refusal_number;
 use field::Width;
+use recovery::Decoder;
 
 // What an opening is refused for, with so many shares and, in a table, so many points.
-pub(crate) fn open_lengths(n: u8, t: u8, shares: usize, points: usize) -> Admission
+fn open_lengths(n: u8, t: u8, shares: usize, points: usize) -> Admission
     ensures { λ r. ⌜ r ≡ lowest (openingLengths n t shares points) ⌝ }
 {
     let size = also(Admission::Pass, parties::sizes(n, t), Refusal::WrongSize);
@@ -28,7 +29,7 @@ pub(crate) fn open_lengths(n: u8, t: u8, shares: usize, points: usize) -> Admiss
 }
 
 // The same with a table, the first n numbers of the array, which is looked at behind these.
-pub(crate) fn open_admission(
+fn open_admission(
     w: Width,
     n: u8,
     t: u8,
@@ -78,8 +79,9 @@ fn put_opened(outcome: Decoding, constant: u32, opened: &mut u16) -> u8
     }
 }
 
-// The opening by what is found of its arguments: refused, or what fits the shares by themselves.
-pub(crate) fn opened_by(
+// The opening by what is found of its arguments: refused, or what fits the shares by themselves, found by either decoder.
+fn opened_by(
+    by: Decoder,
     admitted: Admission,
     n: u8,
     t: u8,
@@ -97,7 +99,7 @@ pub(crate) fn opened_by(
             let count = n as usize;
             let mut list = [0u32; 16];
             arrays::widened(shares, &mut list[..count]);
-            let fitted = recovery::published(Width::Narrow, n, t, table, &list[..count]);
+            let fitted = recovery::published(by, Width::Narrow, n, t, table, &list[..count]);
             let outcome = fitted.outcome;
             let coefficients = fitted.coefficients;
             put_opened(outcome, coefficients[0], opened)
@@ -106,7 +108,8 @@ pub(crate) fn opened_by(
 }
 
 // The same of numbers of 32 bits.
-pub(crate) fn opened_wide_by(
+fn opened_wide_by(
+    by: Decoder,
     admitted: Admission,
     n: u8,
     t: u8,
@@ -121,10 +124,59 @@ pub(crate) fn opened_wide_by(
     match admitted {
         Admission::Fail(why) => refusal_number(why),
         Admission::Pass => {
-            let fitted = recovery::published(Width::Wide, n, t, table, shares);
+            let fitted = recovery::published(by, Width::Wide, n, t, table, shares);
             let outcome = fitted.outcome;
             let coefficients = fitted.coefficients;
             put_wide_opened(outcome, coefficients[0], opened)
         }
     }
+}
+
+// The opening of shares at the points of a table, by either decoder.
+pub(crate) fn open_with(
+    by: Decoder,
+    n: u8,
+    t: u8,
+    table: &[u16],
+    shares: &[u16],
+    opened: &mut u16,
+) -> u8
+    ensures { λ r. ⌜ (now (opened .exit), r) ≡ openingAt modulus n t (now (table .entry)) (now (shares .entry)) (now (opened .entry)) ⌝ }
+{
+    let points = tables::in_array(n, table);
+    let admitted = open_admission(Width::Narrow, n, t, points, shares.len(), table.len());
+    opened_by(by, admitted, n, t, points, shares, opened)
+}
+
+// The same at the points 1 to n.
+pub(crate) fn open_plain(by: Decoder, n: u8, t: u8, shares: &[u16], opened: &mut u16) -> u8
+    ensures { λ r. ⌜ (now (opened .exit), r) ≡ opening modulus n t (now (shares .entry)) (now (opened .entry)) ⌝ }
+{
+    let admitted = open_lengths(n, t, shares.len(), n as usize);
+    opened_by(by, admitted, n, t, tables::sixteen(), shares, opened)
+}
+
+// With a table, of numbers of 32 bits.
+pub(crate) fn open_wide_with(
+    by: Decoder,
+    n: u8,
+    t: u8,
+    table: &[u32],
+    shares: &[u32],
+    opened: &mut u32,
+) -> u8
+    ensures { λ r. ⌜ (now (opened .exit), r)
+        ≡ openingAt wideModulus n t (now (table .entry)) (now (shares .entry)) (now (opened .entry)) ⌝ }
+{
+    let points = tables::in_array_wide(n, table);
+    let admitted = open_admission(Width::Wide, n, t, points, shares.len(), table.len());
+    opened_wide_by(by, admitted, n, t, points, shares, opened)
+}
+
+// The same at the points 1 to n.
+pub(crate) fn open_wide_plain(by: Decoder, n: u8, t: u8, shares: &[u32], opened: &mut u32) -> u8
+    ensures { λ r. ⌜ (now (opened .exit), r) ≡ opening wideModulus n t (now (shares .entry)) (now (opened .entry)) ⌝ }
+{
+    let admitted = open_lengths(n, t, shares.len(), n as usize);
+    opened_wide_by(by, admitted, n, t, tables::sixteen(), shares, opened)
 }

@@ -28,6 +28,7 @@ use made::made_plain;
 use made::made_with;
 use opening::opened;
 use opening::opened_wide;
+use recovery::Decoder;
 use reporting::heard;
 use reporting::heard_wide;
 use settling::settled;
@@ -206,8 +207,8 @@ impl Lamp {
         }
     }
 
-    // Opens n published shares; the lamp is not changed.
-    pub fn open(self, shares: &[u16]) -> Reply
+    // Opens n published shares, by either decoder, which answer the same; the lamp is not changed.
+    pub fn open_by(self, by: Decoder, shares: &[u16]) -> Reply
         ensures { λ r. ⌜ r ≡ step self (openShares Narrow (now (shares .entry))) ⌝ }
     {
         let party = self.party;
@@ -216,12 +217,12 @@ impl Lamp {
         let admitted = revealing(Width::Narrow, party, stage, shares.len());
         match admitted {
             Admission::Fail(why) => refuse(self, why),
-            Admission::Pass => opened(self, shares),
+            Admission::Pass => opened(by, self, shares),
         }
     }
 
     // The same of numbers of 32 bits.
-    pub fn open_wide(self, shares: &[u32]) -> Reply
+    pub fn open_wide_by(self, by: Decoder, shares: &[u32]) -> Reply
         ensures { λ r. ⌜ r ≡ step self (openShares Wide (now (shares .entry))) ⌝ }
     {
         let party = self.party;
@@ -230,7 +231,21 @@ impl Lamp {
         let admitted = revealing(Width::Wide, party, stage, shares.len());
         match admitted {
             Admission::Fail(why) => refuse(self, why),
-            Admission::Pass => opened_wide(self, shares),
+            Admission::Pass => opened_wide(by, self, shares),
         }
+    }
+
+    // Opens n published shares by trial, which is the quicker way where few lie.
+    pub fn open(self, shares: &[u16]) -> Reply
+        ensures { λ r. ⌜ r ≡ step self (openShares Narrow (now (shares .entry))) ⌝ }
+    {
+        self.open_by(Decoder::Trial, shares)
+    }
+
+    // The same of numbers of 32 bits.
+    pub fn open_wide(self, shares: &[u32]) -> Reply
+        ensures { λ r. ⌜ r ≡ step self (openShares Wide (now (shares .entry))) ⌝ }
+    {
+        self.open_wide_by(Decoder::Trial, shares)
     }
 }

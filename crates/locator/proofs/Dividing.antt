@@ -31,8 +31,7 @@ module _ (p i : ℕ) (E : List ℕ) (some : 0 < length E) where
   pub division-none : (n : ℕ) (q : List ℕ) → n ≡ 0 → length q + 1 ≡ n + length E → Residues p q
       → (replicate 4 0 ≡ pad 4 (division p i E n q .0)) × (take b q ≡ division p i E n q .1) × Residues p q
   division-none n q none l r =
-      let all : length q ≤ b = omega arith in
-      (
+      let all : length q ≤ b = omega arith in (
         rw none refl,
         take-all b q all ∙ sym (ap (λ m. division p i E m q .1) none),
         r,
@@ -80,8 +79,7 @@ module _ (p i : ℕ) (E : List ℕ) (some : 0 < length E) where
         let h-is : h ≡ leading p i E (c ∷ division p i E (n - 1) Q .1) = top ∙ ap (leading p i E) lent in
         let lent-size : length (take (length E) q1) ≡ length E = length-take-le (length E) q1 (second-lent .0) in
         let part-long : length part2 ≡ length E = ap length less ∙ length-zipWith _ E (take (length E) q1) (sym lent-size) ∙ lent-size in
-        let F-size : length (division p i E (n - 1) Q .0) ≡ n - 1 = quotient-size p i E some (n - 1) Q (omega (arith, ap length is)) in
-        (
+        let F-size : length (division p i E (n - 1) Q .0) ≡ n - 1 = quotient-size p i E some (n - 1) Q (omega (arith, ap length is)) in (
           pad-front h (division p i E (n - 1) Q .0) rest (omega arith) (e ∙ ap (λ z. pad 4 (division p i E (n - 1) z .0)) again)
               ∙ ap (λ z. pad 4 (z ∷ division p i E (n - 1) Q .0)) h-is
               ∙ ap (λ o. pad 4 (o .0)) (sym whole-n),

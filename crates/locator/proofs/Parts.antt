@@ -40,8 +40,7 @@ module _ (p x : ℕ) where
       → (take (suc n) (part ++ drop (suc n) l) ≡ raise p x (0 ∷ take n l)) × (length part ≡ suc n)
   raised-front n l part h f e =
       let is : part ≡ raise p x (0 ∷ take n l) = e ∙ ap (λ z. raise p x (0 ∷ z)) f in
-      let size : length (raise p x (0 ∷ take n l)) ≡ suc n = length-raise p x (0 ∷ take n l) ∙ ap suc (h .size) in
-      (
+      let size : length (raise p x (0 ∷ take n l)) ≡ suc n = length-raise p x (0 ∷ take n l) ∙ ap suc (h .size) in (
         back-in-front (suc n) (suc n) l part (raise p x (0 ∷ take n l)) []
             (is ∙ sym (append-nil (raise p x (0 ∷ take n l)))) size,
         ap length is ∙ size,
@@ -56,8 +55,7 @@ module _ (p : ℕ) where
       let rest : List ℕ = drop (length (take (suc n) l) - 1) (take (suc n) l) in
       let is : part ≡ mixed p d (take n l) g m ++ rest = e ∙ ap (λ z. mixed p d z g m ++ rest) f in
       let size : length (mixed p d (take n l) g m) ≡ n = length-mixed p d (take n l) g m ∙ h .size in
-      let all : length (take (suc n) l) ≡ suc n = length-take-le (suc n) l inside in
-      (
+      let all : length (take (suc n) l) ≡ suc n = length-take-le (suc n) l inside in (
         back-in-front (suc n) n l part (mixed p d (take n l) g m) rest is size,
         ap length is ∙ length-append (mixed p d (take n l) g m) rest ∙ omega (arith, length-drop (length (take (suc n) l) - 1) (take (suc n) l)),
       )

@@ -57,8 +57,7 @@ module _ (p : ℕ) (P : Prime p) (xs : List ℕ) (points : Residues p xs) where
     pub rooting-lent : Residues p (front (take (k + 2) out)) × (k + 2 ≤ length out)
     rooting-lent =
         let two : k + 2 ≡ suc (suc k) = omega arith in
-        let inside : suc (suc k) ≤ length out = omega (arith, r .size) in
-        (
+        let inside : suc (suc k) ≤ length out = omega (arith, r .size) in (
           rw two (subst (Residues p) (sym (front-part (suc k) out inside)) (r .roots .poly .residues)),
           omega (arith, r .size),
         )

@@ -121,8 +121,7 @@ module _ (p : ℕ) (P : Prime p) (t : ℕ) (xs ys : List ℕ) (points : Residues
     raised-1 i j =
         let (q, n) = raised-front p x (suc a) q1 q1' (s .pair .one .numerator) front-q1 i in
         let (e, m) = raised-front p x (a - t) e1 e1' (s .pair .one .locator) front-e1 j in
-        let up : suc a - t ≡ suc (a - t) = omega (arith, least) in
-        (
+        let up : suc a - t ≡ suc (a - t) = omega (arith, least) in (
           q,
           ap (λ c. take c back-e1) up ∙ e,
           back-size (suc (suc a)) q1 q1' (omega (arith, s .room-q1, sum)) n ∙ s .room-q1,
@@ -135,8 +134,7 @@ module _ (p : ℕ) (P : Prime p) (t : ℕ) (xs ys : List ℕ) (points : Residues
     raised-2 i j =
         let (q, n) = raised-front p x (suc (b + t)) q2 q2' (s .pair .two .numerator) front-q2 i in
         let (e, m) = raised-front p x (suc b) e2 e2' (s .pair .two .locator) front-e2 j in
-        let up : suc (suc b + t) ≡ suc (suc (b + t)) = omega arith in
-        (
+        let up : suc (suc b + t) ≡ suc (suc (b + t)) = omega arith in (
           ap (λ c. take c back-q2) up ∙ q,
           e,
           back-size (suc (suc (b + t))) q2 q2' (omega (arith, s .room-q2, sum, least)) n ∙ s .room-q2,

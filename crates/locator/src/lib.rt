@@ -81,16 +81,7 @@ fn raise_both(w: Width, x: u32, q: &mut [u32], e: &mut [u32])
 
 // As much of the solution (q, e), which is off by d at the point, is taken from (r, f) that this holds there. Nothing is divided: (r, f) is
 // multiplied by d first.
-fn take_away(
-    w: Width,
-    x: u32,
-    y: u32,
-    d: u32,
-    q: &[u32],
-    e: &[u32],
-    r: &mut [u32],
-    f: &mut [u32],
-)
+fn take_away(w: Width, x: u32, y: u32, d: u32, q: &[u32], e: &[u32], r: &mut [u32], f: &mut [u32])
     requires { ⌜ Short (primeOf w) (now q) × Short (primeOf w) (now e) × Short (primeOf w) (now r) × Short (primeOf w) (now f) ⌝ }
     requires { ⌜ (x < primeOf w) × (y < primeOf w) × (d < primeOf w) ⌝ }
     ensures { λ _. ⌜ now (r .exit) ≡ mixed (primeOf w) d (now (r .entry)) (off (primeOf w) x y (now (r .entry)) (now (f .entry))) (now (q .entry)) ⌝ }
@@ -155,12 +146,28 @@ fn step(
     let x = xs[k];
     let y = ys[k];
     if a <= b + t {
-        if meet(w, x, y, &mut q1[..a + 2], &mut e1[..a - t + 1], &mut q2[..b + t + 2], &mut e2[..b + 2]) {
+        if meet(
+            w,
+            x,
+            y,
+            &mut q1[..a + 2],
+            &mut e1[..a - t + 1],
+            &mut q2[..b + t + 2],
+            &mut e2[..b + 2],
+        ) {
             return a + 1;
         }
         return a;
     }
-    if meet(w, x, y, &mut q2[..b + t + 2], &mut e2[..b + 2], &mut q1[..a + 2], &mut e1[..a - t + 1]) {
+    if meet(
+        w,
+        x,
+        y,
+        &mut q2[..b + t + 2],
+        &mut e2[..b + 2],
+        &mut q1[..a + 2],
+        &mut e1[..a - t + 1],
+    ) {
         return a;
     }
     a + 1
@@ -286,7 +293,13 @@ fn quotient(w: Width, t: usize, degree: usize, numerator: [u32; 12], locator: [u
 {
     let inverse = field::inverse_of(w, locator[degree]);
     let mut rest = numerator;
-    exactly(w, t + 1, inverse, &locator[..degree + 1], &mut rest[..degree + t + 1])
+    exactly(
+        w,
+        t + 1,
+        inverse,
+        &locator[..degree + 1],
+        &mut rest[..degree + t + 1],
+    )
 }
 
 // The answer for a solution: the numerator divided by the locator, if this is of no higher degree than points may be wrong, nothing remains,

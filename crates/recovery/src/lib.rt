@@ -17,6 +17,12 @@ use answers::Fitted;
 use answers::Refusal;
 use field::Width;
 
+// How a polynomial is found: through some points after the other, or by an error locator. The answers are the same.
+pub enum Decoder {
+    Trial,
+    Locator,
+}
+
 // The first n numbers heard, with "not sent" for each party outside the set, first in an array.
 fn heard_from(w: Width, n: u8, set: u16, heard: [u32; 16]) -> [u32; 16]
     requires { ⌜ n ≤ 16 ⌝ }
@@ -37,13 +43,24 @@ fn heard_from(w: Width, n: u8, set: u16, heard: [u32; 16]) -> [u32; 16]
 
 // The polynomial of degree at most t with which at least `least` of the n values agree at the parties' points, and from which at most t of
 // those sent differ, if there is one.
-fn fit_parties(w: Width, n: u8, t: u8, table: [u32; 16], least: usize, values: &[u32]) -> Fitted
+fn fit_parties(
+    by: Decoder,
+    w: Width,
+    n: u8,
+    t: u8,
+    table: [u32; 16],
+    least: usize,
+    values: &[u32],
+) -> Fitted
     requires { ⌜ (n ≤ 16) × (t ≤ 3) × (2 * t + 1 ≤ least) × (length (now values) ≡ n) × IsTable (primeOf w) n (take n table) ⌝ }
     ensures { λ r. ⌜ r ≡ decoded (fit (primeOf w) t (needed t least (sent (primeOf w) (now (values .entry))))
         (take n table) (now (values .entry))) ⌝ }
 {
     let count = n as usize;
-    fit::fit(w, t as usize, least, &table[..count], values)
+    match by {
+        Decoder::Trial => fit::fit(w, t as usize, least, &table[..count], values),
+        Decoder::Locator => locator::fit(w, t as usize, least, &table[..count], values),
+    }
 }
 
 // Whether the set has none but the first n parties.
@@ -73,7 +90,15 @@ pub fn repair(w: Width, n: u8, t: u8, table: [u32; 16], set: u16, heard: [u32; 1
         return answers::refused_fit(Refusal::WrongLength);
     }
     let values = heard_from(w, n, set, heard);
-    fit_parties(w, n, t, table, count - faulty, &values[..n as usize])
+    fit_parties(
+        Decoder::Trial,
+        w,
+        n,
+        t,
+        table,
+        count - faulty,
+        &values[..n as usize],
+    )
 }
 
 // The shares with party i's own in its own place, first in an array.
@@ -90,8 +115,9 @@ fn with_own(i: u8, share: u32, shares: &[u32]) -> [u32; 16]
     list
 }
 
-// The polynomial that the published shares open by themselves, if one does. Refused: a bad size, a share too many or too few.
-pub fn published(w: Width, n: u8, t: u8, table: [u32; 16], shares: &[u32]) -> Fitted
+// The polynomial that the published shares open by themselves, if one does, found by either decoder. Refused: a bad size, a share too many
+// or too few.
+pub fn published(by: Decoder, w: Width, n: u8, t: u8, table: [u32; 16], shares: &[u32]) -> Fitted
     requires { ⌜ IsTable (primeOf w) n (take n table) ⌝ }
     ensures { λ r. ⌜ r ≡ publishedIn (primeOf w) n t (take n table) (now (shares .entry)) ⌝ }
 {
@@ -101,11 +127,12 @@ pub fn published(w: Width, n: u8, t: u8, table: [u32; 16], shares: &[u32]) -> Fi
     if shares.len() != n as usize {
         return answers::refused_fit(Refusal::WrongLength);
     }
-    fit_parties(w, n, t, table, 2 * t as usize + 1, shares)
+    fit_parties(by, w, n, t, table, 2 * t as usize + 1, shares)
 }
 
 // The same with party i's own share in its own place. Refused also: a number that is no party's.
 pub fn opening(
+    by: Decoder,
     w: Width,
     n: u8,
     t: u8,
@@ -128,5 +155,5 @@ pub fn opening(
         return answers::refused_fit(Refusal::WrongLength);
     }
     let values = with_own(i, share, shares);
-    fit_parties(w, n, t, table, 2 * t as usize + 1, &values[..count])
+    fit_parties(by, w, n, t, table, 2 * t as usize + 1, &values[..count])
 }

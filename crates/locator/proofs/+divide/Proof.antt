@@ -62,8 +62,10 @@ divide-divide-requires t c κs =
     let more = c .before .if1 .left in
     let p = primeOf (s .args .w) in (
       omega (arith, s .pre .0),
-      ((omega (arith, all .0), all .1, omega (arith, ap length (lent-rest 1 q), length-drop 1 q, all .2)),
-      (s .pre .1 .1 .0, subst (Residues p) (sym (lent-rest 1 q)) (all-drop (λ c. c < p) 1 q (s .pre .1 .1 .1)), s .pre .1 .1 .2)),
+      (
+        (omega (arith, all .0), all .1, omega (arith, ap length (lent-rest 1 q), length-drop 1 q, all .2)),
+        (s .pre .1 .1 .0, subst (Residues p) (sym (lent-rest 1 q)) (all-drop (λ c. c < p) 1 q (s .pre .1 .1 .1)), s .pre .1 .1 .2),
+      ),
     )
 
 divide-slice-relend-prefix-next-coefficient :

@@ -47,8 +47,7 @@ returns c =
 by-locator-requires : tie.Need-by-locator-requires
 by-locator-requires c κs =
     let n = c .before in
-    let a = s n .pre .0 in
-    (
+    let a = s n .pre .0 in (
       (a .degree, a .bounded, s n .pre .1),
       (omega (arith, counted n, c .if1 .left), omega (arith, must n, a .enough), omega (arith, counted n, must n, a .enough)),
     )

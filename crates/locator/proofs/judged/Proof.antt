@@ -53,14 +53,16 @@ enough-requires c κs =
     let p = primeOf (s .args .w) in
     let fine = quotient-fine _ (s .args .t) (s .args .need) (s .args .spare) (s .args .xs .now) (s .args .ys .now) (s .args .degree) (s .args .numerator) (s .args .locator) (q .before .if1 .left) _ (q .quotient .ensures)
     (not-false _ (c .before .if2 .left)) (s .pre .0 .0) (omega (arith, c .before .before .before .before .if1 .left)) (sizes s .0) (sizes s .1) (positive (s .args .w)) in
-    let f = q .quotient .result .coefficients in
-    (s .pre .0 .2, (
-      all-getD (λ c. c < p) f 0 0 (omega (arith, fine .1)) (fine .0),
-      all-getD (λ c. c < p) f 1 0 (omega (arith, fine .1)) (fine .0),
-      all-getD (λ c. c < p) f 2 0 (omega (arith, fine .1)) (fine .0),
-      all-getD (λ c. c < p) f 3 0 (omega (arith, fine .1)) (fine .0),
-      s .pre .0 .3,
-    ))
+    let f = q .quotient .result .coefficients in (
+      s .pre .0 .2,
+      (
+        all-getD (λ c. c < p) f 0 0 (omega (arith, fine .1)) (fine .0),
+        all-getD (λ c. c < p) f 1 0 (omega (arith, fine .1)) (fine .0),
+        all-getD (λ c. c < p) f 2 0 (omega (arith, fine .1)) (fine .0),
+        all-getD (λ c. c < p) f 3 0 (omega (arith, fine .1)) (fine .0),
+        s .pre .0 .3,
+      ),
+    )
 
 nothing-requires-3 : tie.Need-nothing-requires-3
 nothing-requires-3 c κs = search needs

@@ -1,11 +1,11 @@
--- `exports::doumbaht_open_wide` meets its contract: opened at the points 1 to n.
+-- `exports::openings::open_wide_plain` meets its contract: opened at the points 1 to n.
 use mathlib.Core.Path.{sym, _∙_}
 use native.Mathlib.Omega.{arith}
 use Rattle.field.specs.Modulus.{wideModulus}
 use Rattle.exports.proofs.Opened.{plain-passed, opening-plain}
 use borrow.Author.Needs.{needs}
-use Rattle.exports.proofs.doumbaht_open_wide.Statement.{statement}
-use Rattle.exports.proofs.doumbaht_open_wide.Tie as tie
+use Rattle.exports.proofs.openings.open_wide_plain.Statement.{statement}
+use Rattle.exports.proofs.openings.open_wide_plain.Tie as tie
 
 open-lengths-requires : tie.Need-open-lengths-requires
 open-lengths-requires c κs = search needs
@@ -24,6 +24,6 @@ returns c =
     opening-plain wideModulus _ _ _ (omega arith) _ _ _ _ (o .sixteen .ensures) (o .before .open-lengths .ensures)
     (c .opened-wide-by .ensures)
 
-pub doumbaht-open-wide-spec : {M : Type 1} → statement M
-doumbaht-open-wide-spec =
+pub open-wide-plain-spec : {M : Type 1} → statement M
+open-wide-plain-spec =
     tie.close (tie.spec open-lengths-requires sixteen-requires opened-wide-by-requires returns)

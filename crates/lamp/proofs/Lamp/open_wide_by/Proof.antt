@@ -1,11 +1,11 @@
--- `Lamp::open_wide` meets its contract: refused or not, by its tests.
+-- `Lamp::open_wide_by` meets its contract: refused or not, by its tests.
 use mathlib.Core.Path.{_∙_}
 use Rattle.field.specs.declared.Width.the-variants.{Wide}
 use Rattle.lamp.specs.Lamp.{Call, openShares}
 use Rattle.lamp.proofs.Calls.{refused-by, admitted-by, passed-by}
 use borrow.Author.Needs.{needs}
-use Rattle.lamp.proofs.Lamp.open_wide.Statement.{statement}
-use Rattle.lamp.proofs.Lamp.open_wide.Tie as tie
+use Rattle.lamp.proofs.Lamp.open_wide_by.Statement.{statement}
+use Rattle.lamp.proofs.Lamp.open_wide_by.Tie as tie
 
 abbrev start : tie.After-revealing → tie.Start
 start c = c .before .before .before .before
@@ -16,39 +16,33 @@ call c = openShares Wide (start c .args .shares .now)
 revealing-requires : tie.Need-revealing-requires
 revealing-requires c κs = search needs
 
--- src/lib.rt:232:29
 enum-known-admitted : tie.Need-enum-known-admitted
 enum-known-admitted c = search needs
 
--- src/lib.rt:232:37
 refuse-requires : tie.Need-refuse-requires
 refuse-requires c κs = search needs
 
--- src/lib.rt:233:32
 enum-told : tie.Need-enum-told
 enum-told c = search needs
 
--- src/lib.rt:233:32
 opened-wide-requires : tie.Need-opened-wide-requires
 opened-wide-requires c κs =
     let v = c .before .before in
     let p = passed-by (start v .args .self) (call v) (v .revealing .ensures) (c .enum-told .given .1) in
     (p .0, p .1)
 
--- src/lib.rt:224:5
 returns : tie.Need-returns
 returns c =
     let v = c .before .before .before .before in
     c .refuse .ensures ∙ refused-by (start v .args .self) (call v) (v .revealing .ensures) (c .before .before .admitted .given .1)
 
--- src/lib.rt:224:5
 returns-2 : tie.Need-returns-2
 returns-2 c =
     let v = c .before .before .before in
     c .opened-wide .ensures ∙ admitted-by (start v .args .self) (call v) (v .revealing .ensures) (c .before .enum-told .given .1)
 
-pub open-wide-spec : {M : Type 1} → statement M
-open-wide-spec =
+pub open-wide-by-spec : {M : Type 1} → statement M
+open-wide-by-spec =
     tie.close
     (tie.spec
     revealing-requires
