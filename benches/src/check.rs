@@ -1,15 +1,16 @@
 //! Random questions of every kind and of either prime, asked of all contenders before anything is timed.
 
-use crate::contenders::{dealing, dealing_with, happy, opening, opening_with, repairing, writing};
+use crate::contenders::{dealing, dealing_with, happy, locating, locating_with};
+use crate::contenders::{opening, opening_with, repairing, writing};
 use crate::graphs;
 use crate::inputs::{Dealing, Reports, Tabled};
 use crate::measure::Bench;
 use crate::plain::field::Number;
 use crate::plain::{happy_new, happy_old};
+use crate::points::{any_list, any_size, any_tabled_list, bad_points, raised, sometimes_spoilt};
 use crate::points::{
     any_points, any_shares, any_table, any_tabled_shares, any_unsent_shares, any_unsent_tabled_shares,
 };
-use crate::points::{any_size, bad_points, raised, sometimes_spoilt};
 use crate::proved::Library;
 use crate::records::{any_record, any_unsent_record};
 use crate::rng::Rng;
@@ -45,6 +46,19 @@ fn check_prime<N: Library>(rng: &mut Rng, count: usize, width: &str) -> Result<(
         Box::new(writing("", &title("record, many dark"), many(rng, count / 4, any_unsent_record::<N>))),
     ];
     rows.iter().try_for_each(|row| row.compare())
+}
+
+/// Opens so many random lists of shares by trial and by locator, as the library and as plain Rust do: a quarter of them
+/// for each prime at the points 1 to n, and a quarter with a table.
+pub fn lists(seed: u64, count: usize) -> Result<(), String> {
+    let mut rng = Rng::new(seed);
+    lists_of::<u16>(&mut rng, count / 4, "")?;
+    lists_of::<u32>(&mut rng, count / 4, ", wide")
+}
+
+fn lists_of<N: Library>(rng: &mut Rng, count: usize, width: &str) -> Result<(), String> {
+    locating::<N>("", &format!("random list{width}"), many(rng, count, any_list)).compare()?;
+    locating_with::<N>("", &format!("random list with a table{width}"), many(rng, count, any_tabled_list)).compare()
 }
 
 fn many<I>(rng: &mut Rng, count: usize, any: fn(&mut Rng) -> I) -> Vec<I> {

@@ -7,7 +7,7 @@ use crate::plain::field::Number;
 use crate::plain::lamp::Ways;
 use crate::plain::tables::{is_table, refusal};
 use crate::plain::{deal, differences_once, differences_slopes, text};
-use crate::plain::{fit_groups, fit_newton, fit_now, fit_old, happy_new, happy_now, happy_old};
+use crate::plain::{fit_groups, fit_newton, fit_now, fit_old, happy_new, happy_now, happy_old, locator};
 use crate::proved::{self, Library};
 use crate::{bitset, gao, naive};
 
@@ -161,8 +161,8 @@ pub fn opening<N: Library>(key: &str, title: &str, inputs: Vec<Shares<N>>) -> Ro
         (key, title),
         inputs,
         (0, N::from(0)),
-        N::NOW.open,
-        N::OLD.map(|old| old.open),
+        N::TRIAL.open,
+        N::OLD_TRIAL.map(|old| old.open),
         &[
             (Role::Plain, "plain", |input, out| opened(input, out, fit_now::open)),
             (Role::Special, "Gao", |input, out| opened(input, out, gao::open)),
@@ -172,6 +172,25 @@ pub fn opening<N: Library>(key: &str, title: &str, inputs: Vec<Shares<N>>) -> Ro
             (Role::Version, fit_groups::NAME, |input, out| opened(input, out, fit_groups::open)),
             (Role::Version, differences_slopes::NAME, |input, out| opened(input, out, open_by_slopes)),
             (Role::Version, differences_once::NAME, |input, out| opened(input, out, open_by_one_inverse)),
+            (Role::Version, locator::NAME, |input, out| opened(input, out, locator::open)),
+            (Role::Version, "proved, by locator", N::LOCATOR.open),
+        ],
+    )
+}
+
+/// The same by locator, beside the library's opening by trial.
+pub fn locating<N: Library>(key: &str, title: &str, inputs: Vec<Shares<N>>) -> Row<Shares<N>, (u8, N)> {
+    row(
+        (key, title),
+        inputs,
+        (0, N::from(0)),
+        N::LOCATOR.open,
+        N::OLD_LOCATOR.map(|old| old.open),
+        &[
+            (Role::Plain, "plain", |input, out| opened(input, out, locator::open)),
+            (Role::Special, "Gao", |input, out| opened(input, out, gao::open)),
+            (Role::Trial, "proved, by trial", N::TRIAL.open),
+            (Role::Version, fit_now::NAME, |input, out| opened(input, out, fit_now::open)),
         ],
     )
 }
@@ -198,8 +217,8 @@ pub fn opening_with<N: Library>(key: &str, title: &str, inputs: Openings<N>) -> 
         (key, title),
         inputs,
         (0, N::from(0)),
-        N::NOW.open_with,
-        N::OLD.map(|old| old.open_with),
+        N::TRIAL.open_with,
+        N::OLD_TRIAL.map(|old| old.open_with),
         &[
             (Role::Plain, "plain", |input, out| opened_with(input, out, fit_now::open)),
             (Role::Special, "Gao", |input, out| opened_with(input, out, gao::open)),
@@ -209,6 +228,25 @@ pub fn opening_with<N: Library>(key: &str, title: &str, inputs: Openings<N>) -> 
             (Role::Version, fit_groups::NAME, |input, out| opened_with(input, out, fit_groups::open)),
             (Role::Version, differences_slopes::NAME, |input, out| opened_with(input, out, open_by_slopes)),
             (Role::Version, differences_once::NAME, |input, out| opened_with(input, out, open_by_one_inverse)),
+            (Role::Version, locator::NAME, |input, out| opened_with(input, out, locator::open)),
+            (Role::Version, "proved, by locator", N::LOCATOR.open_with),
+        ],
+    )
+}
+
+/// The same by locator, beside the library's opening by trial.
+pub fn locating_with<N: Library>(key: &str, title: &str, inputs: Openings<N>) -> Row<Tabled<N, Shares<N>>, (u8, N)> {
+    row(
+        (key, title),
+        inputs,
+        (0, N::from(0)),
+        N::LOCATOR.open_with,
+        N::OLD_LOCATOR.map(|old| old.open_with),
+        &[
+            (Role::Plain, "plain", |input, out| opened_with(input, out, locator::open)),
+            (Role::Special, "Gao", |input, out| opened_with(input, out, gao::open)),
+            (Role::Trial, "proved, by trial", N::TRIAL.open_with),
+            (Role::Version, fit_now::NAME, |input, out| opened_with(input, out, fit_now::open)),
         ],
     )
 }

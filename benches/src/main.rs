@@ -31,16 +31,17 @@ const USAGE: &str = "usage: benches [--quick]                     compares and t
        benches rows                             names the rows
        benches ab [ROW..]                       times two libraries, where benches/ab has linked them";
 
-/// So many random questions of each kind, inputs to a row, and how they are timed.
+/// So many random questions of each kind, random lists of shares in all, inputs to a row, and how they are timed.
 struct Plan {
     questions: usize,
+    lists: usize,
     inputs: usize,
     pace: Pace,
 }
 
 // Batches are short, so that on a machine with other work most of them are not interrupted.
-const FULL: Plan = Plan { questions: 8000, inputs: 64, pace: Pace { samples: 501, batch: 2.0e5 } };
-const QUICK: Plan = Plan { questions: 1000, inputs: 16, pace: Pace { samples: 31, batch: 1.0e5 } };
+const FULL: Plan = Plan { questions: 8000, lists: 100_000, inputs: 64, pace: Pace { samples: 501, batch: 2.0e5 } };
+const QUICK: Plan = Plan { questions: 1000, lists: 8000, inputs: 16, pace: Pace { samples: 31, batch: 1.0e5 } };
 
 fn main() -> ExitCode {
     let args: Vec<String> = std::env::args().skip(1).collect();
@@ -50,7 +51,7 @@ fn main() -> ExitCode {
         ["--quick"] => run(&QUICK),
         ["hunt", ref rest @ ..] => hunt(rest),
         ["count", row, who, times] => count(row, who, times),
-        ["rows"] => rows::all(1).iter().try_for_each(|row| say(&format!("{:27} {}", row.key(), row.title()))),
+        ["rows"] => rows::all(1).iter().try_for_each(|row| say(&format!("{:30} {}", row.key(), row.title()))),
         ["ab", ref keys @ ..] => ab::run(keys, FULL.inputs, FULL.pace),
         _ => Err(USAGE.to_string()),
     };
@@ -66,10 +67,12 @@ fn main() -> ExitCode {
 fn run(plan: &Plan) -> Result<(), String> {
     let start = Instant::now();
     let asked = check::check(1, plan.questions)?;
+    check::lists(2, plan.lists)?;
     let (rows, wide) = (rows::narrow(plan.inputs), rows::wide(plan.inputs));
     rows.iter().chain(&wide).try_for_each(|row| row.compare())?;
-    let count = rows.len() + wide.len();
-    say(&format!("All answers agree: {asked} random questions, {count} rows of {} inputs.", plan.inputs))?;
+    let (lists, count, inputs) = (plan.lists, rows.len() + wide.len(), plan.inputs);
+    let both = format!("{lists} random lists of shares opened by trial and by locator");
+    say(&format!("All answers agree: {asked} random questions, {both}, {count} rows of {inputs} inputs."))?;
     say(&format!("Plain Rust finds the happy set by {}; fits by {};", happy_now::NAME, fit_now::NAME))?;
     say(&format!("takes the divided differences of four points by {}.\n", differences_now::NAME))?;
     let misses = measured(&rows, &wide, plan.pace)?;
@@ -80,25 +83,29 @@ fn run(plan: &Plan) -> Result<(), String> {
     say(&format!("Taken in {} s.", start.elapsed().as_secs()))
 }
 
-/// Prints both tables; answers what misses its target. A wide row is timed right after its narrow companion, so that a
+/// Prints the tables; answers what misses its target. A wide row is timed right after its narrow companion, so that a
 /// machine that slows down for a while does so for both.
 fn measured(rows: &[Box<dyn Bench>], wide: &[Box<dyn Bench>], pace: Pace) -> Result<Vec<String>, String> {
-    let (mut lines, mut misses) = (vec![table::wide_head()], Vec::new());
+    let (mut lines, mut ways, mut misses) = (vec![table::wide_head()], vec![table::ways_head()], Vec::new());
     say(&table::head())?;
     for row in rows {
         let times = row.measure(pace, &TIMED);
         say(&table::line(row.title(), &times))?;
+        ways.extend(table::ways_line(row.title(), &times));
         misses.extend(table::misses(row.key(), row.title(), &times));
         let Some(wide) = wide.iter().find(|wide| wide.key() == rows::wide_key(row.key())) else {
             continue;
         };
         let wide_times = wide.measure(pace, &TIMED);
         lines.push(table::wide_line(wide.title(), &times, &wide_times));
+        ways.extend(table::ways_line(wide.title(), &wide_times));
         misses.extend(table::misses(wide.key(), wide.title(), &wide_times));
         misses.extend(table::wide_miss(wide.key(), wide.title(), &times, &wide_times));
     }
-    say("")?;
-    lines.iter().try_for_each(|line| say(line))?;
+    for table in [lines, ways] {
+        say("")?;
+        table.iter().try_for_each(|line| say(line))?;
+    }
     Ok(misses)
 }
 

@@ -4,19 +4,20 @@ use std::fmt::Debug;
 use std::hint::black_box;
 use std::time::Instant;
 
-/// Who answers: the columns of the table. `Version` is compared, not timed; `Old` is an older library's function, where
-/// one is linked (benches/ab).
+/// Who answers: the columns of the tables. `Trial` is the library's opening by trial, where that by locator is what is
+/// timed; `Version` is compared, not timed; `Old` is an older library's function, where one is linked (benches/ab).
 #[derive(Clone, Copy, PartialEq, Eq)]
 pub enum Role {
     Proved,
     Plain,
     Special,
     Naive,
+    Trial,
     Version,
     Old,
 }
 
-pub const TIMED: [Role; 4] = [Role::Proved, Role::Plain, Role::Special, Role::Naive];
+pub const TIMED: [Role; 5] = [Role::Proved, Role::Plain, Role::Special, Role::Naive, Role::Trial];
 
 pub struct Contender<I, O> {
     pub role: Role,

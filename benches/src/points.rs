@@ -47,14 +47,19 @@ pub fn shares<N: Number>(rng: &mut Rng, n: u8, t: u8, lies: Lies) -> Shares<N> {
 
 /// Shares of which so many, in random places, were not sent, and so many of those sent are lies.
 pub fn unsent_shares<N: Number>(rng: &mut Rng, n: u8, t: u8, unsent: usize, lies: usize) -> Shares<N> {
-    let Shares { mut shares, .. } = shares(rng, n, t, Lies::At(&[]));
-    let order = rng.order(shares.len());
+    let mut shares = shares(rng, n, t, Lies::At(&[]));
+    darken(rng, &mut shares.shares, unsent, lies);
+    shares
+}
+
+/// Takes away so many values, in random places, and makes lies of so many others.
+fn darken<N: Number>(rng: &mut Rng, ys: &mut [N], unsent: usize, lies: usize) {
+    let order = rng.order(ys.len());
     let (unsent, sent) = order.split_at(unsent);
-    unsent.iter().for_each(|&place| shares[place] = N::NOT_SENT);
+    unsent.iter().for_each(|&place| ys[place] = N::NOT_SENT);
     for &place in &sent[..lies] {
-        shares[place] = rng.wrong(shares[place]);
+        ys[place] = rng.wrong(ys[place]);
     }
-    Shares { n, t, shares }
 }
 
 /// Shares at the points of a random table.
@@ -62,6 +67,19 @@ pub fn tabled_shares<N: Number>(rng: &mut Rng, n: u8, t: u8, lies: Lies) -> Tabl
     let table = rng.table(usize::from(n));
     let shares = values(rng, usize::from(t), &table, lies);
     Tabled { table, question: Shares { n, t, shares } }
+}
+
+/// The same, some of them not sent and some lies.
+pub fn tabled_unsent_shares<N: Number>(
+    rng: &mut Rng,
+    n: u8,
+    t: u8,
+    unsent: usize,
+    lies: usize,
+) -> Tabled<N, Shares<N>> {
+    let mut tabled = tabled_shares(rng, n, t, Lies::At(&[]));
+    darken(rng, &mut tabled.question.shares, unsent, lies);
+    tabled
 }
 
 /// The points of `count` lamps of 16, in order, and their values.
@@ -163,6 +181,19 @@ pub fn any_unsent_tabled_shares<N: Number>(rng: &mut Rng) -> Tabled<N, Shares<N>
     tabled_by(rng, left_unsent)
 }
 
+/// Shares of which any number was not sent, with up to t + 2 lies.
+pub fn any_list<N: Number>(rng: &mut Rng) -> Shares<N> {
+    shares_by(rng, any_left)
+}
+
+/// The same at the points of any table that is one.
+pub fn any_tabled_list<N: Number>(rng: &mut Rng) -> Tabled<N, Shares<N>> {
+    let (n, t) = any_size(rng);
+    let table = any_table(rng, n);
+    let shares = any_left(rng, t, &table);
+    Tabled { table, question: Shares { n: n as u8, t: t as u8, shares } }
+}
+
 fn shares_by<N: Number>(rng: &mut Rng, values: Values<N>) -> Shares<N> {
     let (n, t) = any_size(rng);
     let shares = values(rng, t, &lamps(n));
@@ -205,16 +236,32 @@ fn left_unsent<N: Number>(rng: &mut Rng, t: usize, xs: &[N]) -> Vec<N> {
     ys
 }
 
-/// Takes away many of the values, in random places, and makes lies of some others. Mostly about 2t + 1 are left, the fewest
-/// that an opening needs, or about 3t + 1, the fewest among which t may lie; and none lie, or about t. Half of the time the
-/// liars agree with each other, on a polynomial that t of the others agree with too.
+/// Values of any polynomial, any number of them not sent, though few more often than many. Now and then its degree is
+/// above t: only then does a locator's other solution often hold at a further point.
+fn any_left<N: Number>(rng: &mut Rng, t: usize, xs: &[N]) -> Vec<N> {
+    let degree = if rng.chance(20) { t + 1 + rng.below(3) } else { t };
+    let f: Vec<N> = (0..=degree).map(|_| rng.edge()).collect();
+    let mut ys = values_of(rng, &f, xs, Lies::At(&[]));
+    let count = rng.below(xs.len() + 1).max(rng.below(xs.len() + 1));
+    leave(rng, t, xs, &mut ys, count);
+    ys
+}
+
+/// Takes away many of the values. Mostly about 2t + 1 are left, the fewest that an opening needs, or about 3t + 1, the
+/// fewest among which t may lie.
 pub fn leave_unsent<N: Number>(rng: &mut Rng, t: usize, xs: &[N], ys: &mut [N]) {
-    let order = rng.order(xs.len());
     let count = match rng.below(4) {
         0 => rng.below(xs.len() + 1),
         1 => 3 * t + rng.below(3),
         _ => 2 * t + rng.below(3),
     };
+    leave(rng, t, xs, ys, count);
+}
+
+/// Leaves at most `count` of the values, in random places, and makes lies of none, or of about t, at most t + 2. Half
+/// of the time the liars agree with each other, on a polynomial that t of the others agree with too.
+fn leave<N: Number>(rng: &mut Rng, t: usize, xs: &[N], ys: &mut [N], count: usize) {
+    let order = rng.order(xs.len());
     let (sent, unsent) = order.split_at(count.min(xs.len()));
     unsent.iter().for_each(|&place| ys[place] = raised(rng, ys[place]));
     let lies = [0, t, t + 1, rng.below(t + 3)][rng.below(4)].min(sent.len());

@@ -7,11 +7,15 @@ use crate::plain::field::Number;
 /// An answer, and the number that is opened.
 type Opened<N> = (u8, N);
 
-/// The functions that there are for each prime.
+/// The functions that there are for each prime, but for openings.
 pub struct Calls<N: Number> {
     pub deal: fn(&Dealing<N>, &mut Deals<N>),
     pub deal_with: fn(&Tabled<N, Dealing<N>>, &mut Deals<N>),
     pub repair: fn(&Points<N>, &mut (u8, [N; 4])),
+}
+
+/// The functions of one way of opening: at the points 1 to n, and at those of a table.
+pub struct Openings<N: Number> {
     pub open: fn(&Shares<N>, &mut Opened<N>),
     pub open_with: fn(&Tabled<N, Shares<N>>, &mut Opened<N>),
 }
@@ -22,10 +26,14 @@ pub struct Others {
     pub text: fn(&Bytes, &mut Text),
 }
 
-/// A lent number with its functions, and those of the older library, if it is there.
+/// A lent number with its functions, and those of the older library, if it is there and has them.
 pub trait Library: Number {
     const NOW: Calls<Self>;
     const OLD: Option<Calls<Self>>;
+    const TRIAL: Openings<Self>;
+    const OLD_TRIAL: Option<Openings<Self>>;
+    const LOCATOR: Openings<Self>;
+    const OLD_LOCATOR: Option<Openings<Self>>;
 }
 
 // SAFETY, for every call below: each pointer and count are those of one slice, and what is written is apart from what
@@ -33,7 +41,7 @@ pub trait Library: Number {
 
 /// The functions of these names in C, on these numbers.
 macro_rules! calls {
-    ($number:ty, $deal:ident, $deal_with:ident, $repair:ident, $open:ident, $open_with:ident) => {{
+    ($number:ty, $deal:ident, $deal_with:ident, $repair:ident) => {{
         type N = $number;
         extern "C" {
             fn $deal(n: u8, t: u8, f: *const N, f_count: usize, deals: *mut N, deals_count: usize) -> u8;
@@ -56,16 +64,6 @@ macro_rules! calls {
                 column: *mut N,
                 column_count: usize,
             ) -> u8;
-            fn $open(n: u8, t: u8, shares: *const N, shares_count: usize, opened: *mut N) -> u8;
-            fn $open_with(
-                n: u8,
-                t: u8,
-                table: *const N,
-                table_count: usize,
-                shares: *const N,
-                shares_count: usize,
-                opened: *mut N,
-            ) -> u8;
         }
         fn deal(input: &Dealing<N>, out: &mut Deals<N>) {
             let Dealing { n, t, f, room } = input;
@@ -84,6 +82,26 @@ macro_rules! calls {
             out.0 =
                 unsafe { $repair(*t, xs.as_ptr(), xs.len(), ys.as_ptr(), ys.len(), column.as_mut_ptr(), column.len()) };
         }
+        Calls { deal, deal_with, repair }
+    }};
+}
+
+/// The same for one way of opening.
+macro_rules! openings {
+    ($number:ty, $open:ident, $open_with:ident) => {{
+        type N = $number;
+        extern "C" {
+            fn $open(n: u8, t: u8, shares: *const N, shares_count: usize, opened: *mut N) -> u8;
+            fn $open_with(
+                n: u8,
+                t: u8,
+                table: *const N,
+                table_count: usize,
+                shares: *const N,
+                shares_count: usize,
+                opened: *mut N,
+            ) -> u8;
+        }
         fn open(input: &Shares<N>, out: &mut Opened<N>) {
             let Shares { n, t, shares } = input;
             out.0 = unsafe { $open(*n, *t, shares.as_ptr(), shares.len(), &mut out.1) };
@@ -93,7 +111,7 @@ macro_rules! calls {
             let points = table.as_ptr();
             out.0 = unsafe { $open_with(*n, *t, points, table.len(), shares.as_ptr(), shares.len(), &mut out.1) };
         }
-        Calls { deal, deal_with, repair, open, open_with }
+        Openings { open, open_with }
     }};
 }
 
@@ -121,39 +139,44 @@ pub const OLD: Option<Others> = Some(others!(old_doumbaht_happy_set, old_doumbah
 pub const OLD: Option<Others> = None;
 
 impl Library for u16 {
-    const NOW: Calls<u16> =
-        calls!(u16, doumbaht_deal, doumbaht_deal_with, doumbaht_repair, doumbaht_open, doumbaht_open_with);
+    const NOW: Calls<u16> = calls!(u16, doumbaht_deal, doumbaht_deal_with, doumbaht_repair);
+    const TRIAL: Openings<u16> = openings!(u16, doumbaht_open, doumbaht_open_with);
+    const LOCATOR: Openings<u16> = openings!(u16, doumbaht_open_by_locator, doumbaht_open_by_locator_with);
+
     #[cfg(old)]
-    const OLD: Option<Calls<u16>> = Some(calls!(
-        u16,
-        old_doumbaht_deal,
-        old_doumbaht_deal_with,
-        old_doumbaht_repair,
-        old_doumbaht_open,
-        old_doumbaht_open_with
-    ));
+    const OLD: Option<Calls<u16>> = Some(calls!(u16, old_doumbaht_deal, old_doumbaht_deal_with, old_doumbaht_repair));
+    #[cfg(old)]
+    const OLD_TRIAL: Option<Openings<u16>> = Some(openings!(u16, old_doumbaht_open, old_doumbaht_open_with));
+    #[cfg(old_locator)]
+    const OLD_LOCATOR: Option<Openings<u16>> =
+        Some(openings!(u16, old_doumbaht_open_by_locator, old_doumbaht_open_by_locator_with));
+
     #[cfg(not(old))]
     const OLD: Option<Calls<u16>> = None;
+    #[cfg(not(old))]
+    const OLD_TRIAL: Option<Openings<u16>> = None;
+    #[cfg(not(old_locator))]
+    const OLD_LOCATOR: Option<Openings<u16>> = None;
 }
 
 impl Library for u32 {
-    const NOW: Calls<u32> = calls!(
-        u32,
-        doumbaht_deal_wide,
-        doumbaht_deal_wide_with,
-        doumbaht_repair_wide,
-        doumbaht_open_wide,
-        doumbaht_open_wide_with
-    );
+    const NOW: Calls<u32> = calls!(u32, doumbaht_deal_wide, doumbaht_deal_wide_with, doumbaht_repair_wide);
+    const TRIAL: Openings<u32> = openings!(u32, doumbaht_open_wide, doumbaht_open_wide_with);
+    const LOCATOR: Openings<u32> = openings!(u32, doumbaht_open_by_locator_wide, doumbaht_open_by_locator_wide_with);
+
     #[cfg(old)]
-    const OLD: Option<Calls<u32>> = Some(calls!(
-        u32,
-        old_doumbaht_deal_wide,
-        old_doumbaht_deal_wide_with,
-        old_doumbaht_repair_wide,
-        old_doumbaht_open_wide,
-        old_doumbaht_open_wide_with
-    ));
+    const OLD: Option<Calls<u32>> =
+        Some(calls!(u32, old_doumbaht_deal_wide, old_doumbaht_deal_wide_with, old_doumbaht_repair_wide));
+    #[cfg(old)]
+    const OLD_TRIAL: Option<Openings<u32>> = Some(openings!(u32, old_doumbaht_open_wide, old_doumbaht_open_wide_with));
+    #[cfg(old_locator)]
+    const OLD_LOCATOR: Option<Openings<u32>> =
+        Some(openings!(u32, old_doumbaht_open_by_locator_wide, old_doumbaht_open_by_locator_wide_with));
+
     #[cfg(not(old))]
     const OLD: Option<Calls<u32>> = None;
+    #[cfg(not(old))]
+    const OLD_TRIAL: Option<Openings<u32>> = None;
+    #[cfg(not(old_locator))]
+    const OLD_LOCATOR: Option<Openings<u32>> = None;
 }

@@ -1,13 +1,15 @@
 //! The rows: which question, which inputs, who answers.
 
-use crate::contenders::{dealing, dealing_with, happy, opening, opening_with, repairing, writing};
+use crate::contenders::{dealing, dealing_with, happy, locating, locating_with};
+use crate::contenders::{opening, opening_with, repairing, writing};
 use crate::graphs::{self, Graph};
 use crate::hunt::{calls, neighbours};
 use crate::inputs::{Bytes, Dealing, Shares, Tabled, Text};
 use crate::measure::{Bench, Row};
 use crate::plain::field::Number;
 use crate::plain::happy_now;
-use crate::points::{happy_points, shares, tabled_points, tabled_shares, unsent_shares, Lies};
+use crate::points::{happy_points, shares, tabled_points, tabled_shares, Lies};
+use crate::points::{tabled_unsent_shares, unsent_shares};
 use crate::proved::Library;
 use crate::records::{honest, shifted, widened, EXAMPLE, LIARS};
 use crate::rng::Rng;
@@ -133,8 +135,23 @@ const UNSENT: [Unsent; 5] = [
     ("dark2", (5, 1), 2, 0, "2 dark"),
     ("dark3", (16, 3), 3, 0, "3 dark"),
     ("dark9", (16, 3), 9, 0, "9 dark"),
-    ("dark6-lies", (16, 3), 6, 3, "6 dark, lies at 3 of those sent"),
+    FEWEST,
     ("dark10", (16, 3), 10, 0, "10 dark, refused"),
+];
+
+/// As few shares for three lies as can be.
+const FEWEST: Unsent = ("dark6-lies", (16, 3), 6, 3, "6 dark, lies at 3 of those sent");
+
+/// What is opened by locator too, with the inputs of the openings by trial: the word in the key, n and t, the lies.
+const LOCATED: [(&str, (u8, u8), Lies); 8] = [
+    ("first", (5, 1), Lies::At(&[0])),
+    ("first", (9, 2), Lies::At(&[0, 1])),
+    ("none", (16, 3), Lies::At(&[])),
+    ("first", (16, 3), Lies::At(&[0, 1, 2])),
+    ("apart", (16, 3), Lies::At(&[0, 4, 8])),
+    ("pairs", (13, 3), Lies::At(PAIRS)),
+    ("random", (16, 3), Lies::Any(3)),
+    ("refused", (16, 3), Lies::At(&[0, 4, 8, 12])),
 ];
 
 /// Whether a row of this key has dark lamps.
@@ -151,6 +168,15 @@ fn lies_at(places: &[usize]) -> String {
     format!("lies at {}", named.join(", "))
 }
 
+/// The lies among the shares of a polynomial of degree t, in words.
+fn lies_named(t: u8, lies: Lies) -> String {
+    match lies {
+        Lies::At(places) if usize::from(t) < places.len() => format!("{} lies, refused", places.len()),
+        Lies::At(places) => lies_at(places),
+        Lies::Any(count) => format!("{count} lies anywhere"),
+    }
+}
+
 /// Where the lies of a repair stand: how many points there are, and the places.
 const REPAIRS: [(&str, usize, &[usize]); 5] = [
     ("first", 10, &[0, 1, 2]),
@@ -164,6 +190,8 @@ fn decoding_rows<N: Library>(count: usize) -> Vec<Box<dyn Bench>> {
     let mut rows = repair_rows::<N>(count);
     rows.extend(open_rows::<N>(count));
     rows.extend(tabled_rows::<N>(count));
+    rows.extend(locate_rows::<N>(count));
+    rows.extend(tabled_locate_rows::<N>(count));
     rows
 }
 
@@ -225,6 +253,36 @@ fn tabled_rows<N: Library>(count: usize) -> Vec<Box<dyn Bench>> {
         Box::new(opening_with(&key, &title, inputs))
     };
     REPAIRS.into_iter().map(repair).chain(openings().into_iter().map(open)).collect()
+}
+
+/// Openings by locator.
+fn locate_rows<N: Library>(count: usize) -> Vec<Box<dyn Bench>> {
+    let row = |key: &str, (n, t): (u8, u8), title: &str, inputs: Vec<Shares<N>>| -> Box<dyn Bench> {
+        let title = format!("opening by locator, n = {n}, t = {t}, {title}");
+        let (key, title) = named::<N>(&format!("locate{n}-{key}"), &title);
+        Box::new(locating(&key, &title, inputs))
+    };
+    let lying =
+        |(key, (n, t), lies)| row(key, (n, t), &lies_named(t, lies), made(count, |rng| shares(rng, n, t, lies)));
+    let mut rows: Vec<_> = LOCATED.map(lying).into();
+    let (key, (n, t), unsent, lies, title) = FEWEST;
+    rows.push(row(key, (n, t), title, made(count, |rng| unsent_shares(rng, n, t, unsent, lies))));
+    rows
+}
+
+/// The same with the points in a table, each input with another.
+fn tabled_locate_rows<N: Library>(count: usize) -> Vec<Box<dyn Bench>> {
+    let row = |key: &str, (n, t): (u8, u8), title: &str, inputs: Vec<Tabled<N, Shares<N>>>| -> Box<dyn Bench> {
+        let title = format!("opening by locator, n = {n}, t = {t}, points in a table, {title}");
+        let (key, title) = named::<N>(&format!("locate{n}-{key}-table"), &title);
+        Box::new(locating_with(&key, &title, inputs))
+    };
+    let lying =
+        |(key, (n, t), lies)| row(key, (n, t), &lies_named(t, lies), made(count, |rng| tabled_shares(rng, n, t, lies)));
+    let mut rows: Vec<_> = LOCATED.map(lying).into();
+    let (key, (n, t), unsent, lies, title) = FEWEST;
+    rows.push(row(key, (n, t), title, made(count, |rng| tabled_unsent_shares(rng, n, t, unsent, lies))));
+    rows
 }
 
 fn text_rows(count: usize) -> Vec<Box<dyn Bench>> {

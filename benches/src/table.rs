@@ -1,6 +1,6 @@
 //! The tables, in the form that docs/PERFORMANCE.md shows, and what misses its target.
 
-use crate::measure::{quantile, ratio, Role, Times, TIMED};
+use crate::measure::{quantile, ratio, Role, Times};
 use crate::rows::has_unsent;
 
 /// At most so many times plain Rust of the same algorithm, and so many times the specialist, for the rows that these
@@ -15,6 +15,9 @@ const WIDER: f64 = 1.4;
 const WIDER_TABLE: f64 = 2.0;
 /// At least so many times faster than the naive way.
 const FASTER: f64 = 10.0;
+
+/// Who has a column of times in the first two tables.
+const COLUMNS: [Role; 4] = [Role::Proved, Role::Plain, Role::Special, Role::Naive];
 
 pub fn head() -> String {
     headed(&[])
@@ -55,11 +58,23 @@ fn shown(ratio: Option<f64>) -> String {
 
 pub fn line(title: &str, times: &[Times]) -> String {
     let mut cells = vec![title.to_string()];
-    cells.extend(TIMED.map(|role| cell(of(times, role))));
+    cells.extend(COLUMNS.map(|role| cell(of(times, role))));
     cells.push(shown(ratio_of(times, Role::Proved, Role::Plain)));
     cells.push(shown(ratio_of(times, Role::Proved, Role::Special)));
     cells.push(shown(ratio_of(times, Role::Naive, Role::Proved)));
     format!("| {} |", cells.join(" | "))
+}
+
+/// The head of the table of both ways of opening.
+pub fn ways_head() -> String {
+    "|  | by locator | by trial | locator / trial |\n|---|---|---|---|".to_string()
+}
+
+/// Its line, if the row has both.
+pub fn ways_line(title: &str, times: &[Times]) -> Option<String> {
+    let (locator, trial) = (of(times, Role::Proved)?, of(times, Role::Trial)?);
+    let cells = [title.to_string(), cell(Some(locator)), cell(Some(trial)), shown(Some(ratio(locator, trial)))];
+    Some(format!("| {} |", cells.join(" | ")))
 }
 
 /// The line of a wide row, with that of its narrow companion.
@@ -99,14 +114,14 @@ pub fn misses(key: &str, title: &str, times: &[Times]) -> Vec<String> {
 }
 
 fn targets(key: &str) -> (f64, f64) {
-    let is_one_of = |starts: [&str; 2]| starts.iter().any(|start| key.starts_with(start));
-    if is_one_of(["wide-repair", "wide-open"]) {
+    let is_one_of = |starts: &[&str]| starts.iter().any(|start| key.starts_with(start));
+    if is_one_of(&["wide-repair", "wide-open", "wide-locate"]) {
         WIDE_DECODING
-    } else if is_one_of(["wide-deal", "wide-text"]) {
+    } else if is_one_of(&["wide-deal", "wide-text"]) {
         OTHERS
-    } else if is_one_of(["repair", "open"]) {
+    } else if is_one_of(&["repair", "open", "locate"]) {
         DECODING
-    } else if is_one_of(["deal", "text"]) {
+    } else if is_one_of(&["deal", "text"]) {
         OTHERS
     } else {
         SEARCH

@@ -1,7 +1,7 @@
 //! Plain, unproved Rust of the proved library's algorithms, written for speed.
 //!
 //! The last lines here are the one place that says which versions the library has now; the others are compared with
-//! them, not timed.
+//! them, not timed. `locator` is the library's other way of opening, and timed in rows of its own.
 
 pub mod deal;
 pub mod differences_once;
@@ -16,6 +16,7 @@ pub mod happy_new;
 pub mod happy_old;
 pub mod lamp;
 pub mod letters;
+pub mod locator;
 pub mod record;
 pub mod tables;
 pub mod text;

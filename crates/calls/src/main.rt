@@ -3,15 +3,16 @@
 // A call is a byte for its kind, a count, and as many numbers as it counts, all but the kind in 16 bits, high byte first:
 // 0 makes a lamp for n, t and its number; 1 takes a deal, 2 says the pair for the lamp named, 3 hears pairs, 4 settles, 5 opens;
 // 6 is the desk's: n, t, the room for the deals, and the dealer's list. 7 makes a lamp with a table, which stands behind the number; 8 is
-// the desk with a table: behind the room stand how many numbers the table has, these, and the dealer's list. A wide call, of those that are
-// lent numbers of the field, has 128 added to its kind, and its numbers have 32 bits. An unknown kind, a count that its kind does not take,
-// more than 200 numbers or as much room, and a call cut short end the input.
+// the desk with a table: behind the room stand how many numbers the table has, these, and the dealer's list. 9 opens by an error locator.
+// A wide call, of those that are lent numbers of the field, has 128 added to its kind, and its numbers have 32 bits. An unknown kind, a
+// count that its kind does not take, more than 200 numbers or as much room, and a call cut short end the input.
 mod wide;
 
 ghost use Prim.Native.Nat.{_≤_};
 use lamp::Lamp;
 use lamp::Reply;
 use libc::STDIN_FILENO;
+use recovery::Decoder;
 
 // The lamp after a call, and whether there was one whose line is written.
 pub struct Turn {
@@ -62,6 +63,7 @@ fn call(lamp: Lamp, kind: u8, list: &[u16]) -> Reply {
         3 => lamp.hear_pairs(list),
         4 => lamp.settle(list),
         7 => made_with(list),
+        9 => lamp.open_by(Decoder::Locator, list),
         _ => lamp.open(list),
     }
 }
@@ -134,7 +136,7 @@ pub(crate) fn takes(kind: u8, count: usize) -> bool {
     if kind == 7 {
         return 3 <= count;
     }
-    kind < 9
+    kind < 10
 }
 
 // As many of the input's numbers as the bytes hold, over the front of the list; whether the input had them all.

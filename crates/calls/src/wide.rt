@@ -9,6 +9,7 @@ use crate::takes;
 use lamp::Lamp;
 use lamp::Reply;
 use libc::STDIN_FILENO;
+use recovery::Decoder;
 
 // The number at the place as a byte; 0 where there is none.
 fn small(list: &[u32], place: usize) -> u8 {
@@ -43,6 +44,7 @@ fn call(lamp: Lamp, kind: u8, list: &[u32]) -> Reply {
         1 => lamp.take_deal_wide(list),
         3 => lamp.hear_pairs_wide(list),
         7 => made_with(list),
+        9 => lamp.open_wide_by(Decoder::Locator, list),
         _ => lamp.open_wide(list),
     }
 }

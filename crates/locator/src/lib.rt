@@ -6,7 +6,7 @@ ghost use Prim.Native.Nat.{_+_, _*_, _-_, _≤_, _<_};
 ghost use lib.ListN.{length, take, drop, getD};
 ghost use Rattle.lists.specs.Tabulate.{pad};
 ghost use Rattle.field.specs.Modulus.{primeOf};
-ghost use Rattle.polynomial.specs.Polynomial.{Residues, Points};
+ghost use Rattle.polynomial.specs.Polynomial.{Residues, Points, value};
 ghost use Rattle.interpolation.specs.Interpolation.{interpolate};
 ghost use Rattle.answers.specs.Fits.{decoded};
 ghost use Rattle.trial.specs.Results.{Bounded, resultOf};
@@ -60,14 +60,27 @@ fn mix(w: Width, d: u32, r: &mut [u32], g: u32, q: &[u32])
     }
 }
 
+// The value at x. Of few coefficients it is found at once, and the quotient, which nobody asks for here, is not written.
+fn value_at(w: Width, f: &[u32], x: u32) -> u32
+    requires { ⌜ Short (primeOf w) (now f) × (x < primeOf w) ⌝ }
+    ensures { λ r. ⌜ (r ≡ value (primeOf w) (now (f .entry)) x) × (r < primeOf w) ⌝ }
+{
+    if f.len() <= 4 {
+        let few = polynomial::divided_at_once(w, f, x);
+        return few.value;
+    }
+    let many = polynomial::divided(w, f, x);
+    many.value
+}
+
 // Q(x) − y E(x).
 fn off(w: Width, x: u32, y: u32, q: &[u32], e: &[u32]) -> u32
     requires { ⌜ Short (primeOf w) (now q) × Short (primeOf w) (now e) × (x < primeOf w) × (y < primeOf w) ⌝ }
     ensures { λ r. ⌜ (r ≡ off (primeOf w) x y (now (q .entry)) (now (e .entry))) × (r < primeOf w) ⌝ }
 {
-    let numerator = polynomial::divided(w, q, x);
-    let locator = polynomial::divided(w, e, x);
-    field::mul_sub(w, y, locator.value, numerator.value)
+    let numerator = value_at(w, q, x);
+    let locator = value_at(w, e, x);
+    field::mul_sub(w, y, locator, numerator)
 }
 
 // X − x times both polynomials of a solution, each with a place of room.
@@ -347,7 +360,9 @@ fn by_locator(w: Width, t: usize, need: usize, spare: usize, xs: &[u32], ys: &[u
     let mut px = [0u32; 10];
     let mut py = [0u32; 10];
     fit::first_sent(field::modulus(w), xs, ys, &mut px[..m], &mut py[..m]);
-    let f = interpolation::through(w, t + 1, &px[..4], &py[..4]);
+    // Of no more points than it goes through, none need agree: this is interpolation.
+    let first = trial::next(w, &px[..t + 1], &py[..t + 1], 0, 0, t + 1);
+    let f = first.coefficients;
     let solved = solve(w, t, &px[..m], &py[..m], f);
     let q = solved.numerator;
     let e = solved.locator;

@@ -8,15 +8,18 @@ use native.Mathlib.Omega.{arith}
 use lib.ListN.{length, take, drop, replicate}
 use lib.Seq.{length-take-le}
 use Rattle.field.specs.Modulus.{primeOf}
-use Rattle.field.proofs.Primes.{prime-of, positive}
+use Rattle.lists.proofs.All.{all-take}
+use Rattle.field.proofs.Primes.{prime-of}
 use Rattle.polynomial.specs.Polynomial.{Points, Residues}
 use Rattle.lists.specs.Tabulate.{pad}
 use Rattle.interpolation.specs.Interpolation.{interpolate}
 use Rattle.answers.specs.Fits.{decoded}
+use Rattle.trial.specs.declared.Tried.{Tried}
 use Rattle.trial.specs.Trial.{pointsOf, pointsSent}
+use Rattle.trial.specs.Results.{resultOf}
 use Rattle.fit.proofs.Decoding.{points-sent-all}
 use Rattle.locator.specs.Solved.{Solved}
-use Rattle.locator.proofs.Gathered.{gathered-points, gathered-values, array-size, array-residues, front-all, front-four}
+use Rattle.locator.proofs.Gathered.{gathered-points, gathered-values, array-size, front-all, front-some, tried-through}
 use Rattle.locator.proofs.Answer.{located-fit}
 use borrow.Author.Needs.{needs}
 use Rattle.locator.proofs.by_locator.Statement.{statement}
@@ -79,15 +82,6 @@ module _ (c : tie.After-first-sent) where
   long : (length ax ≡ 10) × (length ay ≡ 10)
   long = (array-size m px size-x (sizes s .0), array-size m py size-y (sizes s .0))
 
-  four : (length (take 4 ax) ≡ 4) × (length (take 4 ay) ≡ 4)
-  four = (length-take-le 4 ax (omega (arith, long .0)), length-take-le 4 ay (omega (arith, long .1)))
-
-  four-fine : Residues p (take 4 ax) × Residues p (take 4 ay)
-  four-fine = (
-    array-residues m px size-x (sizes s .0) p (positive (s .args .w)) (fine .0),
-    array-residues m py size-y (sizes s .0) p (positive (s .args .w)) values,
-  )
-
   lent-all : (length (take m ax) ≡ m) × (length (take m ay) ≡ m)
   lent-all = (length-take-le m ax (omega (arith, long .0, sizes s .0)), length-take-le m ay (omega (arith, long .1, sizes s .0)))
 
@@ -95,11 +89,22 @@ module _ (c : tie.After-first-sent) where
   all = (front-all m px size-x (sizes s .0), front-all m py size-y (sizes s .0))
 
   -- The first t + 1 are in front of either part.
-  first : (take (s .args .t + 1) (take 4 ax) ≡ take (s .args .t + 1) (take m ax))
-      × (take (s .args .t + 1) (take 4 ay) ≡ take (s .args .t + 1) (take m ay))
+  abbrev k : ℕ
+  k = s .args .t + 1
+
+  first-size : (length (take k ax) ≡ k) × (length (take k ay) ≡ k)
+  first-size = (length-take-le k ax (omega (arith, long .0, sizes s .1)), length-take-le k ay (omega (arith, long .1, sizes s .1)))
+
+  first : (take k ax ≡ take k (take m ax)) × (take k ay ≡ take k (take m ay))
   first = (
-    front-four m px size-x (sizes s .0) (s .args .t + 1) (sizes s .1) (omega arith) ∙ ap (take (s .args .t + 1)) (sym (all .0)),
-    front-four m py size-y (sizes s .0) (s .args .t + 1) (sizes s .1) (omega arith) ∙ ap (take (s .args .t + 1)) (sym (all .1)),
+    front-some m px size-x (sizes s .0) k (omega arith) ∙ ap (take k) (sym (all .0)),
+    front-some m py size-y (sizes s .0) k (omega arith) ∙ ap (take k) (sym (all .1)),
+  )
+
+  first-fine : Residues p (take k ax) × Residues p (take k ay)
+  first-fine = (
+    subst (Residues p) (sym (front-some m px size-x (sizes s .0) k (omega arith))) (all-take (λ c. c < p) k px (fine .0)),
+    subst (Residues p) (sym (front-some m py size-y (sizes s .0) k (omega arith))) (all-take (λ c. c < p) k py values),
   )
 
 add-m : tie.Need-add-m
@@ -136,41 +141,52 @@ first-sent-requires c κs =
     let same = ap (λ q. length (pointsSent q (s .args .xs .now) (s .args .ys .now))) (c .before .before .modulus .ensures) in
     ((r .0 .1 .lengths, omega (arith, lent, all, same, r .1 .0, r .1 .1, r .1 .2)), refl)
 
-add-through : tie.Need-add-through
-add-through c = search needs
+add-px : tie.Need-add-px
+add-px c = search needs
 
 array-share-prefix-px : tie.Need-array-share-prefix-px
-array-share-prefix-px c = omega (arith, long (c .before .before) .0)
+array-share-prefix-px c = let g = c .before .before in omega (arith, long g .0, sizes (s g) .1)
 
-slice-aggregate-through : tie.Need-slice-aggregate-through
-slice-aggregate-through c = sym (four (c .before .before .before) .0)
+slice-aggregate-next : tie.Need-slice-aggregate-next
+slice-aggregate-next c = sym (first-size (c .before .before .before) .0)
+
+add-py : tie.Need-add-py
+add-py c = search needs
 
 array-share-prefix-py : tie.Need-array-share-prefix-py
-array-share-prefix-py c = omega (arith, long (c .before .before .before) .1)
+array-share-prefix-py c = let g = c .before .before .before in omega (arith, long g .1, sizes (s g) .1)
 
-slice-aggregate-through-2 : tie.Need-slice-aggregate-through-2
-slice-aggregate-through-2 c = sym (four (c .before .before .before .before) .1)
+slice-aggregate-next-2 : tie.Need-slice-aggregate-next-2
+slice-aggregate-next-2 c = sym (first-size (c .before .before .before .before) .1)
 
-through-requires : tie.Need-through-requires
-through-requires c κs = let g = c .before .before .before .before in ((sizes (s g) .1, four g .0, four g .1), four-fine g)
+add-next : tie.Need-add-next
+add-next c = search needs
+
+next-requires : tie.Need-next-requires
+next-requires c κs =
+    let g = c .before .before .before .before in
+    let n = first-size g in
+    ((record { lengths = n .0 ∙ sym (n .1); most = omega (arith, n .0, sizes (s g) .1) }, sizes (s g) .1), first-fine g .0)
 
 array-share-prefix-px-2 : tie.Need-array-share-prefix-px-2
-array-share-prefix-px-2 c = let g = c .before .before .before .before .before in omega (arith, sizes (s g) .0, long g .0)
+array-share-prefix-px-2 c = let g = c .before .before .before .before .before .before in omega (arith, sizes (s g) .0, long g .0)
 
 slice-aggregate-solve : tie.Need-slice-aggregate-solve
-slice-aggregate-solve c = sym (lent-all (c .before .before .before .before .before .before) .0)
+slice-aggregate-solve c = sym (lent-all (c .before .before .before .before .before .before .before) .0)
 
 array-share-prefix-py-2 : tie.Need-array-share-prefix-py-2
-array-share-prefix-py-2 c = let g = c .before .before .before .before .before .before in omega (arith, sizes (s g) .0, long g .1)
+array-share-prefix-py-2 c = let g = c .before .before .before .before .before .before .before in omega (arith, sizes (s g) .0, long g .1)
 
 slice-aggregate-solve-2 : tie.Need-slice-aggregate-solve-2
-slice-aggregate-solve-2 c = sym (lent-all (c .before .before .before .before .before .before .before) .1)
+slice-aggregate-solve-2 c = sym (lent-all (c .before .before .before .before .before .before .before .before) .1)
 
 solve-requires : tie.Need-solve-requires
 solve-requires c κs =
-    let g = c .before .before .before .before .before .before .before in
+    let g = c .before .before .before .before .before .before .before .before in
     let r = s g .pre in
-    let n = lent-all g in (
+    let n = lent-all g in
+    let z = first-size g in
+    (
       (
         r .0 .0,
         subst (Points (p g)) (sym (all g .0)) (fine g),
@@ -179,16 +195,19 @@ solve-requires c κs =
         omega (arith, n .0),
         omega (arith, n .0, r .1 .2, r .0 .0),
       ),
-      c .before .before .through .ensures .0 ∙ ap₂ (λ u v. pad 4 (interpolate (p g) u v)) (first g .0) (first g .1),
+      ap (λ (v : Tried). v .coefficients)
+          (c .before .before .before .next .ensures ∙ ap resultOf (tried-through (p g) (k g) (take (k g) (ax g)) (take (k g) (ay g)) (first-fine g .1) (z .0) (z .1)))
+          ∙ ap₂ (λ u v. pad 4 (interpolate (p g) u v)) (first g .0) (first g .1),
     )
 
 judged-requires : tie.Need-judged-requires
 judged-requires c κs =
-    let g = c .before .before .before .before .before .before .before .before .before .before in
+    let g = c .before .before .before .before .before .before .before .before .before .before .before in
     let r = s g .pre in
     let pair = c .before .before .solve .ensures .pair in
     let d = c .before .before .solve .result .degree in
-    let t = s g .args .t in (
+    let t = s g .args .t in
+    (
       (r .0 .0, omega (arith, r .0 .0, r .1 .2), r .0 .1 .lengths, r .0 .2 .0),
       (
         subst (λ n. Residues (p g) (take n (c .before .before .solve .result .numerator))) (sym (add-one (d + t))) (pair .two .numerator .residues),
@@ -198,7 +217,7 @@ judged-requires c κs =
 
 returns : tie.Need-returns
 returns c =
-    let g = c .before .before .before .before .before .before .before .before .before .before .before in
+    let g = c .before .before .before .before .before .before .before .before .before .before .before .before in
     let r = s g .pre in
     let solved : Solved (p g) (s g .args .t) (px g) (py g) (c .before .before .before .solve .result) =
     subst (λ z. Solved (p g) (s g .args .t) z (py g) (c .before .before .before .solve .result)) (all g .0)
@@ -221,12 +240,14 @@ by-locator-spec =
     array-borrow-prefix-py
     slice-aggregate-first-sent-2
     first-sent-requires
-    add-through
+    add-px
     array-share-prefix-px
-    slice-aggregate-through
+    slice-aggregate-next
+    add-py
     array-share-prefix-py
-    slice-aggregate-through-2
-    through-requires
+    slice-aggregate-next-2
+    add-next
+    next-requires
     array-share-prefix-px-2
     slice-aggregate-solve
     array-share-prefix-py-2

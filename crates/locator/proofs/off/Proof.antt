@@ -1,19 +1,18 @@
 -- `locator::off` meets its contract: two values, and their difference.
 use borrow.Author.Needs.{needs}
-use mathlib.Core.Path.{ap, ap₂, _∙_}
+use mathlib.Core.Path.{ap₂, _∙_}
 use Prim.Native.Nat.{ℕ}
 use Rattle.field.specs.Arithmetic.{sub, mul}
 use Rattle.field.specs.Modulus.{primeOf}
-use Rattle.polynomial.specs.declared.Scheme.{Scheme}
 use borrow.Author.Needs.{needs}
 use Rattle.locator.proofs.off.Statement.{statement}
 use Rattle.locator.proofs.off.Tie as tie
 
-divided-requires : tie.Need-divided-requires
-divided-requires c κs = search needs
+value-at-requires : tie.Need-value-at-requires
+value-at-requires c κs = search needs
 
-divided-requires-2 : tie.Need-divided-requires-2
-divided-requires-2 c κs = search needs
+value-at-requires-2 : tie.Need-value-at-requires-2
+value-at-requires-2 c κs = search needs
 
 mul-sub-requires : tie.Need-mul-sub-requires
 mul-sub-requires c κs = search needs
@@ -22,9 +21,9 @@ returns : tie.Need-returns
 returns c =
     let s = c .before .before .before .before .before .args in
     let p = primeOf (s .w) in
-    let q = ap (λ (v : Scheme). v .value) (c .before .before .divided .ensures .0) in
-    let e = ap (λ (v : Scheme). v .value) (c .before .divided2 .ensures .0) in
+    let q = c .before .before .value-at .ensures .0 in
+    let e = c .before .value-at2 .ensures .0 in
     (c .mul-sub .ensures .0 ∙ ap₂ (λ (a b : ℕ). sub p a (mul p (s .y) b)) q e, c .mul-sub .ensures .1)
 
 pub off-spec : {M : Type 1} → statement M
-off-spec = tie.close (tie.spec divided-requires divided-requires-2 mul-sub-requires returns)
+off-spec = tie.close (tie.spec value-at-requires value-at-requires-2 mul-sub-requires returns)
