@@ -26,7 +26,7 @@
 
 /* The version of this header and of the library built from the same tree; as one number, 10203 is 1.2.3. */
 #define DOUMBAHT_VERSION_MAJOR 0
-#define DOUMBAHT_VERSION_MINOR 5
+#define DOUMBAHT_VERSION_MINOR 6
 #define DOUMBAHT_VERSION_PATCH 0
 #define DOUMBAHT_VERSION (10000 * DOUMBAHT_VERSION_MAJOR + 100 * DOUMBAHT_VERSION_MINOR + DOUMBAHT_VERSION_PATCH)
 
@@ -157,6 +157,24 @@ uint8_t doumbaht_open_with(uint8_t n, uint8_t t, const uint16_t *table, size_t t
 /* The same, wide. */
 uint8_t doumbaht_open_wide_with(uint8_t n, uint8_t t, const uint32_t *table, size_t table_count, const uint32_t *shares,
                                 size_t shares_count, uint32_t *opened);
+
+/*
+ * Opening by an error locator, after Berlekamp and Welch, where the four functions above try one polynomial after the other.
+ * Parameters, answers and refusals are those of the function without `_by_locator`, for every list. Which takes less time
+ * depends on the shares: docs/PERFORMANCE.md has both. What the others take depends on where the wrong shares are; what these take hardly.
+ */
+uint8_t doumbaht_open_by_locator(uint8_t n, uint8_t t, const uint16_t *shares, size_t shares_count, uint16_t *opened);
+
+/* The same, wide. */
+uint8_t doumbaht_open_by_locator_wide(uint8_t n, uint8_t t, const uint32_t *shares, size_t shares_count, uint32_t *opened);
+
+/* With a table. */
+uint8_t doumbaht_open_by_locator_with(uint8_t n, uint8_t t, const uint16_t *table, size_t table_count,
+                                      const uint16_t *shares, size_t shares_count, uint16_t *opened);
+
+/* The same, wide. */
+uint8_t doumbaht_open_by_locator_wide_with(uint8_t n, uint8_t t, const uint32_t *table, size_t table_count,
+                                           const uint32_t *shares, size_t shares_count, uint32_t *opened);
 
 /*
  * Writes the text of a record, narrow or wide, what the program `bench` prints for these bytes, over the front of `out`, with no 0

@@ -185,8 +185,7 @@ solve-requires c κs =
     let g = c .before .before .before .before .before .before .before .before in
     let r = s g .pre in
     let n = lent-all g in
-    let z = first-size g in
-    (
+    let z = first-size g in (
       (
         r .0 .0,
         subst (Points (p g)) (sym (all g .0)) (fine g),
@@ -206,8 +205,7 @@ judged-requires c κs =
     let r = s g .pre in
     let pair = c .before .before .solve .ensures .pair in
     let d = c .before .before .solve .result .degree in
-    let t = s g .args .t in
-    (
+    let t = s g .args .t in (
       (r .0 .0, omega (arith, r .0 .0, r .1 .2), r .0 .1 .lengths, r .0 .2 .0),
       (
         subst (λ n. Residues (p g) (take n (c .before .before .solve .result .numerator))) (sym (add-one (d + t))) (pair .two .numerator .residues),

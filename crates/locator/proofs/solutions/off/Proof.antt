@@ -1,12 +1,12 @@
--- `locator::off` meets its contract: two values, and their difference.
+-- `locator::solutions::off` meets its contract: two values, and their difference.
 use borrow.Author.Needs.{needs}
 use mathlib.Core.Path.{ap₂, _∙_}
 use Prim.Native.Nat.{ℕ}
 use Rattle.field.specs.Arithmetic.{sub, mul}
 use Rattle.field.specs.Modulus.{primeOf}
 use borrow.Author.Needs.{needs}
-use Rattle.locator.proofs.off.Statement.{statement}
-use Rattle.locator.proofs.off.Tie as tie
+use Rattle.locator.proofs.solutions.off.Statement.{statement}
+use Rattle.locator.proofs.solutions.off.Tie as tie
 
 value-at-requires : tie.Need-value-at-requires
 value-at-requires c κs = search needs

@@ -1,4 +1,4 @@
--- `locator::meet` meets its contract: the first holds at the point, or is taken from the second.
+-- `locator::solutions::meet` meets its contract: the first holds at the point, or is taken from the second.
 use borrow.Author.Needs.{needs}
 use mathlib.Core.Path.{ap, _∙_}
 use mathlib.Core.List.{_++_}
@@ -8,8 +8,8 @@ use Rattle.field.specs.Modulus.{primeOf}
 use Rattle.locator.specs.Solving.{front, off, mixed}
 use Rattle.locator.proofs.Loops.{front-size, roomy-short}
 use borrow.Author.Needs.{needs}
-use Rattle.locator.proofs.meet.Statement.{statement}
-use Rattle.locator.proofs.meet.Tie as tie
+use Rattle.locator.proofs.solutions.meet.Statement.{statement}
+use Rattle.locator.proofs.solutions.meet.Tie as tie
 
 sub-nq : tie.Need-sub-nq
 sub-nq c = search needs

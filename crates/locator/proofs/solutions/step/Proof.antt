@@ -1,4 +1,4 @@
--- `locator::step` meets its contract: what is lent has room, and what comes back is one of four.
+-- `locator::solutions::step` meets its contract: what is lent has room, and what comes back is one of four.
 use borrow.Author.Needs.{needs}
 use mathlib.Core.Path.{_≡_, sym, ap, _∙_}
 use mathlib.Core.Bool.{Bool, cond}
@@ -14,8 +14,8 @@ use Rattle.locator.specs.Solving.{Roomy, Met, Solving}
 use Rattle.field.proofs.Primes.{prime-of}
 use Rattle.locator.proofs.Stepping.{bounds, lent-all, first-lower, second-lower}
 use borrow.Author.Needs.{needs}
-use Rattle.locator.proofs.step.Statement.{statement}
-use Rattle.locator.proofs.step.Tie as tie
+use Rattle.locator.proofs.solutions.step.Statement.{statement}
+use Rattle.locator.proofs.solutions.step.Tie as tie
 
 -- What holds at the start: the parts fit the lists, and have room; the point is one of residues.
 module _ (s : tie.Start) where

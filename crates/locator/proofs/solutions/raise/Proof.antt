@@ -1,4 +1,4 @@
--- `locator::raise` meets its contract. The loop keeps `Raising`.
+-- `locator::solutions::raise` meets its contract. The loop keeps `Raising`.
 use borrow.Author.Needs.{needs}
 use native.Mathlib.Omega.{arith}
 use Prim.Native.Nat.{_-_}
@@ -7,8 +7,8 @@ use lib.ListN.{length}
 use Rattle.field.specs.Modulus.{primeOf}
 use Rattle.field.proofs.Primes.{positive}
 use Rattle.locator.proofs.Loops.{Raising, raising-start, raising-small, raising-next, raising-end}
-use Rattle.locator.proofs.raise.Statement.{statement}
-use Rattle.locator.proofs.raise.Tie as tie
+use Rattle.locator.proofs.solutions.raise.Statement.{statement}
+use Rattle.locator.proofs.solutions.raise.Tie as tie
 
 abbrev Inv-loop : tie.InvT-loop
 Inv-loop w x f₀ last carried₀ i₀ f carried i = Raising (primeOf w) x f₀ f carried i

@@ -1,4 +1,4 @@
--- `locator::solve` meets its contract. The loop keeps `Solving`.
+-- `locator::solutions::solve` meets its contract. The loop keeps `Solving`.
 use borrow.Author.Needs.{needs}
 use mathlib.Core.Path.{sym, _∙_}
 use Prim.Native.Nat.{_+_, _-_, _≤_, _<_}
@@ -10,8 +10,8 @@ use Rattle.field.specs.Modulus.{primeOf}
 use Rattle.field.proofs.Primes.{prime-of}
 use Rattle.locator.specs.Solving.{Solving}
 use Rattle.locator.proofs.Starting.{solving-start, solving-end}
-use Rattle.locator.proofs.solve.Statement.{statement}
-use Rattle.locator.proofs.solve.Tie as tie
+use Rattle.locator.proofs.solutions.solve.Statement.{statement}
+use Rattle.locator.proofs.solutions.solve.Tie as tie
 
 abbrev Inv-loop : tie.InvT-loop
 Inv-loop w t xs ys q1₀ e1₀ q2₀ e2₀ a₀ k₀ q1 e1 q2 e2 a k = (k ≤ length xs) × Solving (primeOf w) t xs ys k a q1 e1 q2 e2

@@ -1,4 +1,4 @@
--- `locator::mix` meets its contract. The loop keeps `Mixing`.
+-- `locator::solutions::mix` meets its contract. The loop keeps `Mixing`.
 use borrow.Author.Needs.{needs}
 use native.Mathlib.Omega.{arith}
 use mathlib.Core.Path.{sym, ap, subst, _∙_}
@@ -10,8 +10,8 @@ use Rattle.polynomial.proofs.Few.{coefficient-below}
 use Rattle.field.specs.Modulus.{primeOf}
 use Rattle.field.proofs.Primes.{positive}
 use Rattle.locator.proofs.Loops.{Mixing, mixing-start, mixing-next, mixing-end}
-use Rattle.locator.proofs.mix.Statement.{statement}
-use Rattle.locator.proofs.mix.Tie as tie
+use Rattle.locator.proofs.solutions.mix.Statement.{statement}
+use Rattle.locator.proofs.solutions.mix.Tie as tie
 
 abbrev Inv-loop : tie.InvT-loop
 Inv-loop w d r₀ g q i₀ r i = Mixing (primeOf w) d r₀ g q r i

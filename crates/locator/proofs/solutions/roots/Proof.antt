@@ -1,4 +1,4 @@
--- `locator::roots` meets its contract. The loop keeps `Rooting`.
+-- `locator::solutions::roots` meets its contract. The loop keeps `Rooting`.
 use borrow.Author.Needs.{needs}
 use mathlib.Core.Path.{sym}
 use Prim.Native.Nat.{_-_}
@@ -8,8 +8,8 @@ use lib.Seq.{length-take-le}
 use Rattle.field.specs.Modulus.{primeOf}
 use Rattle.field.proofs.Primes.{prime-of}
 use Rattle.locator.proofs.Starting.{Rooting, rooting-start, rooting-point, rooting-lent, rooting-next, rooting-end}
-use Rattle.locator.proofs.roots.Statement.{statement}
-use Rattle.locator.proofs.roots.Tie as tie
+use Rattle.locator.proofs.solutions.roots.Statement.{statement}
+use Rattle.locator.proofs.solutions.roots.Tie as tie
 
 abbrev Inv-loop : tie.InvT-loop
 Inv-loop w xs out₀ k₀ out k = Rooting (primeOf w) xs out k

@@ -1,10 +1,10 @@
--- `locator::value_at` meets its contract.
+-- `locator::solutions::value_at` meets its contract.
 use borrow.Author.Needs.{needs}
 use mathlib.Core.Path.{ap}
 use Rattle.polynomial.specs.declared.Scheme.{Scheme}
 use borrow.Author.Needs.{needs}
-use Rattle.locator.proofs.value_at.Statement.{statement}
-use Rattle.locator.proofs.value_at.Tie as tie
+use Rattle.locator.proofs.solutions.value_at.Statement.{statement}
+use Rattle.locator.proofs.solutions.value_at.Tie as tie
 
 divided-at-once-requires : tie.Need-divided-at-once-requires
 divided-at-once-requires c κs = search needs

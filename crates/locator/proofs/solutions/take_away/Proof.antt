@@ -1,11 +1,11 @@
--- `locator::take_away` meets its contract.
+-- `locator::solutions::take_away` meets its contract.
 use borrow.Author.Needs.{needs}
 use mathlib.Core.Path.{ap, _∙_}
 use Rattle.field.specs.Modulus.{primeOf}
 use Rattle.locator.specs.Solving.{mixed}
 use borrow.Author.Needs.{needs}
-use Rattle.locator.proofs.take_away.Statement.{statement}
-use Rattle.locator.proofs.take_away.Tie as tie
+use Rattle.locator.proofs.solutions.take_away.Statement.{statement}
+use Rattle.locator.proofs.solutions.take_away.Tie as tie
 
 off-requires : tie.Need-off-requires
 off-requires c κs = search needs
