@@ -52,7 +52,8 @@ module _ (p need : ℕ) (xs ys : List ℕ) where
   judged-found f h = rw (le-leb need (hits p f xs ys) h)
 
 -- The code's numbers, and those of the laws.
-quotient-is : (p t b : ℕ) (q e : List ℕ) → quotientOf p t b q e ≡ exactly p (inv p (getD e b 0)) (take (suc b) e) (suc t) (take (suc (b + t)) q)
+quotient-is : (p t b : ℕ) (q e : List ℕ)
+    → quotientOf p t b q e ≡ exactly p (inv p (getD e b 0)) (take (suc b) e) (suc t) (take (suc (b + t)) q)
 quotient-is p t b q e =
     let i : b + 1 ≡ suc b = omega arith in
     let j : t + 1 ≡ suc t = omega arith in
@@ -130,7 +131,8 @@ module _ (p : ℕ) (P : Prime p) (t need spare : ℕ) (xs ys : List ℕ) (length
 
     is-product : Q ≡ product p F E
     is-product =
-        numerator-is p P px py (length px) fine (sym size-y) refl F t _ _ _ _ _ _ (s .pair) (fits .poly) spare size-x (omega (arith, window))
+        numerator-is p P px py (length px) fine (sym size-y) refl F t _ _ _ _ _ _ (s .pair) (fits .poly) spare size-x
+        (omega (arith, window))
 
     -- The top of the locator has an inverse.
     inverse : mul p i (getD E b 0) ≡ 1
@@ -147,7 +149,8 @@ module _ (p : ℕ) (P : Prime p) (t need spare : ℕ) (xs ys : List ℕ) (length
     divided : division p i E (suc t) Q ≡ (F, replicate b 0)
     divided =
         let left : length E - 1 ≡ b = omega (arith, size-E) in
-        ap₂ (λ (n : ℕ) (z : List ℕ). division p i E n z) (sym (fits .poly .size)) (is-product ∙ ap (λ n. plusProduct p (replicate n 0) F E) left)
+        ap₂ (λ (n : ℕ) (z : List ℕ). division p i E n z) (sym (fits .poly .size))
+        (is-product ∙ ap (λ n. plusProduct p (replicate n 0) F E) left)
         ∙ division-back p i E b size-E inverse positive (replicate b 0) F (zeros-residues b) (fits .poly .residues) (length-replicate b 0)
       where
         zeros-residues : (n : ℕ) → Residues p (replicate n 0)

@@ -17,7 +17,8 @@ use Rattle.locator.specs.Quotient.{lessTimes, leading, division}
 use Rattle.locator.proofs.Products.{quotient-size}
 
 -- Four places hold three coefficients and one in front of them.
-pad-front : (h : ℕ) (F rest : List ℕ) → length F ≤ 3 → rest ≡ pad 4 F → h ∷ getD rest 0 0 ∷ getD rest 1 0 ∷ getD rest 2 0 ∷ [] ≡ pad 4 (h ∷ F)
+pad-front : (h : ℕ) (F rest : List ℕ) → length F ≤ 3 → rest ≡ pad 4 F
+    → h ∷ getD rest 0 0 ∷ getD rest 1 0 ∷ getD rest 2 0 ∷ [] ≡ pad 4 (h ∷ F)
 pad-front h [] rest l e = ap (λ r. h ∷ getD r 0 0 ∷ getD r 1 0 ∷ getD r 2 0 ∷ []) e
 pad-front h (a ∷ []) rest l e = ap (λ r. h ∷ getD r 0 0 ∷ getD r 1 0 ∷ getD r 2 0 ∷ []) e
 pad-front h (a ∷ b ∷ []) rest l e = ap (λ r. h ∷ getD r 0 0 ∷ getD r 1 0 ∷ getD r 2 0 ∷ []) e

@@ -55,7 +55,8 @@ module _ (p t need spare : ℕ) (xs ys : List ℕ) (b : ℕ) (q e : List ℕ) wh
     judged-rest told = sym (ap decoded (opened none (result-not-found (quotientOf p t b q e) (sym (ap (λ w. w .found) is) ∙ told))))
 
     -- A quotient was found: t + 1 residues, with 0 behind them.
-    module _ (found : r .found ≡ true) (degree : t ≤ 3) (few : b ≤ 3) (room-q : length q ≡ 12) (room-e : length e ≡ 8) (positive : 0 < p) where
+    module _ (found : r .found ≡ true) (degree : t ≤ 3) (few : b ≤ 3) (room-q : length q ≡ 12) (room-e : length e ≡ 8)
+        (positive : 0 < p) where
       abbrev f : List ℕ
       f = r .coefficients
 

@@ -66,7 +66,8 @@ module _ (p : ℕ) (P : Prime p) where
 
   -- ---- some of the points, at which F agrees
   module _ (xs ys : List ℕ) (k : ℕ) (points : Points p xs) (lengths : length xs ≡ length ys) (all : k ≡ length xs) where
-    solves-all : (Q E : List ℕ) → Solves p xs ys k Q E → All (λ (q : ℕ × ℕ). value p Q (q .0) ≡ mul p (q .1) (value p E (q .0))) (pointsOf xs ys)
+    solves-all : (Q E : List ℕ) → Solves p xs ys k Q E
+        → All (λ (q : ℕ × ℕ). value p Q (q .0) ≡ mul p (q .1) (value p E (q .0))) (pointsOf xs ys)
     solves-all Q E s = go xs ys (λ j h. s j (omega arith))
       where
         go : (xs ys : List ℕ) → ((j : ℕ) → j < length xs → value p Q (getD xs j 0) ≡ mul p (getD ys j 0) (value p E (getD xs j 0)))
@@ -87,7 +88,8 @@ module _ (p : ℕ) (P : Prime p) where
           unique p P n (xsOf c) Q G fine (omega (arith, length-map c (λ (q : ℕ × ℕ). q .0))) hQ hG
           (go c right (all-sublist (λ (q : ℕ × ℕ). value p Q (q .0) ≡ mul p (q .1) (value p E (q .0))) part (solves-all Q E s)))
         where
-          go : (c : List (ℕ × ℕ)) → All (λ q. meets p F q ≡ true) c → All (λ (q : ℕ × ℕ). value p Q (q .0) ≡ mul p (q .1) (value p E (q .0))) c
+          go : (c : List (ℕ × ℕ)) → All (λ q. meets p F q ≡ true) c
+              → All (λ (q : ℕ × ℕ). value p Q (q .0) ≡ mul p (q .1) (value p E (q .0))) c
               → map (value p Q) (xsOf c) ≡ map (value p G) (xsOf c)
           go [] right holds = refl
           go (q ∷ c) right holds =

@@ -21,7 +21,8 @@ front-part n l h =
     ap (λ i. take i (take (suc n) l)) size ∙ ap (λ i. take n (take i l)) (sym one) ∙ take-take n 1 l
 
 -- What stands in front of a part that comes back stands in front of the list.
-pub back-in-front : (n k : ℕ) (l part front : List ℕ) (rest : List ℕ) → part ≡ front ++ rest → length front ≡ k → take k (part ++ drop n l) ≡ front
+pub back-in-front : (n k : ℕ) (l part front : List ℕ) (rest : List ℕ) → part ≡ front ++ rest → length front ≡ k
+    → take k (part ++ drop n l) ≡ front
 back-in-front n k l part front rest e size =
     ap (λ z. take k (z ++ drop n l)) e ∙ ap (take k) (append-assoc front rest (drop n l)) ∙ take-at front (rest ++ drop n l) k size
 
@@ -36,7 +37,8 @@ kept-front n l part h e =
 
 module _ (p x : ℕ) where
   -- X − x times what stood before the room.
-  pub raised-front : (n : ℕ) (l part : List ℕ) → Poly p n (take n l) → front (take (suc n) l) ≡ take n l → part ≡ raised p x (take (suc n) l)
+  pub raised-front : (n : ℕ) (l part : List ℕ) → Poly p n (take n l) → front (take (suc n) l) ≡ take n l
+      → part ≡ raised p x (take (suc n) l)
       → (take (suc n) (part ++ drop (suc n) l) ≡ raise p x (0 ∷ take n l)) × (length part ≡ suc n)
   raised-front n l part h f e =
       let is : part ≡ raise p x (0 ∷ take n l) = e ∙ ap (λ z. raise p x (0 ∷ z)) f in
@@ -48,7 +50,8 @@ module _ (p x : ℕ) where
 
 module _ (p : ℕ) where
   -- Mixed with another, and the room behind it.
-  pub mixed-front : (n : ℕ) (l part : List ℕ) (d g : ℕ) (m : List ℕ) → Poly p n (take n l) → suc n ≤ length l → front (take (suc n) l) ≡ take n l
+  pub mixed-front : (n : ℕ) (l part : List ℕ) (d g : ℕ) (m : List ℕ) → Poly p n (take n l) → suc n ≤ length l
+      → front (take (suc n) l) ≡ take n l
       → part ≡ mixed p d (front (take (suc n) l)) g m ++ drop (length (take (suc n) l) - 1) (take (suc n) l)
       → (take n (part ++ drop (suc n) l) ≡ mixed p d (take n l) g m) × (length part ≡ suc n)
   mixed-front n l part d g m h inside f e =
@@ -57,5 +60,7 @@ module _ (p : ℕ) where
       let size : length (mixed p d (take n l) g m) ≡ n = length-mixed p d (take n l) g m ∙ h .size in
       let all : length (take (suc n) l) ≡ suc n = length-take-le (suc n) l inside in (
         back-in-front (suc n) n l part (mixed p d (take n l) g m) rest is size,
-        ap length is ∙ length-append (mixed p d (take n l) g m) rest ∙ omega (arith, length-drop (length (take (suc n) l) - 1) (take (suc n) l)),
+        ap length is
+            ∙ length-append (mixed p d (take n l) g m) rest
+            ∙ omega (arith, length-drop (length (take (suc n) l) - 1) (take (suc n) l)),
       )

@@ -8,8 +8,8 @@ use lib.ListN.{length, getD, take}
 use lib.Seq.{length-take-le}
 use Rattle.lists.proofs.InPlace.{length-zipWith}
 use Rattle.field.specs.Arithmetic.{Prime, add, sub, mul}
-use Rattle.field.proofs.Ring.{ring, add-comm, add-zero, zero-add, add-lt, mul-lt, mul-zero, mul-comm, mul-assoc, mul-one, mul-mod, mul-residue}
-use Rattle.field.proofs.Ring.{add-sub, add-cancel, add-residue, sub-lt}
+use Rattle.field.proofs.Ring.{ring, add-comm, add-zero, zero-add, add-lt, add-sub, add-cancel, add-residue, sub-lt}
+use Rattle.field.proofs.Ring.{mul-lt, mul-zero, mul-comm, mul-assoc, mul-one, mul-mod, mul-residue}
 use Rattle.polynomial.specs.Polynomial.{Poly, Residues, value}
 use Rattle.polynomial.proofs.Division.{value-residue}
 use Rattle.locator.specs.Quotient.{plusTimes, plusProduct, lessTimes, leading, division}
@@ -29,7 +29,9 @@ module _ (p : ℕ) where
   plus-residues R c [] positive = tt
   plus-residues R c (d ∷ E) positive = (add-lt p (getD R 0 0) (mul p c d) positive, plus-residues (tail R) c E positive)
 
-  plus-step : (r c d x u v : ℕ) → add p (add p r (mul p c d)) (mul p x (add p u (mul p c v))) ≡ add p (add p r (mul p x u)) (mul p c (add p d (mul p x v)))
+  plus-step : (r c d x u v : ℕ)
+      → add p (add p r (mul p c d)) (mul p x (add p u (mul p c v)))
+      ≡ add p (add p r (mul p x u)) (mul p c (add p d (mul p x v)))
   plus-step r c d x u v = simp ring
 
   value-plus : (R : List ℕ) (c : ℕ) (E : List ℕ) (x : ℕ) → length R ≤ length E
@@ -41,7 +43,8 @@ module _ (p : ℕ) where
       ∙ plus-step (getD R 0 0) c d x (value p (tail R) x) (value p E x)
       ∙ ap (λ z. add p z (mul p c (value p (d ∷ E) x))) (sym (value-split p R x))
 
-  getD-plus : (R : List ℕ) (c : ℕ) (E : List ℕ) (j : ℕ) → j < length E → getD (plusTimes p R c E) j 0 ≡ add p (getD R j 0) (mul p c (getD E j 0))
+  getD-plus : (R : List ℕ) (c : ℕ) (E : List ℕ) (j : ℕ) → j < length E
+      → getD (plusTimes p R c E) j 0 ≡ add p (getD R j 0) (mul p c (getD E j 0))
   getD-plus R c [] j h = absurd (omega arith)
   getD-plus R c (d ∷ E) zero h = refl
   getD-plus R c (d ∷ E) (suc j) h = getD-plus (tail R) c E j (omega arith) ∙ ap (λ z. add p z (mul p c (getD E j 0))) (getD-first R j)
@@ -72,7 +75,10 @@ module _ (p : ℕ) where
   pub value-product : (R F E : List ℕ) (x : ℕ) → length R ≤ length E
       → value p (plusProduct p R F E) x ≡ add p (value p R x) (mul p (value p F x) (value p E x))
   value-product R [] E x h =
-      sym (ap (add p (value p R x)) (mul-comm p 0 (value p E x) ∙ mul-zero p (value p E x)) ∙ add-zero p (value p R x) ∙ value-residue p R x)
+      sym
+      (ap (add p (value p R x)) (mul-comm p 0 (value p E x) ∙ mul-zero p (value p E x))
+      ∙ add-zero p (value p R x)
+      ∙ value-residue p R x)
   value-product R (c ∷ F) E x h =
       let S = plusTimes p R c E in
       ap (λ z. add p (getD S 0 0) (mul p x z))
@@ -138,7 +144,8 @@ module _ (p : ℕ) where
         let h : leading p i E (getD S 0 0 ∷ tail S) ≡ c = ap (leading p i E) whole ∙ found R c l (f .0) in
         let top : length E - 1 ≡ b = omega arith in
         ap (λ (o : List ℕ × List ℕ).
-        (leading p i E (getD S 0 0 ∷ o .1) ∷ o .0, take (length E - 1) (lessTimes p (getD S 0 0 ∷ o .1) (leading p i E (getD S 0 0 ∷ o .1)) E))) rest
+        let r : List ℕ = getD S 0 0 ∷ o .1 in
+        (leading p i E r ∷ o .0, take (length E - 1) (lessTimes p r (leading p i E r) E))) rest
         ∙ ap₂ (λ (u : ℕ) (v : List ℕ). (u ∷ F, v)) h
         (ap₂ (λ (u : ℕ) (v : List ℕ). take (length E - 1) (lessTimes p v u E)) h whole
         ∙ ap (λ j. take j (lessTimes p S c E)) top

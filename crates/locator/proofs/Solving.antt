@@ -141,7 +141,8 @@ module _ (p : ℕ) (P : Prime p) (xs ys : List ℕ) (points : Residues p xs) (k 
           ∙ mul-residue p y _
           ∙ ap (mul p y) (sym (at-e x))
 
-      pub mixed-one : Solution p n' m' xs ys (suc k) (mixed p (off p x y Q E) R (off p x y R F) Q) (mixed p (off p x y Q E) F (off p x y R F) E)
+      pub mixed-one : Solution p n' m' xs ys (suc k) (mixed p (off p x y Q E) R (off p x y R F) Q)
+          (mixed p (off p x y Q E) F (off p x y R F) E)
       unfolding d g
       mixed-one = record {
         numerator = poly-mixed n' R Q (s' .numerator);

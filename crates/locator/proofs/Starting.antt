@@ -115,8 +115,8 @@ mapped g (x ∷ xs) ys e (suc j) h = mapped g xs (tail ys) (ap tail e) j (omega 
     getD-tail [] j = refl
     getD-tail (c ∷ l) j = refl
 
-module _ (p : ℕ) (P : Prime p) (t : ℕ) (low : t ≤ 3) (xs ys : List ℕ) (points : Points p xs) (values : Residues p ys) (l : length xs ≡ length ys)
-    (enough : t + 1 ≤ length xs) where
+module _ (p : ℕ) (P : Prime p) (t : ℕ) (low : t ≤ 3) (xs ys : List ℕ) (points : Points p xs) (values : Residues p ys)
+    (l : length xs ≡ length ys) (enough : t + 1 ≤ length xs) where
   abbrev px : List ℕ
   px = take (suc t) xs
 
@@ -228,7 +228,8 @@ module _ (p : ℕ) (P : Prime p) (t : ℕ) (low : t ≤ 3) (xs ys : List ℕ) (p
       }
 
 -- ---- the end
-pub solving-end : (p t : ℕ) (xs ys : List ℕ) (k a : ℕ) (q1 e1 q2 e2 : List ℕ) → k ≤ length xs → length xs ≤ k → Solving p t xs ys k a q1 e1 q2 e2
+pub solving-end : (p t : ℕ) (xs ys : List ℕ) (k a : ℕ) (q1 e1 q2 e2 : List ℕ) → k ≤ length xs → length xs ≤ k
+    → Solving p t xs ys k a q1 e1 q2 e2
     → Solved p t xs ys (record { numerator = q2; locator = e2; degree = k - a })
 solving-end p t xs ys k a q1 e1 q2 e2 within done s =
     let all : k ≡ length xs = omega arith in
@@ -236,5 +237,7 @@ solving-end p t xs ys k a q1 e1 q2 e2 within done s =
       a = a;
       first-numerator = take (suc a) q1;
       first-locator = take (a - t) e1;
-      pair = subst (λ n. Pair p t xs ys n a (k - a) (take (suc a) q1) (take (a - t) e1) (take (suc (k - a + t)) q2) (take (suc (k - a)) e2)) all (s .pair);
+      pair =
+          subst (λ n. Pair p t xs ys n a (k - a) (take (suc a) q1) (take (a - t) e1) (take (suc (k - a + t)) q2) (take (suc (k - a)) e2))
+          all (s .pair);
     }

@@ -18,8 +18,8 @@ same-pair : (p t : ℕ) (xs ys : List ℕ) (k a b : ℕ) (Q1 E1 Q2 E2 Q1' E1' Q2
     → Pair p t xs ys k a b Q1 E1 Q2 E2 → Pair p t xs ys k a b Q1' E1' Q2' E2'
 same-pair p t xs ys k a b Q1 E1 Q2 E2 Q1' E1' Q2' E2' i j m n s = rw (i, j, m, n) s
 
-module _ (p : ℕ) (P : Prime p) (t : ℕ) (xs ys : List ℕ) (points : Residues p xs) (k a : ℕ) (inside : k < length xs) (few : k ≤ t + 6) (low : t ≤ 3)
-    (q1 e1 q2 e2 : List ℕ) (s : Solving p t xs ys k a q1 e1 q2 e2) where
+module _ (p : ℕ) (P : Prime p) (t : ℕ) (xs ys : List ℕ) (points : Residues p xs) (k a : ℕ) (inside : k < length xs) (few : k ≤ t + 6)
+    (low : t ≤ 3) (q1 e1 q2 e2 : List ℕ) (s : Solving p t xs ys k a q1 e1 q2 e2) where
   abbrev b : ℕ
   b = k - a
 
@@ -98,7 +98,8 @@ module _ (p : ℕ) (P : Prime p) (t : ℕ) (xs ys : List ℕ) (points : Residues
         room-q2 = m;
         room-e2 = n;
         pair =
-            subst (λ c. Pair p t xs ys (suc k) a' c (take (suc a') q1') (take (a' - t) e1') (take (suc (c + t)) q2') (take (suc c) e2')) left s;
+            subst (λ c. Pair p t xs ys (suc k) a' c (take (suc a') q1') (take (a' - t) e1') (take (suc (c + t)) q2') (take (suc c) e2'))
+            left s;
       }
 
   module _ (q1' e1' q2' e2' : List ℕ) where
@@ -129,7 +130,8 @@ module _ (p : ℕ) (P : Prime p) (t : ℕ) (xs ys : List ℕ) (points : Residues
         )
 
     raised-2 : q2' ≡ raised p x (take (suc (suc (b + t))) q2) → e2' ≡ raised p x (take (suc (suc b)) e2)
-        → (take (suc (suc b + t)) back-q2 ≡ raise p x (0 ∷ take (suc (b + t)) q2)) × (take (suc (suc b)) back-e2 ≡ raise p x (0 ∷ take (suc b) e2))
+        → (take (suc (suc b + t)) back-q2 ≡ raise p x (0 ∷ take (suc (b + t)) q2))
+        × (take (suc (suc b)) back-e2 ≡ raise p x (0 ∷ take (suc b) e2))
         × (length back-q2 ≡ 12) × (length back-e2 ≡ 8)
     raised-2 i j =
         let (q, n) = raised-front p x (suc (b + t)) q2 q2' (s .pair .two .numerator) front-q2 i in

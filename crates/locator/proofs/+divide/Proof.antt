@@ -75,14 +75,25 @@ divide-slice-relend-prefix-next-coefficient t c = search needs
 divide-slice-aggregate-next-coefficient :
     (t : ℕ) → divide-lts.Need-slice-aggregate-next-coefficient (claims t) (divide-at t) divide.Post
 divide-slice-aggregate-next-coefficient t c =
-    let s = c .before .before .before .before .before .before .before .before in
-    sym (length-take-le _ _ (second-lent (primeOf (s .args .w)) (s .args .inverse) (s .args .e .now) (s .pre .1 .0 .1) (s .args .n) (s .args .q .now) (c .before .before .before .before .before .if1 .left) (s .pre .1 .0 .0) (s .pre .1 .0 .2) (s .pre .1 .1 .1) (c .before .before .before .divide .last .1 .1 .1 .1 .0) (search needs) (c .before .before .before .divide .ensures .1) (c .before .before .before .divide .ensures .2) .0))
+    let d = c .before .before .before in
+    let more = d .before .before in
+    let s = more .before .before .before in
+    let a = s .args in
+    let r = s .pre .1 in
+    let second = second-lent (primeOf (a .w)) (a .inverse) (a .e .now) (r .0 .1) (a .n) (a .q .now) (more .if1 .left) (r .0 .0) (r .0 .2)
+    (r .1 .1) (d .divide .last .1 .1 .1 .1 .0) (search needs) (d .divide .ensures .1) (d .divide .ensures .2) in
+    sym (length-take-le _ _ (second .0))
 
 divide-next-coefficient-requires : (t : ℕ) → divide-lts.Need-next-coefficient-requires (claims t) (divide-at t) divide.Post
 divide-next-coefficient-requires t c κs =
-    let s = c .before .before .before .before .before .before .before .before in
-    let second = second-lent (primeOf (s .args .w)) (s .args .inverse) (s .args .e .now) (s .pre .1 .0 .1) (s .args .n) (s .args .q .now) (c .before .before .before .before .before .if1 .left) (s .pre .1 .0 .0) (s .pre .1 .0 .2) (s .pre .1 .1 .1) (c .before .before .before .divide .last .1 .1 .1 .1 .0) (search needs) (c .before .before .before .divide .ensures .1) (c .before .before .before .divide .ensures .2) in
-    ((sym (length-take-le _ _ (second .0)), s .pre .1 .1 .0, second .1, s .pre .1 .1 .2), s .pre .1 .0 .1)
+    let d = c .before .before .before in
+    let more = d .before .before in
+    let s = more .before .before .before in
+    let a = s .args in
+    let r = s .pre .1 in
+    let second = second-lent (primeOf (a .w)) (a .inverse) (a .e .now) (r .0 .1) (a .n) (a .q .now) (more .if1 .left) (r .0 .0) (r .0 .2)
+    (r .1 .1) (d .divide .last .1 .1 .1 .1 .0) (search needs) (d .divide .ensures .1) (d .divide .ensures .2) in
+    ((sym (length-take-le _ _ (second .0)), r .1 .0, second .1, r .1 .2), r .0 .1)
 
 divide-array-read-t20 : (t : ℕ) → divide-lts.Need-array-read-t20 (claims t) (divide-at t) divide.Post
 divide-array-read-t20 t c = search needs
@@ -98,9 +109,12 @@ divide-same-length t c = search needs
 
 divide-returns-2 : (t : ℕ) → divide-lts.Need-returns-2 (claims t) (divide-at t) divide.Post
 divide-returns-2 t c =
-    let s = c .before .before .before .before .before .before .before .before .before .before .before in
     let e = c .before .before .next-coefficient .ensures in
-    division-step _ _ _ (s .pre .1 .0 .1) _ _ (c .before .before .before .before .before .before .before .before .if1 .left) (s .pre .1 .0 .0) (s .pre .1 .0 .2) (s .pre .1 .1 .1) (c .before .before .before .before .before .before .divide .last .1 .1 .1 .1 .0) (search needs) (c .before .before .before .before .before .before .divide .ensures .1) (c .before .before .before .before .before .before .divide .ensures .2) _ (c .before .before .before .before .before .before .divide .ensures .0) _ (e .0) _ (e .2) (e .3)
+    let d = c .before .before .before .before .before .before in
+    let more = d .before .before in
+    let r = more .before .before .before .pre .1 in
+    division-step _ _ _ (r .0 .1) _ _ (more .if1 .left) (r .0 .0) (r .0 .2) (r .1 .1) (d .divide .last .1 .1 .1 .1 .0) (search needs)
+    (d .divide .ensures .1) (d .divide .ensures .2) _ (d .divide .ensures .0) _ (e .0) _ (e .2) (e .3)
 
 pub +divide-spec : {M : Type 1} → statement M
 +divide-spec = close μ-divide λ t. divide-lts.spec (claims t)

@@ -42,7 +42,8 @@ nothing-requires c κs = search needs
 returns : tie.Need-returns
 returns c =
     let n = c .before .before in
-    c .nothing .ensures ∙ ap decoded (sym (fit-too-few _ (prime-of (s n .args .w)) _ _ _ _ (omega (arith, counted n, must n, c .before .if1 .taken))))
+    c .nothing .ensures
+    ∙ ap decoded (sym (fit-too-few _ (prime-of (s n .args .w)) _ _ _ _ (omega (arith, counted n, must n, c .before .if1 .taken))))
 
 by-locator-requires : tie.Need-by-locator-requires
 by-locator-requires c κs =

@@ -195,7 +195,8 @@ solve-requires c κs =
         omega (arith, n .0, r .1 .2, r .0 .0),
       ),
       ap (λ (v : Tried). v .coefficients)
-          (c .before .before .before .next .ensures ∙ ap resultOf (tried-through (p g) (k g) (take (k g) (ax g)) (take (k g) (ay g)) (first-fine g .1) (z .0) (z .1)))
+          (c .before .before .before .next .ensures
+          ∙ ap resultOf (tried-through (p g) (k g) (take (k g) (ax g)) (take (k g) (ay g)) (first-fine g .1) (z .0) (z .1)))
           ∙ ap₂ (λ u v. pad 4 (interpolate (p g) u v)) (first g .0) (first g .1),
     )
 
@@ -208,7 +209,8 @@ judged-requires c κs =
     let t = s g .args .t in (
       (r .0 .0, omega (arith, r .0 .0, r .1 .2), r .0 .1 .lengths, r .0 .2 .0),
       (
-        subst (λ n. Residues (p g) (take n (c .before .before .solve .result .numerator))) (sym (add-one (d + t))) (pair .two .numerator .residues),
+        subst (λ n. Residues (p g) (take n (c .before .before .solve .result .numerator))) (sym (add-one (d + t)))
+            (pair .two .numerator .residues),
         subst (λ n. Residues (p g) (take n (c .before .before .solve .result .locator))) (sym (add-one d)) (pair .two .locator .residues),
       ),
     )
@@ -217,13 +219,14 @@ returns : tie.Need-returns
 returns c =
     let g = c .before .before .before .before .before .before .before .before .before .before .before .before in
     let r = s g .pre in
-    let solved : Solved (p g) (s g .args .t) (px g) (py g) (c .before .before .before .solve .result) =
-    subst (λ z. Solved (p g) (s g .args .t) z (py g) (c .before .before .before .solve .result)) (all g .0)
-    (subst (λ z. Solved (p g) (s g .args .t) (take (m g) (ax g)) z (c .before .before .before .solve .result)) (all g .1) (c .before .before .before .solve .ensures)) in
+    let v = c .before .before .before .solve in
+    let solved : Solved (p g) (s g .args .t) (px g) (py g) (v .result) =
+    subst (λ z. Solved (p g) (s g .args .t) z (py g) (v .result)) (all g .0)
+    (subst (λ z. Solved (p g) (s g .args .t) (take (m g) (ax g)) z (v .result)) (all g .1) (v .ensures)) in
     c .judged .ensures
     ∙ ap decoded
-    (located-fit (p g) (prime-of (s g .args .w)) (s g .args .t) (s g .args .need) (s g .args .spare) (xs g) (ys g) (r .0 .1 .lengths) (r .0 .2)
-    (r .1 .0) (r .1 .1) (r .1 .2) (px g) (py g) (gathered g) (size-x g) (size-y g ∙ sym (size-x g)) (fine g) _ solved)
+    (located-fit (p g) (prime-of (s g .args .w)) (s g .args .t) (s g .args .need) (s g .args .spare) (xs g) (ys g) (r .0 .1 .lengths)
+    (r .0 .2) (r .1 .0) (r .1 .1) (r .1 .2) (px g) (py g) (gathered g) (size-x g) (size-y g ∙ sym (size-x g)) (fine g) _ solved)
 
 pub by-locator-spec : {M : Type 1} → statement M
 by-locator-spec =

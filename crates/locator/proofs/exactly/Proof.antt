@@ -28,7 +28,9 @@ same-length : tie.Need-same-length
 same-length c = search needs
 
 returns : tie.Need-returns
-returns c = let e = c .before .before .before .before .before .divide .ensures in exactly-found _ _ _ _ _ _ (e .1) (sym (c .before .zeros .ensures) ∙ c .if1 .taken) _ (e .0)
+returns c =
+    let e = c .before .before .before .before .before .divide .ensures in
+    exactly-found _ _ _ _ _ _ (e .1) (sym (c .before .zeros .ensures) ∙ c .if1 .taken) _ (e .0)
 
 nothing-requires : tie.Need-nothing-requires
 nothing-requires c κs = search needs
@@ -37,7 +39,9 @@ same-length-2 : tie.Need-same-length-2
 same-length-2 c = search needs
 
 returns-2 : tie.Need-returns-2
-returns-2 c = let e = c .before .before .before .before .before .before .divide .ensures in c .nothing .ensures ∙ exactly-not _ _ _ _ _ _ (e .1) (sym (c .before .before .zeros .ensures) ∙ c .before .if1 .left)
+returns-2 c =
+    let e = c .before .before .before .before .before .before .divide .ensures in
+    c .nothing .ensures ∙ exactly-not _ _ _ _ _ _ (e .1) (sym (c .before .before .zeros .ensures) ∙ c .before .if1 .left)
 
 pub exactly-spec : {M : Type 1} → statement M
 exactly-spec =

@@ -8,7 +8,8 @@ use Rattle.locator.proofs.fit.Statement.{statement}
 use Rattle.locator.proofs.fit.Tie as tie
 
 -- What passes the tests is admitted.
-admits : (c : tie.After-enum-told) → let a = c .before .before .before .before .before .args in Admitted (a .t) (a .least) (a .xs .now) (a .ys .now)
+admits : (c : tie.After-enum-told) → let a = c .before .before .before .before .before .args in
+    Admitted (a .t) (a .least) (a .xs .now) (a .ys .now)
 admits c =
     let v = c .before .before in
     let a = v .before .before .before .args in

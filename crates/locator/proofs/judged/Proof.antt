@@ -17,6 +17,10 @@ use Rattle.locator.proofs.judged.Tie as tie
 sizes : (s : tie.Start) → (length (s .args .numerator) ≡ 12) × (length (s .args .locator) ≡ 8)
 sizes s = (omega arith, omega arith)
 
+-- The start, from the quotient.
+abbrev start : tie.After-quotient → tie.Start
+start q = q .before .before .before .before
+
 nothing-requires : tie.Need-nothing-requires
 nothing-requires c κs = search needs
 
@@ -32,7 +36,8 @@ nothing-requires-2 c κs = search needs
 returns-2 : tie.Need-returns-2
 returns-2 c =
     let q = c .before .before .before in
-    c .nothing2 .ensures ∙ judged-rest _ _ _ _ _ _ _ _ _ (q .before .if1 .left) _ (q .quotient .ensures) (not-true _ (c .before .if2 .taken))
+    c .nothing2 .ensures
+    ∙ judged-rest _ _ _ _ _ _ _ _ _ (q .before .if1 .left) _ (q .quotient .ensures) (not-true _ (c .before .if2 .taken))
 
 array-read-enough : tie.Need-array-read-enough
 array-read-enough c = search needs
@@ -48,11 +53,14 @@ array-read-enough-4 c = search needs
 
 enough-requires : tie.Need-enough-requires
 enough-requires c κs =
-    let s = c .before .before .before .before .before .before .before in
     let q = c .before .before .before in
-    let p = primeOf (s .args .w) in
-    let fine = quotient-fine _ (s .args .t) (s .args .need) (s .args .spare) (s .args .xs .now) (s .args .ys .now) (s .args .degree) (s .args .numerator) (s .args .locator) (q .before .if1 .left) _ (q .quotient .ensures)
-    (not-false _ (c .before .if2 .left)) (s .pre .0 .0) (omega (arith, c .before .before .before .before .if1 .left)) (sizes s .0) (sizes s .1) (positive (s .args .w)) in
+    let s = start q in
+    let a = s .args in
+    let p = primeOf (a .w) in
+    let few = q .before .if1 .left in
+    let fine = quotient-fine _ (a .t) (a .need) (a .spare) (a .xs .now) (a .ys .now) (a .degree) (a .numerator) (a .locator) few _
+    (q .quotient .ensures) (not-false _ (c .before .if2 .left)) (s .pre .0 .0) (omega (arith, few)) (sizes s .0) (sizes s .1)
+    (positive (a .w)) in
     let f = q .quotient .result .coefficients in (
       s .pre .0 .2,
       (
@@ -69,18 +77,24 @@ nothing-requires-3 c κs = search needs
 
 returns-3 : tie.Need-returns-3
 returns-3 c =
-    let s = c .before .before .before .before .before .before .before .before .before .before in
-    let q = c .before .before .before .before .before .before in
+    let full = c .before .before .before .before in
+    let q = full .before .before in
+    let s = start q in
+    let few = q .before .if1 .left in
     c .nothing3 .ensures
-    ∙ judged-few _ _ _ _ _ _ _ _ _ (q .before .if1 .left) _ (q .quotient .ensures) (not-false _ (c .before .before .before .before .if2 .left)) (s .pre .0 .0)
-    (omega (arith, q .before .if1 .left, s .pre .0 .1)) (sizes s .0) (sizes s .1) (positive (s .args .w)) (sym (not-true _ (c .before .if3 .taken)) ∙ c .before .before .enough .ensures)
+    ∙ judged-few _ _ _ _ _ _ _ _ _ few _ (q .quotient .ensures) (not-false _ (full .if2 .left)) (s .pre .0 .0)
+    (omega (arith, few, s .pre .0 .1)) (sizes s .0) (sizes s .1) (positive (s .args .w))
+    (sym (not-true _ (c .before .if3 .taken)) ∙ c .before .before .enough .ensures)
 
 returns-4 : tie.Need-returns-4
 returns-4 c =
-    let s = c .before .before .before .before .before .before .before .before .before in
-    let q = c .before .before .before .before .before in
-    judged-right _ _ _ _ _ _ _ _ _ (q .before .if1 .left) _ (q .quotient .ensures) (not-false _ (c .before .before .before .if2 .left)) (s .pre .0 .0)
-    (omega (arith, q .before .if1 .left, s .pre .0 .1)) (sizes s .0) (sizes s .1) (positive (s .args .w)) (sym (not-false _ (c .if3 .left)) ∙ c .before .enough .ensures)
+    let full = c .before .before .before in
+    let q = full .before .before in
+    let s = start q in
+    let few = q .before .if1 .left in
+    judged-right _ _ _ _ _ _ _ _ _ few _ (q .quotient .ensures) (not-false _ (full .if2 .left)) (s .pre .0 .0)
+    (omega (arith, few, s .pre .0 .1)) (sizes s .0) (sizes s .1) (positive (s .args .w))
+    (sym (not-false _ (c .if3 .left)) ∙ c .before .enough .ensures)
 
 pub judged-spec : {M : Type 1} → statement M
 judged-spec =

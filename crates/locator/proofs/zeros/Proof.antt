@@ -37,7 +37,8 @@ shared-slice-read-if1 c = search needs
 returns : tie.Need-returns Inv-loop μ-loop
 returns c =
     let k = c .before .before .before .loop in
-    passed-not fine zeros refl (λ a xs. refl) (c .before .before .before .before .args .list .now) (k .i) (omega arith) (k .inv .within) (ne-eqb _ 0 (c .if1 .taken))
+    passed-not fine zeros refl (λ a xs. refl) (c .before .before .before .before .args .list .now) (k .i) (omega arith) (k .inv .within)
+    (ne-eqb _ 0 (c .if1 .taken))
 
 loop-less : tie.Need-loop-less Inv-loop μ-loop
 loop-less c = search needs

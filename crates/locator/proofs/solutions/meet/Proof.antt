@@ -11,6 +11,13 @@ use borrow.Author.Needs.{needs}
 use Rattle.locator.proofs.solutions.meet.Statement.{statement}
 use Rattle.locator.proofs.solutions.meet.Tie as tie
 
+-- The start: from what the point is off by, and from past the test of it.
+abbrev start : tie.After-off → tie.Start
+start c = c .before .before .before .before .before .before .before
+
+abbrev start-else : tie.Else1 → tie.Start
+start-else c = start (c .before)
+
 sub-nq : tie.Need-sub-nq
 sub-nq c = search needs
 
@@ -62,31 +69,33 @@ slice-reshare-prefix-take-away : tie.Need-slice-reshare-prefix-take-away
 slice-reshare-prefix-take-away c = search needs
 
 slice-aggregate-take-away : tie.Need-slice-aggregate-take-away
-slice-aggregate-take-away c = front-size (c .before .before .before .before .before .before .before .before .before .args .q .now)
+slice-aggregate-take-away c = front-size (start-else (c .before) .args .q .now)
 
 slice-reshare-prefix-take-away-2 : tie.Need-slice-reshare-prefix-take-away-2
 slice-reshare-prefix-take-away-2 c = search needs
 
 slice-aggregate-take-away-2 : tie.Need-slice-aggregate-take-away-2
-slice-aggregate-take-away-2 c = front-size (c .before .before .before .before .before .before .before .before .before .before .args .e .now)
+slice-aggregate-take-away-2 c = front-size (start-else (c .before .before) .args .e .now)
 
 slice-relend-prefix-take-away : tie.Need-slice-relend-prefix-take-away
 slice-relend-prefix-take-away c = search needs
 
 slice-aggregate-take-away-3 : tie.Need-slice-aggregate-take-away-3
-slice-aggregate-take-away-3 c = front-size (c .before .before .before .before .before .before .before .before .before .before .before .args .r .now)
+slice-aggregate-take-away-3 c = front-size (start-else (c .before .before .before) .args .r .now)
 
 slice-relend-prefix-take-away-2 : tie.Need-slice-relend-prefix-take-away-2
 slice-relend-prefix-take-away-2 c = search needs
 
 slice-aggregate-take-away-4 : tie.Need-slice-aggregate-take-away-4
-slice-aggregate-take-away-4 c = front-size (c .before .before .before .before .before .before .before .before .before .before .before .before .args .f .now)
+slice-aggregate-take-away-4 c = front-size (start-else (c .before .before .before .before) .args .f .now)
 
 take-away-requires : tie.Need-take-away-requires
 take-away-requires c κs =
-    let s = c .before .before .before .before .before .before .before .before .before .before .before .before in
-    let r = s .pre .0 in
-    ((roomy-short _ _ (r .0), roomy-short _ _ (r .1), roomy-short _ _ (r .2), roomy-short _ _ (r .3)), (s .pre .1 .0, s .pre .1 .1, c .before .before .before .before .before .off .ensures .1))
+    let found = c .before .before .before .before .before in
+    let (r, z) = start found .pre in (
+      (roomy-short _ _ (r .0), roomy-short _ _ (r .1), roomy-short _ _ (r .2), roomy-short _ _ (r .3)),
+      (z .0, z .1, found .off .ensures .1),
+    )
 
 raise-both-requires-2 : tie.Need-raise-both-requires-2
 raise-both-requires-2 c κs = search needs
@@ -109,7 +118,7 @@ returns-2 c =
     let taken = c .before .before .before .before .before .before .before .before .before .before .before in
     let differs = taken .before .before .before .before .before in
     let found = differs .before in
-    let a = found .before .before .before .before .before .before .before .args in
+    let a = start found .args in
     let p = primeOf (a .w) in
     let g = off p (a .x) (a .y) (front (a .r .now)) (front (a .f .now)) in
     let d = found .off .ensures .0 in

@@ -39,7 +39,8 @@ determinant-requires c κs =
       s .pre .2,
       all-getD (λ c. c < p) (k .r) (k .i) 0 (omega arith) (k .inv .residues),
       s .pre .3,
-      subst (λ z. z < p) (sym (c .before .coefficient .ensures)) (coefficient-below p (s .args .q .now) (k .i) (positive (s .args .w)) (s .pre .1)),
+      subst (λ z. z < p) (sym (c .before .coefficient .ensures))
+          (coefficient-below p (s .args .q .now) (k .i) (positive (s .args .w)) (s .pre .1)),
     )
 
 mul-r : tie.Need-mul-r Inv-loop μ-loop
@@ -52,7 +53,9 @@ add-i : tie.Need-add-i Inv-loop μ-loop
 add-i c = search needs
 
 loop-less : tie.Need-loop-less Inv-loop μ-loop
-loop-less c = let k = c .before .before .before .before .loop in omega (arith, k .inv .size, length-set (k .r) (k .i) (c .determinant .result))
+loop-less c =
+    let k = c .before .before .before .before .loop in
+    omega (arith, k .inv .size, length-set (k .r) (k .i) (c .determinant .result))
 
 loop-again : tie.Need-loop-again Inv-loop μ-loop
 loop-again c =
@@ -61,7 +64,8 @@ loop-again c =
     let p = primeOf (s .args .w) in
     let e = c .determinant .ensures in
     mixing-next _ _ _ _ _ (k .r) (k .i) _ (k .inv) (omega arith)
-    (e .0 ∙ ap (λ z. sub p (mul p (s .args .d) (getD (k .r) (k .i) 0)) (mul p (s .args .g) z)) (c .before .before .coefficient .ensures)) (e .1)
+    (e .0 ∙ ap (λ z. sub p (mul p (s .args .d) (getD (k .r) (k .i) 0)) (mul p (s .args .g) z)) (c .before .before .coefficient .ensures))
+    (e .1)
 
 same-length : tie.Need-same-length Inv-loop μ-loop
 same-length c = search needs

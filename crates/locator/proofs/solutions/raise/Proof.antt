@@ -46,7 +46,9 @@ loop-less : tie.Need-loop-less Inv-loop μ-loop
 loop-less c = search needs
 
 loop-again : tie.Need-loop-again Inv-loop μ-loop
-loop-again c = let k = c .before .before .before .loop in raising-next _ _ _ (k .f) (k .carried) (k .i) (k .inv) (omega arith) _ (c .mul-sub .ensures .0)
+loop-again c =
+    let k = c .before .before .before .loop in
+    raising-next _ _ _ (k .f) (k .carried) (k .i) (k .inv) (omega arith) _ (c .mul-sub .ensures .0)
 
 mul-f-2 : tie.Need-mul-f-2 Inv-loop μ-loop
 mul-f-2 c = search needs
@@ -58,7 +60,9 @@ same-length : tie.Need-same-length Inv-loop μ-loop
 same-length c = search needs
 
 returns : tie.Need-returns Inv-loop μ-loop
-returns c = let k = c .before .loop in raising-end _ _ _ (k .f) (k .carried) (k .i) (k .inv) (c .before .before .before .pre .2) (omega arith)
+returns c =
+    let k = c .before .loop in
+    raising-end _ _ _ (k .f) (k .carried) (k .i) (k .inv) (c .before .before .before .pre .2) (omega arith)
 
 pub raise-spec : {M : Type 1} → statement M
 raise-spec =

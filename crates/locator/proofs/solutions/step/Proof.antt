@@ -70,14 +70,23 @@ module _ (s : tie.Start) where
     first : a ≤ b + t → r ≡ cond m (suc a) a
         → Met p x y (take (a + 2) q1) (take (a - t + 1) e1) (take (b + t + 2) q2) (take (b + 2) e2) m q1' e1' q2' e2' → Stepped
     first lower e =
-        first-lower _ (prime-of (s .args .w)) _ _ _ (s .pre .0 .4) _ _ (s .pre .0 .2) (s .pre .0 .1) (s .pre .0 .0) _ _ _ _ (s .pre .1) q1' e1' q2' e2' (a + 2) (a - t + 1) (b + t + 2) (b + 2) _ r
+        first-lower _ (prime-of (s .args .w)) _ _ _ (s .pre .0 .4) _ _ (s .pre .0 .2) (s .pre .0 .1) (s .pre .0 .0) _ _ _ _ (s .pre .1)
+        q1' e1' q2' e2' (a + 2) (a - t + 1) (b + t + 2) (b + 2) _ r
         (omega arith) (omega arith) (omega arith) (omega arith) (omega arith) lower m e
 
     second : b + t < a → r ≡ cond m a (suc a)
         → Met p x y (take (b + t + 2) q2) (take (b + 2) e2) (take (a + 2) q1) (take (a - t + 1) e1) m q2' e2' q1' e1' → Stepped
     second lower e =
-        second-lower _ (prime-of (s .args .w)) _ _ _ (s .pre .0 .4) _ _ (s .pre .0 .2) (s .pre .0 .1) (s .pre .0 .0) _ _ _ _ (s .pre .1) q1' e1' q2' e2' (a + 2) (a - t + 1) (b + t + 2) (b + 2) _ r
+        second-lower _ (prime-of (s .args .w)) _ _ _ (s .pre .0 .4) _ _ (s .pre .0 .2) (s .pre .0 .1) (s .pre .0 .0) _ _ _ _ (s .pre .1)
+        q1' e1' q2' e2' (a + 2) (a - t + 1) (b + t + 2) (b + 2) _ r
         (omega arith) (omega arith) (omega arith) (omega arith) (omega arith) lower m e
+
+-- The start, from past the test whether the first is lower, and from past its other side.
+abbrev start : tie.Then1 → tie.Start
+start c = c .before .before .before .before .before .before .before .before .before
+
+abbrev start-else : tie.Else1 → tie.Start
+start-else c = c .before .before .before .before .before .before .before .before .before
 
 sub-b : tie.Need-sub-b
 sub-b c = search needs
@@ -104,9 +113,7 @@ slice-relend-prefix-meet : tie.Need-slice-relend-prefix-meet
 slice-relend-prefix-meet c = search needs
 
 slice-aggregate-meet : tie.Need-slice-aggregate-meet
-slice-aggregate-meet c =
-    let s = c .before .before .before .before .before .before .before .before .before .before in
-    sym (length-take-le _ (s .args .q1 .now) (sizes s .0))
+slice-aggregate-meet c = let s = start (c .before) in sym (length-take-le _ (s .args .q1 .now) (sizes s .0))
 
 sub-meet : tie.Need-sub-meet
 sub-meet c = search needs
@@ -118,9 +125,7 @@ slice-relend-prefix-meet-2 : tie.Need-slice-relend-prefix-meet-2
 slice-relend-prefix-meet-2 c = search needs
 
 slice-aggregate-meet-2 : tie.Need-slice-aggregate-meet-2
-slice-aggregate-meet-2 c =
-    let s = c .before .before .before .before .before .before .before .before .before .before .before in
-    sym (length-take-le _ (s .args .e1 .now) (sizes s .1))
+slice-aggregate-meet-2 c = let s = start (c .before .before) in sym (length-take-le _ (s .args .e1 .now) (sizes s .1))
 
 add-meet-3 : tie.Need-add-meet-3
 add-meet-3 c = search needs
@@ -132,9 +137,7 @@ slice-relend-prefix-meet-3 : tie.Need-slice-relend-prefix-meet-3
 slice-relend-prefix-meet-3 c = search needs
 
 slice-aggregate-meet-3 : tie.Need-slice-aggregate-meet-3
-slice-aggregate-meet-3 c =
-    let s = c .before .before .before .before .before .before .before .before .before .before .before .before in
-    sym (length-take-le _ (s .args .q2 .now) (sizes s .2))
+slice-aggregate-meet-3 c = let s = start (c .before .before .before) in sym (length-take-le _ (s .args .q2 .now) (sizes s .2))
 
 add-meet-5 : tie.Need-add-meet-5
 add-meet-5 c = search needs
@@ -143,13 +146,11 @@ slice-relend-prefix-meet-4 : tie.Need-slice-relend-prefix-meet-4
 slice-relend-prefix-meet-4 c = search needs
 
 slice-aggregate-meet-4 : tie.Need-slice-aggregate-meet-4
-slice-aggregate-meet-4 c =
-    let s = c .before .before .before .before .before .before .before .before .before .before .before .before .before in
-    sym (length-take-le _ (s .args .e2 .now) (sizes s .3))
+slice-aggregate-meet-4 c = let s = start (c .before .before .before .before) in sym (length-take-le _ (s .args .e2 .now) (sizes s .3))
 
 meet-requires : tie.Need-meet-requires
 meet-requires c κs =
-    let s = c .before .before .before .before .before .before .before .before .before .before .before .before .before in
+    let s = start (c .before .before .before .before) in
     let r = lent s in
     ((r .0, r .1, r .2, r .3), here s)
 
@@ -172,8 +173,9 @@ returns : tie.Need-returns
 returns c =
     let met = c .before .before .before .before .before .before .before .before .before in
     let lower = met .before .before .before .before .before in
-    let s = lower .before .before .before .before .before .before .before .before .before in
-    first s (met .meet .result) _ _ _ _ _ (lower .if1 .taken) (add-one (s .args .a) ∙ ap (λ m. cond m (suc (s .args .a)) (s .args .a)) (sym (c .if2 .taken))) (met .meet .ensures)
+    let s = start lower in
+    first s (met .meet .result) _ _ _ _ _ (lower .if1 .taken) (add-one (a s) ∙ ap (λ m. cond m (suc (a s)) (a s)) (sym (c .if2 .taken)))
+    (met .meet .ensures)
 
 same-length-5 : tie.Need-same-length-5
 same-length-5 c = search needs
@@ -191,8 +193,8 @@ returns-2 : tie.Need-returns-2
 returns-2 c =
     let met = c .before .before .before .before .before .before .before .before .before in
     let lower = met .before .before .before .before .before in
-    let s = lower .before .before .before .before .before .before .before .before .before in
-    first s (met .meet .result) _ _ _ _ _ (lower .if1 .taken) (ap (λ m. cond m (suc (s .args .a)) (s .args .a)) (sym (c .if2 .left))) (met .meet .ensures)
+    let s = start lower in
+    first s (met .meet .result) _ _ _ _ _ (lower .if1 .taken) (ap (λ m. cond m (suc (a s)) (a s)) (sym (c .if2 .left))) (met .meet .ensures)
 
 add-meet-6 : tie.Need-add-meet-6
 add-meet-6 c = search needs
@@ -204,9 +206,7 @@ slice-relend-prefix-meet-5 : tie.Need-slice-relend-prefix-meet-5
 slice-relend-prefix-meet-5 c = search needs
 
 slice-aggregate-meet-5 : tie.Need-slice-aggregate-meet-5
-slice-aggregate-meet-5 c =
-    let s = c .before .before .before .before .before .before .before .before .before .before in
-    sym (length-take-le _ (s .args .q2 .now) (sizes s .2))
+slice-aggregate-meet-5 c = let s = start-else (c .before) in sym (length-take-le _ (s .args .q2 .now) (sizes s .2))
 
 add-meet-8 : tie.Need-add-meet-8
 add-meet-8 c = search needs
@@ -215,9 +215,7 @@ slice-relend-prefix-meet-6 : tie.Need-slice-relend-prefix-meet-6
 slice-relend-prefix-meet-6 c = search needs
 
 slice-aggregate-meet-6 : tie.Need-slice-aggregate-meet-6
-slice-aggregate-meet-6 c =
-    let s = c .before .before .before .before .before .before .before .before .before .before .before in
-    sym (length-take-le _ (s .args .e2 .now) (sizes s .3))
+slice-aggregate-meet-6 c = let s = start-else (c .before .before) in sym (length-take-le _ (s .args .e2 .now) (sizes s .3))
 
 add-meet-9 : tie.Need-add-meet-9
 add-meet-9 c = search needs
@@ -226,9 +224,7 @@ slice-relend-prefix-meet-7 : tie.Need-slice-relend-prefix-meet-7
 slice-relend-prefix-meet-7 c = search needs
 
 slice-aggregate-meet-7 : tie.Need-slice-aggregate-meet-7
-slice-aggregate-meet-7 c =
-    let s = c .before .before .before .before .before .before .before .before .before .before .before .before in
-    sym (length-take-le _ (s .args .q1 .now) (sizes s .0))
+slice-aggregate-meet-7 c = let s = start-else (c .before .before .before) in sym (length-take-le _ (s .args .q1 .now) (sizes s .0))
 
 sub-meet-2 : tie.Need-sub-meet-2
 sub-meet-2 c = search needs
@@ -240,13 +236,11 @@ slice-relend-prefix-meet-8 : tie.Need-slice-relend-prefix-meet-8
 slice-relend-prefix-meet-8 c = search needs
 
 slice-aggregate-meet-8 : tie.Need-slice-aggregate-meet-8
-slice-aggregate-meet-8 c =
-    let s = c .before .before .before .before .before .before .before .before .before .before .before .before .before in
-    sym (length-take-le _ (s .args .e1 .now) (sizes s .1))
+slice-aggregate-meet-8 c = let s = start-else (c .before .before .before .before) in sym (length-take-le _ (s .args .e1 .now) (sizes s .1))
 
 meet-requires-2 : tie.Need-meet-requires-2
 meet-requires-2 c κs =
-    let s = c .before .before .before .before .before .before .before .before .before .before .before .before .before in
+    let s = start-else (c .before .before .before .before) in
     let r = lent s in
     ((r .2, r .3, r .0, r .1), here s)
 
@@ -266,8 +260,9 @@ returns-3 : tie.Need-returns-3
 returns-3 c =
     let met = c .before .before .before .before .before .before .before .before .before in
     let lower = met .before .before .before .before .before in
-    let s = lower .before .before .before .before .before .before .before .before .before in
-    second s (met .meet2 .result) _ _ _ _ _ (lower .if1 .left) (ap (λ m. cond m (s .args .a) (suc (s .args .a))) (sym (c .if3 .taken))) (met .meet2 .ensures)
+    let s = start-else lower in
+    second s (met .meet2 .result) _ _ _ _ _ (lower .if1 .left) (ap (λ m. cond m (a s) (suc (a s))) (sym (c .if3 .taken)))
+    (met .meet2 .ensures)
 
 add-result-2 : tie.Need-add-result-2
 add-result-2 c = search needs
@@ -288,8 +283,9 @@ returns-4 : tie.Need-returns-4
 returns-4 c =
     let met = c .before .before .before .before .before .before .before .before .before in
     let lower = met .before .before .before .before .before in
-    let s = lower .before .before .before .before .before .before .before .before .before in
-    second s (met .meet2 .result) _ _ _ _ _ (lower .if1 .left) (add-one (s .args .a) ∙ ap (λ m. cond m (s .args .a) (suc (s .args .a))) (sym (c .if3 .left))) (met .meet2 .ensures)
+    let s = start-else lower in
+    second s (met .meet2 .result) _ _ _ _ _ (lower .if1 .left) (add-one (a s) ∙ ap (λ m. cond m (a s) (suc (a s))) (sym (c .if3 .left)))
+    (met .meet2 .ensures)
 
 pub step-spec : {M : Type 1} → statement M
 step-spec =
