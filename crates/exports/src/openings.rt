@@ -2,7 +2,7 @@
 ghost use mathlib.Core.Path.{_≡_};
 ghost use mathlib.Core.List.{[], _∷_, _++_};
 ghost use Prim.Native.Nat.{_<_};
-ghost use lib.ListN.{take};
+ghost use lib.ListN.{take, getD};
 ghost use Rattle.field.specs.Modulus.{modulus, wideModulus, primeOf};
 ghost use Rattle.answers.specs.declared.Admission.the-variants.{Pass};
 ghost use Rattle.answers.specs.declared.Refusal.the-variants.{WrongTable};
@@ -13,6 +13,7 @@ ghost use Rattle.exports.specs.Exports.{openingLengths, openedIf, openin
 ghost use Rattle.exports.specs.Pieces.{openedBy, Openings};
 use answers::Admission;
 use answers::Decoding;
+use answers::Fitted;
 use answers::Refusal;
 use answers::also;
 use answers::refusal_number;
@@ -79,6 +80,69 @@ fn put_opened(outcome: Decoding, constant: u32, opened: &mut u16) -> u8
     }
 }
 
+// Writes the constant of what fits, where something does.
+fn put_fitted(fitted: Fitted, opened: &mut u16) -> u8
+    requires { ⌜ getD (fitted .coefficients) 0 0 < 65536 ⌝ }
+    ensures { λ r. ⌜ (now (opened .exit), r) ≡ openedBy (fitted .outcome) (getD (fitted .coefficients) 0 0) (now (opened .entry)) ⌝ }
+{
+    let outcome = fitted.outcome;
+    let coefficients = fitted.coefficients;
+    put_opened(outcome, coefficients[0], opened)
+}
+
+// The same as a number of 32 bits.
+fn put_wide_fitted(fitted: Fitted, opened: &mut u32) -> u8
+    ensures { λ r. ⌜ (now (opened .exit), r) ≡ openedBy (fitted .outcome) (getD (fitted .coefficients) 0 0) (now (opened .entry)) ⌝ }
+{
+    let outcome = fitted.outcome;
+    let coefficients = fitted.coefficients;
+    put_wide_opened(outcome, coefficients[0], opened)
+}
+
+// The opening of numbers of 16 bits in a list of 32, where all is right. Each decoder is called by itself: with one function for both, the
+// quicker one would be called through the larger one.
+fn opened_list(by: Decoder, n: u8, t: u8, table: [u32; 16], shares: &[u32], opened: &mut u16) -> u8
+    requires { ⌜ Openings modulus n t (take n table) (now shares) ⌝ }
+    ensures { λ r. ⌜ (now (opened .exit), r) ≡ openedIf Pass (now (opened .entry))
+        (openingOf modulus t (take n table) (now (shares .entry))) ⌝ }
+{
+    match by {
+        Decoder::Trial => put_fitted(
+            recovery::published(Width::Narrow, n, t, table, shares),
+            opened,
+        ),
+        Decoder::Locator => put_fitted(
+            recovery::located(Width::Narrow, n, t, table, shares),
+            opened,
+        ),
+    }
+}
+
+// The same of numbers of 32 bits.
+fn opened_wide_list(
+    by: Decoder,
+    n: u8,
+    t: u8,
+    table: [u32; 16],
+    shares: &[u32],
+    opened: &mut u32,
+) -> u8
+    requires { ⌜ Openings wideModulus n t (take n table) (now shares) ⌝ }
+    ensures { λ r. ⌜ (now (opened .exit), r) ≡ openedIf Pass (now (opened .entry))
+        (openingOf wideModulus t (take n table) (now (shares .entry))) ⌝ }
+{
+    match by {
+        Decoder::Trial => put_wide_fitted(
+            recovery::published(Width::Wide, n, t, table, shares),
+            opened,
+        ),
+        Decoder::Locator => put_wide_fitted(
+            recovery::located(Width::Wide, n, t, table, shares),
+            opened,
+        ),
+    }
+}
+
 // The opening by what is found of its arguments: refused, or what fits the shares by themselves, found by either decoder.
 fn opened_by(
     by: Decoder,
@@ -99,10 +163,7 @@ fn opened_by(
             let count = n as usize;
             let mut list = [0u32; 16];
             arrays::widened(shares, &mut list[..count]);
-            let fitted = recovery::published(by, Width::Narrow, n, t, table, &list[..count]);
-            let outcome = fitted.outcome;
-            let coefficients = fitted.coefficients;
-            put_opened(outcome, coefficients[0], opened)
+            opened_list(by, n, t, table, &list[..count], opened)
         }
     }
 }
@@ -123,12 +184,7 @@ fn opened_wide_by(
 {
     match admitted {
         Admission::Fail(why) => refusal_number(why),
-        Admission::Pass => {
-            let fitted = recovery::published(by, Width::Wide, n, t, table, shares);
-            let outcome = fitted.outcome;
-            let coefficients = fitted.coefficients;
-            put_wide_opened(outcome, coefficients[0], opened)
-        }
+        Admission::Pass => opened_wide_list(by, n, t, table, shares, opened),
     }
 }
 

@@ -1,5 +1,6 @@
 // What is fitted to the parties' points: the column repaired from what the happy parties said, and the opening of published shares.
 ghost use mathlib.Core.Path.{_≡_};
+ghost use mathlib.Core.Bool.{true};
 ghost use Prim.Native.Nat.{_+_, _*_, _-_, _≤_, _<_, _^_};
 ghost use lib.Dec.{ltb};
 ghost use lib.ListN.{length, take, set};
@@ -10,7 +11,7 @@ ghost use Rattle.field.specs.Modulus.{primeOf};
 ghost use Rattle.answers.specs.Fits.{decoded};
 ghost use Rattle.fit.specs.Fit.{sent, fit};
 ghost use Rattle.fit.specs.Opening.{needed};
-ghost use Rattle.parties.specs.Parties.{notSent};
+ghost use Rattle.parties.specs.Parties.{notSent, sizes};
 ghost use Rattle.tables.specs.Tables.{IsTable};
 ghost use Rattle.recovery.specs.Recovery.{repairIn, publishedIn, openingIn};
 use answers::Fitted;
@@ -42,25 +43,24 @@ fn heard_from(w: Width, n: u8, set: u16, heard: [u32; 16]) -> [u32; 16]
 }
 
 // The polynomial of degree at most t with which at least `least` of the n values agree at the parties' points, and from which at most t of
-// those sent differ, if there is one.
-fn fit_parties(
-    by: Decoder,
-    w: Width,
-    n: u8,
-    t: u8,
-    table: [u32; 16],
-    least: usize,
-    values: &[u32],
-) -> Fitted
+// those sent differ, if there is one. That the first n numbers are a table is the caller's to show, here and below.
+fn fit_parties(w: Width, n: u8, t: u8, table: [u32; 16], least: usize, values: &[u32]) -> Fitted
     requires { ⌜ (n ≤ 16) × (t ≤ 3) × (2 * t + 1 ≤ least) × (length (now values) ≡ n) × IsTable (primeOf w) n (take n table) ⌝ }
     ensures { λ r. ⌜ r ≡ decoded (fit (primeOf w) t (needed t least (sent (primeOf w) (now (values .entry))))
         (take n table) (now (values .entry))) ⌝ }
 {
     let count = n as usize;
-    match by {
-        Decoder::Trial => fit::fit(w, t as usize, least, &table[..count], values),
-        Decoder::Locator => locator::fit(w, t as usize, least, &table[..count], values),
-    }
+    fit::fit(w, t as usize, least, &table[..count], values)
+}
+
+// The same, by an error locator.
+fn locate_parties(w: Width, n: u8, t: u8, table: [u32; 16], least: usize, values: &[u32]) -> Fitted
+    requires { ⌜ (n ≤ 16) × (t ≤ 3) × (2 * t + 1 ≤ least) × (length (now values) ≡ n) × IsTable (primeOf w) n (take n table) ⌝ }
+    ensures { λ r. ⌜ r ≡ decoded (fit (primeOf w) t (needed t least (sent (primeOf w) (now (values .entry))))
+        (take n table) (now (values .entry))) ⌝ }
+{
+    let count = n as usize;
+    locator::fit(w, t as usize, least, &table[..count], values)
 }
 
 // Whether the set has none but the first n parties.
@@ -72,7 +72,7 @@ fn within(n: u8, set: u16) -> bool
 }
 
 // The column that fits what the parties of the set said first, if one does. Refused: a bad size, a party above n in the set, fewer
-// than 3t + 1 parties. That the first n numbers are a table is the caller's to show, here and below.
+// than 3t + 1 parties.
 pub fn repair(w: Width, n: u8, t: u8, table: [u32; 16], set: u16, heard: [u32; 16]) -> Fitted
     requires { ⌜ IsTable (primeOf w) n (take n table) ⌝ }
     ensures { λ r. ⌜ r ≡ repairIn (primeOf w) n t (take n table) set heard ⌝ }
@@ -90,15 +90,7 @@ pub fn repair(w: Width, n: u8, t: u8, table: [u32; 16], set: u16, heard: [u32; 1
         return answers::refused_fit(Refusal::WrongLength);
     }
     let values = heard_from(w, n, set, heard);
-    fit_parties(
-        Decoder::Trial,
-        w,
-        n,
-        t,
-        table,
-        count - faulty,
-        &values[..n as usize],
-    )
+    fit_parties(w, n, t, table, count - faulty, &values[..n as usize])
 }
 
 // The shares with party i's own in its own place, first in an array.
@@ -115,9 +107,8 @@ fn with_own(i: u8, share: u32, shares: &[u32]) -> [u32; 16]
     list
 }
 
-// The polynomial that the published shares open by themselves, if one does, found by either decoder. Refused: a bad size, a share too many
-// or too few.
-pub fn published(by: Decoder, w: Width, n: u8, t: u8, table: [u32; 16], shares: &[u32]) -> Fitted
+// The polynomial that the published shares open by themselves, if one does. Refused: a bad size, a share too many or too few.
+pub fn published(w: Width, n: u8, t: u8, table: [u32; 16], shares: &[u32]) -> Fitted
     requires { ⌜ IsTable (primeOf w) n (take n table) ⌝ }
     ensures { λ r. ⌜ r ≡ publishedIn (primeOf w) n t (take n table) (now (shares .entry)) ⌝ }
 {
@@ -127,10 +118,18 @@ pub fn published(by: Decoder, w: Width, n: u8, t: u8, table: [u32; 16], shares: 
     if shares.len() != n as usize {
         return answers::refused_fit(Refusal::WrongLength);
     }
-    fit_parties(by, w, n, t, table, 2 * t as usize + 1, shares)
+    fit_parties(w, n, t, table, 2 * t as usize + 1, shares)
 }
 
-// The same with party i's own share in its own place. Refused also: a number that is no party's.
+// The same by an error locator, where nothing is refused.
+pub fn located(w: Width, n: u8, t: u8, table: [u32; 16], shares: &[u32]) -> Fitted
+    requires { ⌜ (sizes n t ≡ true) × (length (now shares) ≡ n) × IsTable (primeOf w) n (take n table) ⌝ }
+    ensures { λ r. ⌜ r ≡ publishedIn (primeOf w) n t (take n table) (now (shares .entry)) ⌝ }
+{
+    locate_parties(w, n, t, table, 2 * t as usize + 1, shares)
+}
+
+// The same with party i's own share in its own place, by either decoder. Refused also: a number that is no party's.
 pub fn opening(
     by: Decoder,
     w: Width,
@@ -155,5 +154,9 @@ pub fn opening(
         return answers::refused_fit(Refusal::WrongLength);
     }
     let values = with_own(i, share, shares);
-    fit_parties(by, w, n, t, table, 2 * t as usize + 1, &values[..count])
+    let least = 2 * t as usize + 1;
+    match by {
+        Decoder::Trial => fit_parties(w, n, t, table, least, &values[..count]),
+        Decoder::Locator => locate_parties(w, n, t, table, least, &values[..count]),
+    }
 }

@@ -24,7 +24,6 @@ use field::Width;
 use lamp::Lamp;
 use lamp::Reply;
 use record::Reading;
-use recovery::Decoder;
 
 // ---- the numbers of a record
 
@@ -185,7 +184,7 @@ fn fitted(bytes: &[u8], w: Width, n: u8, t: u8) -> Fitted
 {
     let count = n as usize;
     let list = shares(bytes, w, n);
-    recovery::published(Decoder::Trial, w, n, t, tables::sixteen(), &list[..count])
+    recovery::published(w, n, t, tables::sixteen(), &list[..count])
 }
 
 // Puts what the published shares open, or the refusal after a rejected dealer.

@@ -11,6 +11,7 @@ use Rattle.answers.specs.Fits.{decoded}
 use Rattle.parties.specs.Parties.{sizes, isParty}
 use Rattle.parties.proofs.Parties.{sizes-facts, party-facts}
 use Rattle.fit.specs.Opening.{openingOf}
+use Rattle.recovery.specs.Recovery.{openingIn}
 use Rattle.recovery.proofs.Fitting.{opening-size, opening-number, opening-length, opening-admitted}
 use borrow.Author.Needs.{needs}
 use Rattle.recovery.proofs.opening.Statement.{statement}
@@ -71,34 +72,60 @@ with-own-requires c κs =
     let g = small (second e) in
     (omega arith, omega arith, omega arith)
 
-mul-fit-parties : tie.Need-mul-fit-parties
-mul-fit-parties c = search needs
+mul-least : tie.Need-mul-least
+mul-least c = search needs
 
-add-fit-parties : tie.Need-add-fit-parties
-add-fit-parties c = search needs
+add-least : tie.Need-add-least
+add-least c = search needs
+
+enum-told : tie.Need-enum-told
+enum-told c = search needs
 
 array-share-prefix-values : tie.Need-array-share-prefix-values
-array-share-prefix-values c = omega (arith, small (second (c .before .before)))
+array-share-prefix-values c = omega (arith, small (second (c .before .before .before .before)))
 
 slice-aggregate-fit-parties : tie.Need-slice-aggregate-fit-parties
-slice-aggregate-fit-parties c = sym (length-take-le _ _ (omega (arith, small (second (c .before .before .before)))))
+slice-aggregate-fit-parties c = sym (length-take-le _ _ (omega (arith, small (second (c .before .before .before .before .before)))))
 
 fit-parties-requires : tie.Need-fit-parties-requires
 fit-parties-requires c κs =
-    let f = small (second (c .before .before .before)) in
-    (f .0, f .1, omega arith, length-take-le _ _ (omega arith), start (second (c .before .before .before)) .pre)
+    let e = c .before .before .before .before .before in
+    let f = small (second e) in
+    (f .0, f .1, omega arith, length-take-le _ _ (omega arith), start (second e) .pre)
 
-returns-4 : tie.Need-returns-4
-returns-4 c =
-    let w = c .before .before in
+enum-told-2 : tie.Need-enum-told-2
+enum-told-2 c = search needs
+
+array-share-prefix-values-2 : tie.Need-array-share-prefix-values-2
+array-share-prefix-values-2 c = omega (arith, small (second (c .before .before .before .before)))
+
+slice-aggregate-locate-parties : tie.Need-slice-aggregate-locate-parties
+slice-aggregate-locate-parties c = sym (length-take-le _ _ (omega (arith, small (second (c .before .before .before .before .before)))))
+
+locate-parties-requires : tie.Need-locate-parties-requires
+locate-parties-requires c κs =
+    let e = c .before .before .before .before .before in
+    let f = small (second e) in
+    (f .0, f .1, omega arith, length-take-le _ _ (omega arith), start (second e) .pre)
+
+-- What opens the list with the own share in its place is what is asked for.
+opened : (w : tie.After-with-own) → let a = start (second (w .before .before)) .args in
+    decoded (openingOf (primeOf (a .w)) (a .t) (take (a .n) (a .table)) (take (a .n) (w .with-own .result)))
+    ≡ openingIn (primeOf (a .w)) (a .n) (a .t) (take (a .n) (a .table)) (a .i) (a .share) (a .shares .now)
+opened w =
     let e = w .before .before in
     let a = start (second e) .args in
     let own = ap (λ k. take k (w .with-own .result)) (sym (w .before .if3 .left)) ∙ w .with-own .ensures in
-    c .fit-parties .ensures
-    ∙ ap (λ values. decoded (openingOf (primeOf (a .w)) (a .t) (take (a .n) (a .table)) values)) own
+    ap (λ values. decoded (openingOf (primeOf (a .w)) (a .t) (take (a .n) (a .table)) values)) own
     ∙ sym (opening-admitted (primeOf (a .w)) (a .n) (a .t) (take (a .n) (a .table)) (a .i) (a .share) (a .shares .now) (sized (second e))
     (numbered e)
     (w .before .if3 .left))
+
+returns-4 : tie.Need-returns-4
+returns-4 c = c .fit-parties .ensures ∙ opened (c .before .before .before .before)
+
+returns-5 : tie.Need-returns-5
+returns-5 c = c .locate-parties .ensures ∙ opened (c .before .before .before .before)
 
 pub opening-spec : {M : Type 1} → statement M
 opening-spec =
@@ -113,9 +140,15 @@ opening-spec =
     refused-fit-requires-3
     returns-3
     with-own-requires
-    mul-fit-parties
-    add-fit-parties
+    mul-least
+    add-least
+    enum-told
     array-share-prefix-values
     slice-aggregate-fit-parties
     fit-parties-requires
-    returns-4)
+    enum-told-2
+    array-share-prefix-values-2
+    slice-aggregate-locate-parties
+    locate-parties-requires
+    returns-4
+    returns-5)
