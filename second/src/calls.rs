@@ -26,6 +26,9 @@ pub enum Call {
     MakeWith(Width, usize, usize, usize, Vec<u32>),
     /// The desk with a table.
     DeskWith(Desk, Vec<u32>),
+    /// An opening by an error locator. Whoever is asked for it must answer as
+    /// to `Open`.
+    Locate(Width, Vec<u32>),
 }
 
 /// A call to the dealing desk, which concerns no party.
@@ -67,7 +70,10 @@ pub fn apply(party: &mut Party, call: &Call) -> Answer {
         }
         Call::Say(j) => party.say(*j).map(|(first, second)| vec![first, second]),
         Call::Settle(list) => party.settle(list).map(|()| vec![]),
-        Call::Deal(width, _) | Call::Hear(width, _) | Call::Open(width, _) => party
+        Call::Deal(width, _)
+        | Call::Hear(width, _)
+        | Call::Open(width, _)
+        | Call::Locate(width, _) => party
             .check_width(*width)
             .and_then(|()| apply_of_width(party, call)),
         Call::Desk(desk) => {
@@ -84,12 +90,13 @@ pub fn apply(party: &mut Party, call: &Call) -> Answer {
     Answer { result, written }
 }
 
-/// A call that lends field numbers of the party's own width.
+/// A call that lends field numbers of the party's own width. There is one rule
+/// for both openings, and here it is tried out for both.
 fn apply_of_width(party: &mut Party, call: &Call) -> Result<Vec<u32>, u8> {
     match call {
         Call::Deal(_, list) => party.take_deal(list).map(|()| vec![]),
         Call::Hear(_, list) => party.hear(list).map(|report| vec![report.into()]),
-        Call::Open(_, list) => party.open(list).map(|number| vec![number]),
+        Call::Open(_, list) | Call::Locate(_, list) => party.open(list).map(|number| vec![number]),
         _ => unreachable!("a call that lends no field numbers"),
     }
 }
@@ -113,7 +120,7 @@ pub fn call_text(call: &Call) -> String {
         Call::Make(_, n, t, number) => format!("{name} {n} {t} {number}"),
         Call::Say(j) => format!("{name} {j}"),
         Call::Settle(list) => format!("{name}{}", joined(list)),
-        Call::Deal(_, list) | Call::Hear(_, list) | Call::Open(_, list) => {
+        Call::Deal(_, list) | Call::Hear(_, list) | Call::Open(_, list) | Call::Locate(_, list) => {
             format!("{name}{}", joined(list))
         }
         Call::Desk(desk) => {
@@ -144,6 +151,7 @@ pub fn call_name(call: &Call) -> &'static str {
         Call::Desk(_) => ["desk", "wide-desk"],
         Call::MakeWith(..) => ["make-table", "wide-make-table"],
         Call::DeskWith(..) => ["desk-table", "wide-desk-table"],
+        Call::Locate(..) => ["locate", "wide-locate"],
     };
     match call_width(call) {
         Some(Width::Wide) => wide,
@@ -155,7 +163,8 @@ pub fn call_name(call: &Call) -> &'static str {
 pub fn call_width(call: &Call) -> Option<Width> {
     match call {
         Call::Make(width, ..) | Call::MakeWith(width, ..) => Some(*width),
-        Call::Deal(width, _) | Call::Hear(width, _) | Call::Open(width, _) => Some(*width),
+        Call::Deal(width, _) | Call::Hear(width, _) => Some(*width),
+        Call::Open(width, _) | Call::Locate(width, _) => Some(*width),
         Call::Desk(desk) | Call::DeskWith(desk, _) => Some(desk.width),
         Call::Say(_) | Call::Settle(_) => None,
     }
@@ -181,7 +190,34 @@ pub fn of_other_width(call: Call) -> Call {
             let (width, list) = other(width, list);
             Call::Open(width, list)
         }
+        Call::Locate(width, list) => {
+            let (width, list) = other(width, list);
+            Call::Locate(width, list)
+        }
         call => call,
+    }
+}
+
+/// Either opening.
+pub fn is_opening(call: &Call) -> bool {
+    matches!(call, Call::Open(..) | Call::Locate(..))
+}
+
+/// The calls that lend a party field numbers, and so can be of the other prime.
+pub fn lends_numbers(call: &Call) -> bool {
+    is_opening(call) || matches!(call, Call::Deal(..) | Call::Hear(..))
+}
+
+/// An opening asked for both ways, one right after the other: for the same list
+/// also by the locator, last or first. Any other call stays alone.
+pub fn both_ways(call: Call, locator_first: bool) -> Vec<Call> {
+    let Call::Open(width, list) = &call else {
+        return vec![call];
+    };
+    let locate = Call::Locate(*width, list.clone());
+    match locator_first {
+        true => vec![locate, call],
+        false => vec![call, locate],
     }
 }
 

@@ -1,6 +1,6 @@
 //! Self tests on random lists of calls: what must hold after any of them.
 
-use crate::calls::{call_name, call_width, Call, Desk, Step};
+use crate::calls::{call_name, call_width, is_opening, lends_numbers, Call, Desk, Step};
 use crate::check::{count, expect, Outcome, Tally};
 use crate::lists::random_list;
 use crate::party::Stage;
@@ -9,8 +9,9 @@ use crate::rng::Rng;
 use crate::scenario::value_of_f;
 use crate::stations::{one_to, point};
 
-/// Any calls: what is refused changes nothing, but 8 and 9 close. 18 comes
-/// exactly for a call of the other prime to a party that is rightly made.
+/// Any calls: what is refused changes nothing, but 8 and 9 close, and nor does an
+/// opening. 18 comes exactly for a call of the other prime to a party that is
+/// rightly made.
 pub fn any_calls(rng: &mut Rng, tally: &mut Tally) -> Outcome {
     for step in random_list(rng) {
         let name = call_name(&step.call);
@@ -35,6 +36,9 @@ pub fn any_calls(rng: &mut Rng, tally: &mut Tally) -> Outcome {
                 step.before == step.after,
                 "a refused call changes the party",
             )?,
+            Ok(_) if is_opening(&step.call) => {
+                expect(step.before == step.after, "an opening changes the party")?;
+            }
             Ok(_) => {}
         }
         any_width(&step)?;
@@ -45,8 +49,7 @@ pub fn any_calls(rng: &mut Rng, tally: &mut Tally) -> Outcome {
 
 /// A call of the other prime is refused with 1, 2 or 18, and with 18 no other.
 fn any_width(step: &Step) -> Outcome {
-    let lends = matches!(step.call, Call::Deal(..) | Call::Hear(..) | Call::Open(..));
-    let other = lends && call_width(&step.call) != Some(step.before.width);
+    let other = lends_numbers(&step.call) && call_width(&step.call) != Some(step.before.width);
     let refused = step.answer.result.as_ref().err();
     let wanted = match step.before.check_made() {
         Err(refusal) => refusal,

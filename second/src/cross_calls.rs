@@ -20,7 +20,7 @@ const BATCH_LIMIT: usize = 60_000;
 /// Every kind of answer there is, by call; 0 stands for "ok". Saying a pair and
 /// settling are counted by the width of the party. Openings with many parties
 /// dark are counted once more under names of their own.
-pub const ANSWERS: [(&str, &[u8]); 30] = [
+pub const ANSWERS: [(&str, &[u8]); 44] = [
     ("make", &[0, 1, 2]),
     ("deal", &[0, 1, 2, 3, 4, 14, 18]),
     ("say", &[0, 1, 2, 4, 14]),
@@ -30,6 +30,7 @@ pub const ANSWERS: [(&str, &[u8]); 30] = [
     ("desk", &[0, 1, 3, 5]),
     ("make-table", &[0, 1, 2, 3, 14]),
     ("desk-table", &[0, 1, 3, 5, 14]),
+    ("locate", &[0, 1, 2, 3, 4, 10, 14, 18]),
     ("wide-make", &[0, 1, 2]),
     ("wide-deal", &[0, 1, 2, 3, 4, 14, 18]),
     ("wide-say", &[0, 1, 2, 4, 14]),
@@ -39,6 +40,7 @@ pub const ANSWERS: [(&str, &[u8]); 30] = [
     ("wide-desk", &[0, 1, 3, 5]),
     ("wide-make-table", &[0, 1, 2, 3, 14]),
     ("wide-desk-table", &[0, 1, 3, 5, 14]),
+    ("wide-locate", &[0, 1, 2, 3, 4, 10, 14, 18]),
     ("open-dark", &[0]),
     ("open-dark-lies", &[0, 10]),
     ("open-few", &[10]),
@@ -51,6 +53,18 @@ pub const ANSWERS: [(&str, &[u8]); 30] = [
     ("wide-open-dark-table", &[0]),
     ("wide-open-dark-lies-table", &[0, 10]),
     ("wide-open-few-table", &[10]),
+    ("locate-dark", &[0]),
+    ("locate-dark-lies", &[0, 10]),
+    ("locate-few", &[10]),
+    ("locate-dark-table", &[0]),
+    ("locate-dark-lies-table", &[0, 10]),
+    ("locate-few-table", &[10]),
+    ("wide-locate-dark", &[0]),
+    ("wide-locate-dark-lies", &[0, 10]),
+    ("wide-locate-few", &[10]),
+    ("wide-locate-dark-table", &[0]),
+    ("wide-locate-dark-lies-table", &[0, 10]),
+    ("wide-locate-few-table", &[10]),
 ];
 
 /// How often each call had each answer.
@@ -133,11 +147,11 @@ pub fn count_answers(counts: &mut Counts, list: &[Step]) {
     }
 }
 
-/// What an opening with many parties dark is counted as besides: by what was
-/// sent, the own share among it, by the width, and by whether the points are
-/// others than 1 to n.
+/// What an opening with many parties dark is counted as besides: by the call, by
+/// what was sent, the own share among it, and by whether the points are others
+/// than 1 to n.
 fn unsent_name(step: &Step) -> Option<&'static str> {
-    let Call::Open(width, list) = &step.call else {
+    let (Call::Open(width, list) | Call::Locate(width, list)) = &step.call else {
         return None;
     };
     let opened = match &step.answer.result {
@@ -149,18 +163,15 @@ fn unsent_name(step: &Step) -> Option<&'static str> {
     let mut published = list.clone();
     published[party.number - 1] = party.share;
     let kind = unsent::kind_of(*width, &party.table, party.t, &published, opened)?;
-    let names = match kind {
-        Unsent::Opened => ["open-dark", "open-dark-table"],
-        Unsent::ThroughLies | Unsent::Lies => ["open-dark-lies", "open-dark-lies-table"],
-        Unsent::TooFew => ["open-few", "open-few-table"],
+    let sent = match kind {
+        Unsent::Opened => "dark",
+        Unsent::ThroughLies | Unsent::Lies => "dark-lies",
+        Unsent::TooFew => "few",
     };
-    let name = names[usize::from(party.table != one_to(party.n))];
-    let listed = ANSWERS.iter().map(|&(listed, _)| listed);
-    let mut of_width = listed.filter(|listed| match width {
-        Width::Narrow => *listed == name,
-        Width::Wide => listed.strip_prefix("wide-") == Some(name),
-    });
-    of_width.next()
+    let points = ["", "-table"][usize::from(party.table != one_to(party.n))];
+    let name = format!("{}-{sent}{points}", call_name(&step.call));
+    let mut listed = ANSWERS.iter().map(|&(listed, _)| listed);
+    listed.find(|listed| *listed == name)
 }
 
 /// The call's name, with the party's width if it has none of its own.

@@ -1,8 +1,8 @@
 //! Random lists of calls to one party, and to the desk in between. About half
 //! of the parties have a table, and a third are wide; some lists are whole
-//! runs.
+//! runs. Every opening is asked for both ways.
 
-use crate::calls::{line, of_other_width, step, Call, Step, LENT_LIMIT};
+use crate::calls::{both_ways, line, of_other_width, step, Call, Step, LENT_LIMIT};
 use crate::desk_calls::random_desk_call;
 use crate::field::Width;
 use crate::follow;
@@ -40,9 +40,15 @@ pub fn random_list(rng: &mut Rng) -> Vec<Step> {
     let world = world_of(rng, &party);
     for _ in 0..rng.between(2, 16) {
         let call = random_call(rng, &party, &world);
-        steps.push(step(&mut party, call));
+        steps.extend(steps_of(rng, &mut party, call));
     }
     steps
+}
+
+/// The step of a call. An opening has two, of which either comes first.
+pub fn steps_of(rng: &mut Rng, party: &mut Party, call: Call) -> Vec<Step> {
+    let calls = both_ways(call, rng.chance(50));
+    calls.into_iter().map(|call| step(party, call)).collect()
 }
 
 /// A making with a good table, with a bad one, or with none.

@@ -1,6 +1,6 @@
 //! What the random lists of calls hold, and what the comparisons count.
 
-use crate::calls::{call_name, call_width, Call, Desk, Step};
+use crate::calls::{call_name, call_width, lends_numbers, Call, Desk, Step};
 use crate::cross;
 use crate::cross_calls::{self, count_answers, never_met, Counts, Done, ANSWERS};
 use crate::dealer::legal_size;
@@ -44,9 +44,11 @@ fn too_large(desk: &Desk) -> bool {
     desk.coefs.iter().any(|&c| !desk.width.is_sent(c))
 }
 
+/// An opening, which is asked for both ways, counts once.
 #[test]
 fn one_call_in_ten_is_the_desks() {
-    let (all, desks) = (steps().len(), desks().len());
+    let once = |step: &&Step| !matches!(step.call, Call::Locate(..));
+    let (all, desks) = (steps().iter().filter(once).count(), desks().len());
     assert!((8 * all..12 * all).contains(&(100 * desks)), "{desks}");
 }
 
@@ -70,9 +72,8 @@ fn the_other_prime_comes() {
     for width in [Narrow, Wide] {
         let refused = |refusal: u8, holds: &dyn Fn(&Step) -> bool| {
             let other = |step: &&Step| {
-                let of_party =
-                    matches!(step.call, Call::Deal(..) | Call::Hear(..) | Call::Open(..));
-                of_party && step.before.width == width && call_width(&step.call) != Some(width)
+                let lends = lends_numbers(&step.call);
+                lends && step.before.width == width && call_width(&step.call) != Some(width)
             };
             let so = |step: &&Step| step.answer.result == Err(refusal) && holds(step);
             steps().iter().filter(other).filter(so).count()
@@ -85,7 +86,7 @@ fn the_other_prime_comes() {
         let wrong_length = |step: &Step| match &step.call {
             Call::Deal(_, list) => list.len() != 2 * (step.before.t + 1),
             Call::Hear(_, list) => list.len() != 2 * step.before.n,
-            Call::Open(_, list) => list.len() != step.before.n,
+            Call::Open(_, list) | Call::Locate(_, list) => list.len() != step.before.n,
             _ => false,
         };
         assert!(refused(18, &wrong_length) >= 10);
@@ -190,7 +191,7 @@ fn every_answer_is_listed() {
         assert!(listed.1.contains(answer), "{name} {answer}");
     }
     let listed: usize = ANSWERS.iter().map(|(_, answers)| answers.len()).sum();
-    assert_eq!((listed, counts.len()), (122, 122));
+    assert_eq!((listed, counts.len()), (154, 154));
 }
 
 /// So a list is answered the same wherever it stands in a stream.

@@ -18,6 +18,8 @@ mod lies;
 mod lists;
 #[cfg(test)]
 mod lists_tests;
+#[cfg(test)]
+mod locate_tests;
 mod make;
 mod named;
 mod named_unsent;

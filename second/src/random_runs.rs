@@ -1,12 +1,14 @@
 //! Random whole runs: the desk deals, and some of the honest parties in turn
 //! are made and go from their deal to an opening. Liars are not called; what
 //! they send stands in the others' lists. About half of the runs have a table.
+//! Every opening is asked for both ways.
 
 use crate::calls::{of_other_width, step, Call, Desk, Step};
 use crate::clique::verdict;
 use crate::desk_calls::random_desk_call;
 use crate::field::Width;
 use crate::lies::wrong;
+use crate::lists::steps_of;
 use crate::party::Party;
 use crate::published::unsent_list;
 use crate::record::{pair_place, Record};
@@ -41,9 +43,9 @@ pub fn random_run(rng: &mut Rng, width: Width) -> Vec<Step> {
         }
         let other = of_other_width(call.clone());
         if other != call && rng.chance(8) {
-            steps.push(step(&mut party, other));
+            steps.extend(steps_of(rng, &mut party, other));
         }
-        steps.push(step(&mut party, call));
+        steps.extend(steps_of(rng, &mut party, call));
     }
     steps
 }

@@ -1,7 +1,7 @@
 //! Short inputs for a program that reads calls: such as end before their
 //! bytes do, and such as have no make. The random lists have neither.
 
-use crate::calls::{Call, Desk};
+use crate::calls::{both_ways, Call, Desk};
 use crate::field::Width::{self, Narrow, Wide};
 use crate::follow;
 use crate::rng::Rng;
@@ -40,6 +40,7 @@ pub fn example_calls() -> Vec<Call> {
         Call::Hear(Narrow, vec![0, 0, 22, 23, 28, 30, 34, 37, 40, 44]),
         Call::Settle(vec![30, 29, 27, 23, 15]),
         Call::Open(Narrow, vec![0, 13, 999, 19, 22]),
+        Call::Locate(Narrow, vec![0, 13, 999, 19, 22]),
         Call::Desk(Desk {
             width: Narrow,
             n: 5,
@@ -71,6 +72,7 @@ pub fn station_calls() -> Vec<Call> {
         ),
         Call::Settle(vec![30, 29, 27, 23, 15]),
         Call::Open(Narrow, vec![57_369, 0, 4, 999, 63_007]),
+        Call::Locate(Narrow, vec![57_369, 0, 4, 999, 63_007]),
         Call::DeskWith(desk, STATIONS.to_vec()),
     ]
 }
@@ -86,7 +88,7 @@ pub fn wide_station_calls() -> Vec<Call> {
     calls_of_party_1(&WIDE_F, Some(&WIDE_STATIONS))
 }
 
-/// Party 1 of an honest wide run, from its making to an opening, and the desk.
+/// Party 1 of an honest wide run, from its making to both openings, and the desk.
 fn calls_of_party_1(coefs: &[u32], table: Option<&[u32]>) -> Vec<Call> {
     let points = table.map_or(one_to(5), <[u32]>::to_vec);
     let deals = follow::deals(Wide, &points, 1, coefs);
@@ -94,6 +96,8 @@ fn calls_of_party_1(coefs: &[u32], table: Option<&[u32]>) -> Vec<Call> {
     let mut calls = party_calls(&record, 1);
     // One saying is enough.
     calls.drain(3..7);
+    let both = calls.into_iter().flat_map(|call| both_ways(call, false));
+    let mut calls: Vec<Call> = both.collect();
     calls.push(deal_by_desk(Wide, 5, 1, coefs));
     match table {
         Some(table) => with_table(calls, table),
@@ -114,7 +118,7 @@ fn without_make() -> Vec<Input> {
     let wide = wide_calls();
     let all = calls[1..].iter().chain(&wide[1..]);
     for call in all.chain(with_table.iter().flatten()) {
-        let list = [call.clone(), calls[6].clone(), calls[2].clone()];
+        let list = [call.clone(), calls[7].clone(), calls[2].clone()];
         let kind = write(call)[0];
         inputs.push((format!("kind {kind} without a make"), bytes_of(&list)));
     }
@@ -126,10 +130,10 @@ fn without_make() -> Vec<Input> {
 /// settling have no wide kind.
 pub fn no_calls() -> Vec<(u8, Vec<u32>)> {
     let mut list = Vec::new();
-    for kind in [9, 10, 127, 130, 132, 137, 255] {
+    for kind in [10, 11, 127, 130, 132, 138, 139, 255] {
         list.extend([0, 1, 3, 5].map(|count| (kind, vec![5; count])));
     }
-    let counts: [(u8, &[usize]); 9] = [
+    let counts: [(u8, &[usize]); 10] = [
         (0, &[0, 1, 2, 4, 200, 201, 259]),
         (1, &[201, 256, 260]),
         (2, &[0, 2, 3, 200, 201, 257]),
@@ -139,6 +143,7 @@ pub fn no_calls() -> Vec<(u8, Vec<u32>)> {
         (6, &[0, 1, 2, 201, 256, 263]),
         (7, &[0, 1, 2, 201, 256, 264]),
         (8, &[0, 1, 2, 3, 4, 201, 256, 269]),
+        (9, &[201, 256, 261]),
     ];
     for (kind, counts) in counts {
         list.extend(counts.iter().map(|&count| (kind, vec![1; count])));
@@ -206,7 +211,11 @@ fn random(rng: &mut Rng) -> Vec<u8> {
     let mut bytes = Vec::new();
     for _ in 0..rng.between(2, 16) {
         let width = rng.width();
-        let kind = if rng.chance(5) { 9 } else { rng.below(9) as u8 };
+        let kind = if rng.chance(5) {
+            10
+        } else {
+            rng.below(10) as u8
+        };
         let count = match (rng.below(8), kind) {
             (0, _) => rng.pick(&[0, 1, 2, 3, 4, 199, 200, 201, 257, 259]),
             (_, 0) => 3,

@@ -1,8 +1,9 @@
 //! Stories: whole runs told as calls, by name and always the same. For each
 //! party in turn there is its making, then its calls one after the other; the
-//! desk is called where a dealing is asked for.
+//! desk is called where a dealing is asked for. The stories are made with one
+//! sort of opening; here each is asked for both ways.
 
-use crate::calls::{line, step, Call, Step};
+use crate::calls::{both_ways, is_opening, line, step, Call, Step};
 use crate::field::Width::{Narrow, Wide};
 use crate::party::Party;
 use crate::story_refusals as refusals;
@@ -19,7 +20,20 @@ pub type Story = (&'static str, Vec<Call>);
 
 /// All of them, in the order in which they are shown and sent.
 pub fn all() -> Vec<Story> {
-    [without_tables(), with_tables(), of_wide_parties()].concat()
+    let stories = [without_tables(), with_tables(), of_wide_parties()].concat();
+    let opened = |(name, calls)| (name, opened_both_ways(calls));
+    stories.into_iter().map(opened).collect()
+}
+
+/// The same calls, each opening also by the locator: in the first of a story it
+/// comes last, in the second first, and so on in turn.
+fn opened_both_ways(calls: Vec<Call>) -> Vec<Call> {
+    let mut openings = 0;
+    let in_turn = |call: Call| {
+        openings += usize::from(is_opening(&call));
+        both_ways(call, openings % 2 == 0)
+    };
+    calls.into_iter().flat_map(in_turn).collect()
 }
 
 fn without_tables() -> Vec<Story> {

@@ -1,7 +1,7 @@
 //! What must come of the stories of wide parties and of the other prime by the
 //! protocol. F(x,y) = -1 + 65536x + 65521y + 1000000007xy.
 
-use crate::calls::{call_width, line, Call, Step};
+use crate::calls::{call_width, lends_numbers, line, Step};
 use crate::field::Width::{Narrow, Wide};
 use crate::field::{WIDE_NOT_SENT, WIDE_P};
 use crate::scenario::value_of_f;
@@ -200,10 +200,8 @@ fn wide_desk_and_tables() {
 fn the_other_prime_at_each_stage() {
     for (name, width) in [("widths-wide-party", Wide), ("widths-narrow-party", Narrow)] {
         let steps = story(name);
-        let other = |step: &&Step| {
-            let lends = matches!(step.call, Call::Deal(..) | Call::Hear(..) | Call::Open(..));
-            lends && call_width(&step.call) != Some(width)
-        };
+        let other =
+            |step: &&Step| lends_numbers(&step.call) && call_width(&step.call) != Some(width);
         let (others, own): (Vec<&Step>, Vec<&Step>) = steps.iter().partition(other);
         assert_eq!(others.len(), 45);
         for step in others {
@@ -230,8 +228,7 @@ fn order_of_the_other_prime() {
         let end = makes.get(k + 1).copied().unwrap_or(steps.len());
         let calls = &steps[start + 1..end];
         let (other, own) = calls.split_at(calls.len() / 2);
-        let lends =
-            |step: &&Step| matches!(step.call, Call::Deal(..) | Call::Hear(..) | Call::Open(..));
+        let lends = |step: &&Step| lends_numbers(&step.call);
         let refusal = |step: &Step| step.answer.result.as_ref().err().copied().unwrap_or(0);
         let wanted = [1, 2, 18, 18, 18][k % 5];
         assert!(other

@@ -217,7 +217,7 @@ fn right_length(step: &Step) -> bool {
         Call::Deal(_, list) => list.len() == 2 * (t + 1),
         Call::Hear(_, list) => list.len() == 2 * n,
         Call::Settle(list) => list.len() == n,
-        Call::Open(_, list) => list.len() == n,
+        Call::Open(_, list) | Call::Locate(_, list) => list.len() == n,
         _ => panic!("no list"),
     }
 }
@@ -229,7 +229,8 @@ fn has_list(step: &Step, waiting: bool) -> bool {
     }
     match step.call {
         Call::Deal(..) => waiting,
-        Call::Hear(..) | Call::Settle(_) | Call::Open(..) => true,
+        Call::Hear(..) | Call::Settle(_) => true,
+        Call::Open(..) | Call::Locate(..) => true,
         _ => false,
     }
 }

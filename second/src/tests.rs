@@ -297,6 +297,11 @@ fn the_calls_of_the_readme() {
             vec![7],
             (3, 10, 31),
         ),
+        (
+            Call::Locate(Narrow, vec![0, 13, 999, 19, 22]),
+            vec![7],
+            (3, 10, 31),
+        ),
     ];
     for (call, values, state) in calls {
         assert_eq!(apply(&mut party, &call).result, Ok(values));

@@ -243,6 +243,7 @@ fn where_18_stands() {
                 for call in [
                     Call::Deal(other, vec![0; length]),
                     Call::Open(other, vec![0; length]),
+                    Call::Locate(other, vec![0; length]),
                 ] {
                     assert_eq!(apply(&mut party, &call).result, Err(refusal));
                 }

@@ -42,6 +42,7 @@ fn parts(call: &Call) -> (u8, Vec<u32>) {
             numbers.extend(&desk.coefs);
             (8, numbers)
         }
+        Call::Locate(_, list) => (9, list.clone()),
     }
 }
 
@@ -99,6 +100,7 @@ fn call_of(kind: u8, numbers: Vec<u32>) -> Option<Call> {
             let desk = desk_of(width, [n, t, room], coefs)?;
             Some(Call::DeskWith(desk, table.to_vec()))
         }
+        (9, _) => Some(Call::Locate(width, numbers)),
         _ => call_of_both(kind, &numbers),
     }
 }

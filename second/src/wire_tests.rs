@@ -33,8 +33,10 @@ fn calls_as_bytes() {
     assert_eq!(bytes[48..51], [4, 0, 5]);
     assert_eq!(bytes[61..68], [5, 0, 5, 0, 0, 0, 13]);
     assert_eq!(bytes[68..70], [3, 231]);
-    assert_eq!(bytes[74..83], [6, 0, 7, 0, 5, 0, 1, 0, 20]);
-    assert_eq!(bytes[83..], [0, 7, 0, 2, 0, 3, 0, 4]);
+    assert_eq!(bytes[74..81], [9, 0, 5, 0, 0, 0, 13]);
+    assert_eq!(bytes[77..87], bytes[64..74]);
+    assert_eq!(bytes[87..96], [6, 0, 7, 0, 5, 0, 1, 0, 20]);
+    assert_eq!(bytes[96..], [0, 7, 0, 2, 0, 3, 0, 4]);
     assert_eq!(wire::write(&Call::Deal(Narrow, vec![])), [1, 0, 0]);
     assert_eq!(
         wire::write(&Call::Open(Narrow, vec![0; 200]))[..3],
@@ -73,11 +75,11 @@ fn wide_calls_as_bytes() {
     assert_eq!(bytes[18..26], [0, 0, 255, 240, 0x3b, 0x9b, 0xca, 0x07]);
     assert_eq!(bytes[34..39], [2, 0, 1, 0, 1]);
     let kinds: Vec<u8> = calls.iter().map(|call| wire::write(call)[0]).collect();
-    assert_eq!(kinds, [128, 129, 2, 131, 4, 133, 134]);
+    assert_eq!(kinds, [128, 129, 2, 131, 4, 133, 137, 134]);
     let calls = wide_station_calls();
     assert_eq!(wire::read(&stream(&calls)), calls);
     let kinds: Vec<u8> = calls.iter().map(|call| wire::write(call)[0]).collect();
-    assert_eq!(kinds, [135, 129, 2, 131, 4, 133, 136]);
+    assert_eq!(kinds, [135, 129, 2, 131, 4, 133, 137, 136]);
 }
 
 #[test]
@@ -88,10 +90,11 @@ ok 4294967295 4294967295 ; 1 0 0 0
 ok 30 ; 2 0 0 30
 ok ; 3 65535 31 30
 ok 2147483646 ; 3 65535 31 30
+ok 2147483646 ; 3 65535 31 30
 ";
     let text = wire::answers(&stream(&wide_calls()));
     assert!(text.starts_with(wanted), "{text}");
-    assert_eq!(text.lines().count(), 7);
+    assert_eq!(text.lines().count(), 8);
     let last = text.lines().last().unwrap();
     assert!(last.starts_with("ok 65520 1000065543 65535 1000065528 "));
 }
@@ -122,6 +125,7 @@ ok ; 1 0 0 0
 ok 23 22 ; 1 0 0 0
 ok 30 ; 2 0 0 30
 ok ; 3 10 31 30
+ok 7 ; 3 10 31 30
 ok 7 ; 3 10 31 30
 ok 9 7 10 6 11 11 13 10 13 15 16 14 15 19 19 18 17 23 22 22 ; 3 10 31 30
 ";
@@ -213,7 +217,7 @@ fn the_desk_between_all_calls() {
     let calls = example_calls();
     let mixed: Vec<Call> = calls
         .iter()
-        .flat_map(|call| [call.clone(), calls[6].clone()])
+        .flat_map(|call| [call.clone(), calls[7].clone()])
         .collect();
     let text = wire::answers(&stream(&mixed));
     let lines: Vec<&str> = text.lines().collect();
@@ -235,9 +239,9 @@ fn calls_without_a_make() {
     calls.push(desk(5, 1, 2, &[7, 2, 3, 4]));
     let text = wire::answers(&stream(&calls));
     let lines: Vec<&str> = text.lines().collect();
-    assert_eq!(lines[..5], ["refused 1 ; 0 0 0 0"; 5]);
-    assert!(lines[5].starts_with("ok 9 7 10 6 ") && lines[5].ends_with(" 22 22 ; 0 0 0 0"));
-    assert_eq!(lines[6], "refused 3 65535 65535 ; 0 0 0 0");
+    assert_eq!(lines[..6], ["refused 1 ; 0 0 0 0"; 6]);
+    assert!(lines[6].starts_with("ok 9 7 10 6 ") && lines[6].ends_with(" 22 22 ; 0 0 0 0"));
+    assert_eq!(lines[7], "refused 3 65535 65535 ; 0 0 0 0");
 }
 
 /// Numbers have 16 bits, whatever their low byte is.
@@ -287,7 +291,7 @@ fn which_counts_are_calls() {
             let is_call = match narrow {
                 0 => count == 3,
                 2 => count == 1,
-                1 | 3 | 4 | 5 => count <= 200,
+                1 | 3 | 4 | 5 | 9 => count <= 200,
                 6 | 7 => (3..=200).contains(&count),
                 // The fourth number is 1: a table of one number.
                 8 => (5..=200).contains(&count),
@@ -374,8 +378,14 @@ fn short_inputs_of_every_sort() {
     assert!(names.len() > 200 && bytes.len() > 200);
     assert!(names.contains("nothing") && names.contains("kind 6 without a make"));
     assert!(names.contains("kind 0 of 259 numbers after calls"));
-    assert!(names.contains("cut after 90 bytes") && !names.contains("cut after 91 bytes"));
-    assert!(names.contains("kind 8 without a make") && names.contains("kind 9 of 1 numbers"));
+    assert!(names.contains("cut after 103 bytes") && !names.contains("cut after 104 bytes"));
+    assert!(names.contains("kind 8 without a make") && names.contains("kind 10 of 1 numbers"));
+    for locates in ["kind 9 without a make", "kind 137 without a make"] {
+        assert!(names.contains(locates), "{locates}");
+    }
+    for no_call in ["kind 9 of 201 numbers", "kind 138 of 5 numbers"] {
+        assert!(names.contains(no_call), "{no_call}");
+    }
     let stations = stream(&station_calls()).len();
     assert!(names.contains(&format!("stations cut after {} bytes", stations - 1)[..]));
     let random = &inputs[inputs.len() - RANDOM..];

@@ -107,7 +107,7 @@ fn stored_stream_has_the_stories_first() {
     let text = String::from_utf8(second(&["stories"])).unwrap();
     let (names, lines): (Vec<&str>, Vec<&str>) =
         text.lines().partition(|line| line.starts_with("# "));
-    assert_eq!((names.len(), lines.len()), (56, 4746));
+    assert_eq!((names.len(), lines.len()), (56, 5518));
     assert_eq!((names[0], names[15]), ("# honest", "# trap-liar"));
     assert_eq!(
         (names[16], names[30]),
@@ -140,6 +140,7 @@ fn words_of(mut bytes: &[u8]) -> Vec<String> {
         "desk",
         "make-table",
         "desk-table",
+        "locate",
     ];
     let number = |part: &[u8]| part.iter().fold(0, |sum, &b| 256 * sum + usize::from(b));
     let mut calls = Vec::new();
@@ -173,7 +174,10 @@ fn answer_ends_where_a_call_is_none() {
     for (bytes, wanted) in [
         (vec![], ""),
         (vec![0], ""),
-        (vec![9, 0, 0], ""),
+        (vec![9, 0, 0], "refused 1 ; 0 0 0 0\n"),
+        (vec![9, 0, 1, 0], ""),
+        (vec![10, 0, 0], ""),
+        (vec![138, 0, 0], ""),
         (vec![130, 0, 1, 0, 0, 0, 1], ""),
         (vec![132, 0, 0], ""),
         (vec![128, 0, 3, 0, 5, 0, 1, 0, 1], ""),
@@ -200,7 +204,11 @@ fn answer_ends_where_a_call_is_none() {
         ),
         (make.to_vec(), "ok ; 0 0 0 0\n"),
         ([&make[..], &[2, 0]].concat(), "ok ; 0 0 0 0\n"),
-        ([&make[..], &[9, 0, 0], &make].concat(), "ok ; 0 0 0 0\n"),
+        ([&make[..], &[10, 0, 0], &make].concat(), "ok ; 0 0 0 0\n"),
+        (
+            [&make[..], &[9, 0, 0], &[137, 0, 1, 0, 0, 0, 9]].concat(),
+            "ok ; 0 0 0 0\nrefused 3 ; 0 0 0 0\nrefused 18 ; 0 0 0 0\n",
+        ),
         ([&make[..], &[2, 0, 0], &make].concat(), "ok ; 0 0 0 0\n"),
         (make.repeat(2), "ok ; 0 0 0 0\nok ; 0 0 0 0\n"),
     ] {

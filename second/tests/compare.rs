@@ -303,7 +303,8 @@ CASE;;
 esac
 rm \"$0.$$\"";
     for (name, case, input) in [
-        ("short-kind", "-9-*) exit 1", "kind 9 of 0 numbers"),
+        ("short-kind", "-10-*) exit 1", "kind 10 of 0 numbers"),
+        ("short-locate", "-9-0-5-*) exit 1", "kind 9 without a make"),
         ("short-desk", "-8-0-3-*) exit 1", "kind 8 of 3 numbers"),
         (
             "short-count",

@@ -2,19 +2,17 @@
 --   division-none, division-step   no coefficient, and one more than the rest gave
 use mathlib.Core.Path.{_≡_, refl, sym, ap, ap₂, subst, _∙_}
 use mathlib.Core.List.{List, [], _∷_, _++_}
-use Prim.Native.Nat.{ℕ, zero, suc, _+_, _-_, _≤_, _<_}
+use Prim.Native.Nat.{ℕ, suc, _+_, _-_, _≤_, _<_}
 use native.Mathlib.Omega.{arith}
 use borrow.Rule.Slice.PartMut.{putMid}
-use lib.ListN.{length, getD, take, drop, replicate, length-append, length-drop, length-replicate}
+use lib.ListN.{length, getD, take, drop, replicate}
 use lib.Seq.{length-take-le, take-all, take-append-le}
 use Rattle.lists.specs.Tabulate.{pad}
 use Rattle.lists.proofs.All.{all-append, all-take, all-drop}
 use Rattle.lists.proofs.InPlace.{length-zipWith, lent-rest, put-rest}
-use Rattle.lists.proofs.Sublists.{take-take}
-use Rattle.field.specs.Arithmetic.{add, sub, mul}
 use Rattle.polynomial.specs.Polynomial.{Residues}
 use Rattle.locator.specs.Quotient.{lessTimes, leading, division}
-use Rattle.locator.proofs.Products.{quotient-size}
+use Rattle.locator.proofs.Products.{division-size}
 
 -- Four places hold three coefficients and one in front of them.
 pad-front : (h : ℕ) (F rest : List ℕ) → length F ≤ 3 → rest ≡ pad 4 F
@@ -25,7 +23,7 @@ pad-front h (a ∷ b ∷ []) rest l e = ap (λ r. h ∷ getD r 0 0 ∷ getD r 1 
 pad-front h (a ∷ b ∷ c ∷ []) rest l e = ap (λ r. h ∷ getD r 0 0 ∷ getD r 1 0 ∷ getD r 2 0 ∷ []) e
 pad-front h (a ∷ b ∷ c ∷ d ∷ F) rest l e = absurd (omega arith)
 
-module _ (p i : ℕ) (E : List ℕ) (some : 0 < length E) where
+module _ (p i : ℕ) (E : List ℕ) (nonempty : 0 < length E) where
   abbrev b : ℕ
   b = length E - 1
 
@@ -80,7 +78,8 @@ module _ (p i : ℕ) (E : List ℕ) (some : 0 < length E) where
         let h-is : h ≡ leading p i E (c ∷ division p i E (n - 1) Q .1) = top ∙ ap (leading p i E) lent in
         let lent-size : length (take (length E) q1) ≡ length E = length-take-le (length E) q1 (second-lent .0) in
         let part-long : length part2 ≡ length E = ap length less ∙ length-zipWith _ E (take (length E) q1) (sym lent-size) ∙ lent-size in
-        let F-size : length (division p i E (n - 1) Q .0) ≡ n - 1 = quotient-size p i E some (n - 1) Q (omega (arith, ap length is)) in (
+        let F-size : length (division p i E (n - 1) Q .0) ≡ n - 1 =
+        division-size p i E nonempty (n - 1) Q (omega (arith, ap length is)) in (
           pad-front h (division p i E (n - 1) Q .0) rest (omega arith) (e ∙ ap (λ z. pad 4 (division p i E (n - 1) z .0)) again)
               ∙ ap (λ z. pad 4 (z ∷ division p i E (n - 1) Q .0)) h-is
               ∙ ap (λ o. pad 4 (o .0)) (sym whole-n),

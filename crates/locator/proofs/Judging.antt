@@ -5,7 +5,7 @@ use mathlib.Core.Path.{_≡_, refl, sym, ap, subst, _∙_}
 use mathlib.Core.Bool.{Bool, true, false, cond}
 use mathlib.Core.Option.{Option, none, some}
 use mathlib.Core.List.{List, [], _∷_}
-use Prim.Native.Nat.{ℕ, zero, suc, _+_, _-_, _≤_, _<_}
+use Prim.Native.Nat.{ℕ, _+_, _-_, _≤_, _<_}
 use native.Mathlib.Omega.{arith}
 use borrow.Author.Tests.{le-leb, lt-leb}
 use lib.Dec.{leb}
@@ -16,6 +16,7 @@ use Rattle.lists.proofs.All.{all-append}
 use Rattle.lists.proofs.Padded.{four}
 use Rattle.field.specs.Arithmetic.{inv}
 use Rattle.polynomial.specs.Polynomial.{Residues}
+use Rattle.polynomial.proofs.Below.{zeros-residues}
 use Rattle.answers.specs.declared.Decoding.the-variants.{Found}
 use Rattle.answers.specs.declared.Fitted.{Fitted}
 use Rattle.answers.specs.Fits.{decoded}
@@ -25,9 +26,9 @@ use Rattle.trial.specs.Results.{resultOf}
 use Rattle.trial.proofs.Counting.{hits-zeros}
 use Rattle.trial.proofs.Results.{result-found, result-not-found}
 use Rattle.locator.specs.Quotient.{division, zeros, exactly}
-use Rattle.locator.specs.Answer.{judged, quotientOf, locatedBy}
-use Rattle.locator.proofs.Products.{quotient-size, quotient-residues}
-use Rattle.locator.proofs.Answer.{exactly-sound}
+use Rattle.locator.specs.Answer.{ifEnough, quotientOf, locatedBy}
+use Rattle.locator.proofs.Products.{division-size, division-residues}
+use Rattle.locator.proofs.Exact.{exactly-sound}
 
 module _ (p i : ℕ) (E : List ℕ) (n : ℕ) (Q : List ℕ) (l : List ℕ) (rest : l ≡ division p i E n Q .1) where
   pub exactly-not : zeros l ≡ false → resultOf none ≡ resultOf (exactly p i E n Q)
@@ -47,9 +48,9 @@ module _ (p t need spare : ℕ) (xs ys : List ℕ) (b : ℕ) (q e : List ℕ) wh
   judged-high h = rw (lt-leb b spare h) refl
 
   module _ (low : b ≤ spare) (r : Tried) (is : r ≡ resultOf (quotientOf p t b q e)) where
-    opened : (o : Option (List ℕ)) → quotientOf p t b q e ≡ o → locatedBy p t need spare xs ys b q e ≡ judged p need xs ys o
+    opened : (o : Option (List ℕ)) → quotientOf p t b q e ≡ o → locatedBy p t need spare xs ys b q e ≡ ifEnough p need xs ys o
     unfolding locatedBy
-    opened o same = rw (le-leb b spare low) (ap (judged p need xs ys) same)
+    opened o same = rw (le-leb b spare low) (ap (ifEnough p need xs ys) same)
 
     pub judged-rest : r .found ≡ false → decoded none ≡ decoded (locatedBy p t need spare xs ys b q e)
     judged-rest told = sym (ap decoded (opened none (result-not-found (quotientOf p t b q e) (sym (ap (λ w. w .found) is) ∙ told))))
@@ -78,20 +79,16 @@ module _ (p t need spare : ℕ) (xs ys : List ℕ) (b : ℕ) (q e : List ℕ) wh
       size : length g ≡ t + 1
       size =
           ap length divided
-          ∙ quotient-size p (inv p (getD e b 0)) (take (b + 1) e) some-e (t + 1) (take (b + t + 1) q)
+          ∙ division-size p (inv p (getD e b 0)) (take (b + 1) e) some-e (t + 1) (take (b + t + 1) q)
           (omega (arith, length-take-le (b + t + 1) q (omega (arith, room-q))))
-
-      zeros-residues : (n : ℕ) → Residues p (replicate n 0)
-      zeros-residues zero = tt
-      zeros-residues (suc n) = (positive, zeros-residues n)
 
       pub quotient-fine : Residues p f × (length f ≡ 4)
       quotient-fine = (
         subst (Residues p) (sym coefficients-are)
             (all-append (λ c. c < p) g (replicate (4 - length g) 0)
             (subst (Residues p) (sym divided)
-            (quotient-residues p (inv p (getD e b 0)) (take (b + 1) e) some-e (t + 1) (take (b + t + 1) q) positive))
-            (zeros-residues (4 - length g))),
+            (division-residues p (inv p (getD e b 0)) (take (b + 1) e) some-e (t + 1) (take (b + t + 1) q) positive))
+            (zeros-residues p (4 - length g) positive)),
         ap length coefficients-are
             ∙ length-append g (replicate (4 - length g) 0)
             ∙ omega (arith, length-replicate {A = ℕ} (4 - length g) 0, size),
@@ -106,13 +103,13 @@ module _ (p t need spare : ℕ) (xs ys : List ℕ) (b : ℕ) (q e : List ℕ) wh
       pub judged-few : Told false → decoded none ≡ decoded (locatedBy p t need spare xs ys b q e)
       judged-few told =
           let few-agree : leb need (hits p g xs ys) ≡ false = sym (told ∙ ap (leb need) same-hits) in
-          let none-is : judged p need xs ys (some g) ≡ none = rw few-agree refl in
+          let none-is : ifEnough p need xs ys (some g) ≡ none = rw few-agree refl in
           sym (ap decoded (opened (some g) (quotient .1) ∙ none-is))
 
       pub judged-right : Told true
           → _≡_ {A = Fitted} (record { outcome = Found; coefficients = f }) (decoded (locatedBy p t need spare xs ys b q e))
       judged-right told =
           let enough-agree : leb need (hits p g xs ys) ≡ true = sym (told ∙ ap (leb need) same-hits) in
-          let some-is : judged p need xs ys (some g) ≡ some g = rw enough-agree refl in
+          let some-is : ifEnough p need xs ys (some g) ≡ some g = rw enough-agree refl in
           let struct : List ℕ → Fitted = λ h. record { outcome = Found; coefficients = h } in
           ap struct coefficients-are ∙ sym (ap decoded (opened (some g) (quotient .1) ∙ some-is))

@@ -2,6 +2,8 @@ pub mod Mixing
 pub mod Solving
 pub mod Products
 pub mod Locating
+pub mod Exact
+pub mod Same
 pub mod Answer
 mod Loops
 mod Parts

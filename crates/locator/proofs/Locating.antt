@@ -5,26 +5,26 @@
 use mathlib.Core.Path.{_≡_, refl, sym, ap, ap₂, subst, _∙_}
 use mathlib.Core.Bool.{true}
 use mathlib.Core.Logic.{⊎-elim}
-use mathlib.Core.List.{List, [], _∷_, _++_, map, List·Memᴰ, Sublistᴰ}
-use Prim.Native.Nat.{ℕ, zero, suc, _+_, _*_, _-_, _%_, _<_, _≤_}
-use native.Mathlib.Nat.{zero-mod}
+use mathlib.Core.List.{List, [], _∷_, _++_, map, Sublistᴰ}
+use Prim.Native.Nat.{ℕ, zero, suc, _+_, _*_, _-_, _<_, _≤_}
 use native.Mathlib.Omega.{arith}
 use borrow.Author.Tests.{eqb-true}
 use lib.ListN.{length, getD, replicate, length-append, length-replicate, length-map}
 use Rattle.lists.specs.All.{All}
-use Rattle.lists.specs.Choices.{count, choices}
-use Rattle.lists.proofs.All.{all-at, all-of, all-append}
+use Rattle.lists.specs.Choices.{count}
+use Rattle.lists.proofs.All.{all-append}
 use Rattle.lists.proofs.Cases.{le-or-lt}
 use Rattle.lists.proofs.Choices.{choices-sublist, choices-passing}
 use Rattle.lists.proofs.Sublists.{all-sublist, map-sublist}
-use Rattle.field.specs.Arithmetic.{Prime, add, sub, mul}
-use Rattle.field.proofs.Ring.{mul-comm, zero-add, mul-residue}
-use Rattle.polynomial.specs.Polynomial.{Poly, Points, Residues, value}
+use Rattle.field.specs.Arithmetic.{Prime, add, mul}
+use Rattle.field.proofs.Ring.{zero-add, mul-residue}
+use Rattle.polynomial.specs.Polynomial.{Poly, Points, value}
+use Rattle.polynomial.proofs.Below.{zeros-residues}
 use Rattle.polynomial.proofs.Division.{value-zeros}
 use Rattle.polynomial.proofs.Uniqueness.{unique}
 use Rattle.trial.specs.Trial.{pointsOf, xsOf, ysOf, meets}
 use Rattle.fit.proofs.Decoding.{points-sublist}
-use Rattle.locator.specs.Solving.{Solves, Solution, Pair}
+use Rattle.locator.specs.Solving.{Solves, Solutions}
 use Rattle.locator.specs.Quotient.{product}
 use Rattle.locator.proofs.Products.{length-product, product-residues, value-product}
 
@@ -44,16 +44,12 @@ module _ (p : ℕ) (P : Prime p) where
   positive : 0 < p
   positive = omega (arith, P .two)
 
-  zeros-residues : (n : ℕ) → Residues p (replicate n 0)
-  zeros-residues zero = tt
-  zeros-residues (suc n) = (positive, zeros-residues n)
-
   product-poly : (n m : ℕ) (F E : List ℕ) → Poly p n F → Poly p (suc m) E → Poly p (n + m) (product p F E)
   product-poly n m F E f e =
       let b : length E - 1 ≡ m = omega (arith, e .size) in
       let l : length (replicate {A = ℕ} (length E - 1) 0) ≡ m = length-replicate (length E - 1) 0 ∙ b in
       record {
-        residues = product-residues p (replicate (length E - 1) 0) F E positive (zeros-residues (length E - 1));
+        residues = product-residues p (replicate (length E - 1) 0) F E positive (zeros-residues p (length E - 1) positive);
         size = length-product p (replicate (length E - 1) 0) F E (omega (arith, e .size)) ∙ omega (arith, f .size);
       }
 
@@ -99,7 +95,7 @@ module _ (p : ℕ) (P : Prime p) where
               ∙ sym (values (q .0)))
               (go c (right .1) (holds .1))
 
-      module _ (t a b : ℕ) (Q1 E1 Q2 E2 : List ℕ) (s : Pair p t xs ys k a b Q1 E1 Q2 E2) (hF : Poly p (suc t) F) where
+      module _ (t a b : ℕ) (Q1 E1 Q2 E2 : List ℕ) (s : Solutions p t xs ys k a b Q1 E1 Q2 E2) (hF : Poly p (suc t) F) where
         -- The first solution's degree is not below the count of those that agree: its top is not that of F E.
         not-first : suc a ≤ count (meets p F) (pointsOf xs ys) → ⊥
         not-first enough =
@@ -109,7 +105,7 @@ module _ (p : ℕ) (P : Prime p) where
             product-poly (suc t) m F E1 hF (record { residues = s .one .locator .residues; size = size }) in
             let G : List ℕ = product p F E1 ++ replicate 1 0 in
             let long : Poly p (suc a) G = record {
-              residues = all-append (λ c. c < p) (product p F E1) (replicate 1 0) (short .residues) (zeros-residues 1);
+              residues = all-append (λ c. c < p) (product p F E1) (replicate 1 0) (short .residues) (zeros-residues p 1 positive);
               size = length-append (product p F E1) (replicate 1 0) ∙ omega (arith, short .size, s .least);
             } in
             let same : Q1 ≡ G =

@@ -1,5 +1,5 @@
 -- The loops that write in place, from the front: behind place i stands what was there.
---   Raising, raising-..   X − x times a list whose last place is room; `carried` is the number that stood before place i
+--   Raising, raising-..   X − x times a list whose last place is room; `before` is the number that stood before place i
 --   Mixing, mixing-..     d r − g q in the place of r
 use mathlib.Core.Path.{_≡_, refl, sym, ap, ap₂, subst, _∙_}
 use mathlib.Core.List.{List, [], _∷_, _++_, tail}
@@ -8,7 +8,6 @@ use native.Mathlib.Omega.{arith}
 use native.Mathlib.Numerals.{add-one}
 use lib.ListN.{length, getD, take, drop, set, length-set}
 use lib.Seq.{length-take-le}
-use Rattle.lists.proofs.All.{all-getD}
 use Rattle.lists.proofs.InPlace.{write-next, rest-kept, drop-next, drop-end, write-end}
 use Rattle.field.specs.Arithmetic.{sub, mul}
 use Rattle.polynomial.specs.Polynomial.{Residues, raise}
@@ -46,6 +45,7 @@ roomy-short p l r = record { residues = r .residues; most = omega (arith, front-
 
 -- ---- X − x times
 module _ (p x : ℕ) (f₀ : List ℕ) where
+  -- Before place i of f stands what is to stand there, and from there on raising goes on with `before`, the number that stood at i − 1.
   pub record Raising (f : List ℕ) (before i : ℕ) : Type 0 where
     pub within : i ≤ length f₀ - 1
     pub size : length f ≡ length f₀
@@ -99,6 +99,7 @@ module _ (p x : ℕ) (f₀ : List ℕ) where
 
 -- ---- d r − g q
 module _ (p d : ℕ) (r₀ : List ℕ) (g : ℕ) (q : List ℕ) where
+  -- Before place i of r stands what is to stand there, and behind it r as it was.
   pub record Mixing (r : List ℕ) (i : ℕ) : Type 0 where
     pub within : i ≤ length r
     pub size : length r ≡ length r₀

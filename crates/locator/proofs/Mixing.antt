@@ -1,8 +1,10 @@
 -- d R − g Q: length, residues, values, and its top, which is that of R times d where Q is shorter.
+--   value-split, length-tail                               a list by its constant and the rest
+--   length-mixed, mixed-residues, value-mixed, mixed-top   of d R − g Q
 use mathlib.Core.Path.{_≡_, refl, sym, ap, ap₂, _∙_}
 use mathlib.Core.List.{List, [], _∷_, tail}
-use Prim.Native.Nat.{ℕ, zero, suc, _-_, _%_, _<_, _≤_}
-use native.Mathlib.Nat.{zero-mod, mod-eq-of-lt}
+use Prim.Native.Nat.{ℕ, zero, suc, _-_, _<_, _≤_}
+use native.Mathlib.Nat.{zero-mod}
 use native.Mathlib.Omega.{arith}
 use lib.ListN.{length, getD}
 use Rattle.field.specs.Arithmetic.{add, sub, mul, neg}
@@ -10,15 +12,15 @@ use Rattle.field.proofs.Ring.{ring, add-zero, mul-zero, mul-residue, sub-lt, su
 use Rattle.polynomial.specs.Polynomial.{Residues, value}
 use Rattle.locator.specs.Solving.{mixed}
 
+pub length-tail : (Q : List ℕ) → length (tail Q) ≡ length Q - 1
+length-tail [] = refl
+length-tail (c ∷ Q) = omega arith
+
 module _ (p : ℕ) where
   -- The value by the constant and the rest.
   pub value-split : (Q : List ℕ) (x : ℕ) → value p Q x ≡ add p (getD Q 0 0) (mul p x (value p (tail Q) x))
   value-split [] x = sym (ap (add p 0) (mul-zero p x) ∙ add-zero p 0 ∙ zero-mod p)
   value-split (c ∷ Q) x = refl
-
-  pub length-tail : (Q : List ℕ) → length (tail Q) ≡ length Q - 1
-  length-tail [] = refl
-  length-tail (c ∷ Q) = omega arith
 
   pub length-mixed : (d : ℕ) (R : List ℕ) (g : ℕ) (Q : List ℕ) → length (mixed p d R g Q) ≡ length R
   length-mixed d [] g Q = refl

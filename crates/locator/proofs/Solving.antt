@@ -2,22 +2,21 @@
 --   kept, raised-one, mixed-one   one solution, where it holds at the point, times X − x, and less as much of the other that it holds
 --   first-holds, first-mixed      the pair, the first being the lower; second-holds, second-mixed likewise
 use mathlib.Core.Path.{_≡_, refl, sym, ap, ap₂, subst, _∙_}
-use mathlib.Core.Logic.{⊎-elim}
 use mathlib.Core.List.{List, [], _∷_}
-use Prim.Native.Nat.{ℕ, zero, suc, _+_, _-_, _%_, _<_, _≤_}
+use Prim.Native.Nat.{ℕ, suc, _+_, _-_, _<_, _≤_}
 use native.Mathlib.Decide.{ℕ-discrete}
 use native.Mathlib.Nat.{zero-mod, mod-eq-of-lt}
 use native.Mathlib.Omega.{arith}
 use lib.ListN.{length, getD}
 use Rattle.lists.proofs.All.{all-getD}
 use Rattle.field.specs.Arithmetic.{Prime, add, sub, mul, neg}
-use Rattle.field.proofs.Ring.{ring, add-comm, add-zero, zero-add, mul-zero, mul-comm, mul-left-comm, mul-residue, add-neg}
+use Rattle.field.proofs.Ring.{ring, add-zero, zero-add, mul-zero, mul-left-comm, mul-residue, add-neg}
 use Rattle.field.proofs.Ring.{sub-lt, sub-zero, add-sub, add-mul-neg}
 use Rattle.field.proofs.Inverse.{mul-cancel}
 use Rattle.polynomial.specs.Polynomial.{Poly, Residues, value, raise}
 use Rattle.polynomial.proofs.Division.{value-residue}
 use Rattle.polynomial.proofs.Raising.{length-raise, raise-residues, raise-value, raise-value-here}
-use Rattle.locator.specs.Solving.{off, Solves, mixed, Solution, Pair}
+use Rattle.locator.specs.Solving.{off, Solves, mixed, Solution, Solutions}
 use Rattle.locator.proofs.Mixing.{length-mixed, mixed-residues, value-mixed, mixed-top}
 
 module _ (p : ℕ) where
@@ -169,7 +168,7 @@ module _ (p : ℕ) (P : Prime p) (xs ys : List ℕ) (points : Residues p xs) (k 
       top (subst (λ z. getD (0 ∷ Q) z 0 ≡ 0) l (sym (raise-top p x 0 Q) ∙ subst (λ z. getD (raise p x (0 ∷ Q)) z 0 ≡ 0) (sym l) e))
 
   -- ---- the pair
-  module _ (t a b : ℕ) (Q1 E1 Q2 E2 : List ℕ) (s : Pair p t xs ys k a b Q1 E1 Q2 E2) where
+  module _ (t a b : ℕ) (Q1 E1 Q2 E2 : List ℕ) (s : Solutions p t xs ys k a b Q1 E1 Q2 E2) where
     abbrev d1 : ℕ
     d1 = off p x y Q1 E1
 
@@ -196,7 +195,7 @@ module _ (p : ℕ) (P : Prime p) (xs ys : List ℕ) (points : Residues p xs) (k 
     two-top = raised-top-not b E2 (s .two .locator .size) (s .top-two)
 
     -- Where the first holds the second is raised, and the other way round.
-    pub first-holds : d1 ≡ 0 → Pair p t xs ys (suc k) a (suc b) Q1 E1 (raise p x (0 ∷ Q2)) (raise p x (0 ∷ E2))
+    pub first-holds : d1 ≡ 0 → Solutions p t xs ys (suc k) a (suc b) Q1 E1 (raise p x (0 ∷ Q2)) (raise p x (0 ∷ E2))
     first-holds e = record {
       least = s .least;
       sum = omega (arith, s .sum);
@@ -206,7 +205,7 @@ module _ (p : ℕ) (P : Prime p) (xs ys : List ℕ) (points : Residues p xs) (k 
       top-two = two-top;
     }
 
-    pub second-holds : d2 ≡ 0 → Pair p t xs ys (suc k) (suc a) b (raise p x (0 ∷ Q1)) (raise p x (0 ∷ E1)) Q2 E2
+    pub second-holds : d2 ≡ 0 → Solutions p t xs ys (suc k) (suc a) b (raise p x (0 ∷ Q1)) (raise p x (0 ∷ E1)) Q2 E2
     second-holds e = record {
       least = omega (arith, s .least);
       sum = omega (arith, s .sum);
@@ -218,7 +217,7 @@ module _ (p : ℕ) (P : Prime p) (xs ys : List ℕ) (points : Residues p xs) (k 
 
     -- The first, where it has the lower degree, is taken from the second, and raised.
     pub first-mixed : a ≤ b + t → (d1 ≡ 0 → ⊥)
-        → Pair p t xs ys (suc k) (suc a) b (raise p x (0 ∷ Q1)) (raise p x (0 ∷ E1)) (mixed p d1 Q2 d2 Q1) (mixed p d1 E2 d2 E1)
+        → Solutions p t xs ys (suc k) (suc a) b (raise p x (0 ∷ Q1)) (raise p x (0 ∷ E1)) (mixed p d1 Q2 d2 Q1) (mixed p d1 E2 d2 E1)
     first-mixed low differs = record {
       least = omega (arith, s .least);
       sum = omega (arith, s .sum);
@@ -230,7 +229,7 @@ module _ (p : ℕ) (P : Prime p) (xs ys : List ℕ) (points : Residues p xs) (k 
 
     -- The second likewise.
     pub second-mixed : b + t < a → (d2 ≡ 0 → ⊥)
-        → Pair p t xs ys (suc k) a (suc b) (mixed p d2 Q1 d1 Q2) (mixed p d2 E1 d1 E2) (raise p x (0 ∷ Q2)) (raise p x (0 ∷ E2))
+        → Solutions p t xs ys (suc k) a (suc b) (mixed p d2 Q1 d1 Q2) (mixed p d2 E1 d1 E2) (raise p x (0 ∷ Q2)) (raise p x (0 ∷ E2))
     second-mixed low differs = record {
       least = s .least;
       sum = omega (arith, s .sum);

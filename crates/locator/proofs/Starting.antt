@@ -18,11 +18,13 @@ use Rattle.polynomial.specs.Polynomial.{Poly, Points, Residues, value, raise}
 use Rattle.polynomial.proofs.Raising.{length-raise, raise-residues, raise-value, raise-value-here}
 use Rattle.interpolation.specs.Interpolation.{interpolate}
 use Rattle.interpolation.proofs.Interpolation.{interpolate-poly, interpolate-values}
-use Rattle.locator.specs.Solving.{front, raised, Solves, Solution, Pair, Solving, Roots}
+use Rattle.locator.specs.Solving.{front, raised, Solution, Solutions, Solving, Roots}
 use Rattle.locator.specs.Solved.{Solved}
+use Rattle.locator.proofs.Products.{getD-first}
 use Rattle.locator.proofs.Parts.{front-part, back-size, raised-front}
 use Rattle.locator.proofs.Solving.{raise-top}
 
+-- The first k + 1 places of out are the product of X − x for the first k points.
 pub record Rooting (p : ℕ) (xs out : List ℕ) (k : ℕ) : Type 0 where
   pub within : k ≤ length xs
   pub size : length out ≡ length xs + 1
@@ -109,11 +111,7 @@ module _ (p : ℕ) (P : Prime p) (xs : List ℕ) (points : Residues p xs) where
 mapped : (g : ℕ → ℕ) (xs ys : List ℕ) → map g xs ≡ ys → (j : ℕ) → j < length xs → g (getD xs j 0) ≡ getD ys j 0
 mapped g [] ys e j h = absurd (omega arith)
 mapped g (x ∷ xs) ys e zero h = ap (λ l. getD l 0 0) e
-mapped g (x ∷ xs) ys e (suc j) h = mapped g xs (tail ys) (ap tail e) j (omega arith) ∙ getD-tail ys j
-  where
-    getD-tail : (l : List ℕ) (j : ℕ) → getD (tail l) j 0 ≡ getD l (suc j) 0
-    getD-tail [] j = refl
-    getD-tail (c ∷ l) j = refl
+mapped g (x ∷ xs) ys e (suc j) h = mapped g xs (tail ys) (ap tail e) j (omega arith) ∙ getD-first ys j
 
 module _ (p : ℕ) (P : Prime p) (t : ℕ) (low : t ≤ 3) (xs ys : List ℕ) (points : Points p xs) (values : Residues p ys)
     (l : length xs ≡ length ys) (enough : t + 1 ≤ length xs) where
@@ -174,7 +172,7 @@ module _ (p : ℕ) (P : Prime p) (t : ℕ) (low : t ≤ 3) (xs ys : List ℕ) (p
         ∙ sym (ap (mul p (getD ys j 0)) (constant-value 0 (getD xs j 0) (omega (arith, P .two))) ∙ mul-zero p (getD ys j 0));
   }
 
-  pair-start : (Q : List ℕ) → Roots p px (suc t) Q → Pair p t xs ys (suc t) (suc t) 0 Q (0 ∷ []) first (1 ∷ [])
+  pair-start : (Q : List ℕ) → Roots p px (suc t) Q → Solutions p t xs ys (suc t) (suc t) 0 Q (0 ∷ []) first (1 ∷ [])
   pair-start Q r =
       let none : suc (0 + t) ≡ suc t = omega arith in
       let one : suc t - t ≡ 1 = omega arith in
@@ -214,13 +212,13 @@ module _ (p : ℕ) (P : Prime p) (t : ℕ) (low : t ≤ 3) (xs ys : List ℕ) (p
         room-e2 = refl;
         pair =
             subst (λ z.
-            Pair p t xs ys (t + 1) (t + 1) (t + 1 - (t + 1)) (take (suc (t + 1)) (part ++ drop (t + 2) (replicate 12 0)))
+            Solutions p t xs ys (t + 1) (t + 1) (t + 1 - (t + 1)) (take (suc (t + 1)) (part ++ drop (t + 2) (replicate 12 0)))
             (take (t + 1 - t) (replicate 8 0)) (take (suc (t + 1 - (t + 1) + t)) z) (take (suc (t + 1 - (t + 1))) (1 ∷ replicate 7 0)))
             (sym array)
             (rw (left, i, one, none)
-            (subst (λ z. Pair p t xs ys (suc t) (suc t) 0 z (0 ∷ []) (take (suc t) (f ++ replicate 8 0)) (1 ∷ []))
+            (subst (λ z. Solutions p t xs ys (suc t) (suc t) 0 z (0 ∷ []) (take (suc t) (f ++ replicate 8 0)) (1 ∷ []))
             (sym (take-at part (drop (t + 2) (replicate 12 0)) (suc (suc t)) (roots .poly .size)))
-            (subst (λ z. Pair p t xs ys (suc t) (suc t) 0 part (0 ∷ []) z (1 ∷ []))
+            (subst (λ z. Solutions p t xs ys (suc t) (suc t) 0 part (0 ∷ []) z (1 ∷ []))
             (sym (ap (λ z. take (suc t) (z ++ replicate 8 0)) first-is
             ∙ ap (take (suc t)) (append-assoc first (replicate (4 - length first) 0) (replicate 8 0))
             ∙ take-at first (replicate (4 - length first) 0 ++ replicate 8 0) (suc t) (first-poly .size)))
@@ -238,6 +236,7 @@ solving-end p t xs ys k a q1 e1 q2 e2 within done s =
       first-numerator = take (suc a) q1;
       first-locator = take (a - t) e1;
       pair =
-          subst (λ n. Pair p t xs ys n a (k - a) (take (suc a) q1) (take (a - t) e1) (take (suc (k - a + t)) q2) (take (suc (k - a)) e2))
+          subst (λ n.
+          Solutions p t xs ys n a (k - a) (take (suc a) q1) (take (a - t) e1) (take (suc (k - a + t)) q2) (take (suc (k - a)) e2))
           all (s .pair);
     }

@@ -10,12 +10,12 @@ use lib.ListN.{length, getD, take, drop}
 use lib.Seq.{length-take-le}
 use Rattle.field.specs.Arithmetic.{Prime}
 use Rattle.polynomial.specs.Polynomial.{Poly, Residues, raise}
-use Rattle.locator.specs.Solving.{front, Roomy, off, mixed, raised, Met, Pair, Solving}
+use Rattle.locator.specs.Solving.{front, Roomy, off, raised, Met, Solutions, Solving}
 use Rattle.locator.proofs.Parts.{front-part, back-size, raised-front, kept-front, mixed-front}
 use Rattle.locator.proofs.Solving.{first-holds, second-holds, first-mixed, second-mixed}
 
 same-pair : (p t : ℕ) (xs ys : List ℕ) (k a b : ℕ) (Q1 E1 Q2 E2 Q1' E1' Q2' E2' : List ℕ) → Q1' ≡ Q1 → E1' ≡ E1 → Q2' ≡ Q2 → E2' ≡ E2
-    → Pair p t xs ys k a b Q1 E1 Q2 E2 → Pair p t xs ys k a b Q1' E1' Q2' E2'
+    → Solutions p t xs ys k a b Q1 E1 Q2 E2 → Solutions p t xs ys k a b Q1' E1' Q2' E2'
 same-pair p t xs ys k a b Q1 E1 Q2 E2 Q1' E1' Q2' E2' i j m n s = rw (i, j, m, n) s
 
 module _ (p : ℕ) (P : Prime p) (t : ℕ) (xs ys : List ℕ) (points : Residues p xs) (k a : ℕ) (inside : k < length xs) (few : k ≤ t + 6)
@@ -41,7 +41,7 @@ module _ (p : ℕ) (P : Prime p) (t : ℕ) (xs ys : List ℕ) (points : Residues
       let size : length (take (suc n) l) ≡ suc n = length-take-le (suc n) l inside in
       record {
         residues = subst (Residues p) (sym (front-part n l inside)) (h .residues);
-        some = omega arith;
+        nonempty = omega arith;
         most = omega arith;
       }
 
@@ -88,7 +88,7 @@ module _ (p : ℕ) (P : Prime p) (t : ℕ) (xs ys : List ℕ) (points : Residues
 
   -- ---- both with one point more
   build : (a' b' : ℕ) (q1' e1' q2' e2' : List ℕ) → suc k ≡ a' + b' → length q1' ≡ 12 → length e1' ≡ 8 → length q2' ≡ 12 → length e2' ≡ 8
-      → Pair p t xs ys (suc k) a' b' (take (suc a') q1') (take (a' - t) e1') (take (suc (b' + t)) q2') (take (suc b') e2')
+      → Solutions p t xs ys (suc k) a' b' (take (suc a') q1') (take (a' - t) e1') (take (suc (b' + t)) q2') (take (suc b') e2')
       → Solving p t xs ys (suc k) a' q1' e1' q2' e2'
   build a' b' q1' e1' q2' e2' e i j m n s =
       let left : b' ≡ suc k - a' = omega arith in
@@ -98,7 +98,8 @@ module _ (p : ℕ) (P : Prime p) (t : ℕ) (xs ys : List ℕ) (points : Residues
         room-q2 = m;
         room-e2 = n;
         pair =
-            subst (λ c. Pair p t xs ys (suc k) a' c (take (suc a') q1') (take (a' - t) e1') (take (suc (c + t)) q2') (take (suc c) e2'))
+            subst (λ c.
+            Solutions p t xs ys (suc k) a' c (take (suc a') q1') (take (a' - t) e1') (take (suc (c + t)) q2') (take (suc c) e2'))
             left s;
       }
 

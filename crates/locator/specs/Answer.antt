@@ -1,7 +1,8 @@
 -- What is answered for a solution.
---   judged p need xs ys o   what o gives, if it agrees with at least `need` of all points
---   locatedBy ..            the numerator divided by the locator, of degree b, if that is at most `spare`, nothing remains and enough agree
--- Laws: proofs/Answer.
+--   ifEnough p need xs ys o   what o gives, if it agrees with at least `need` of all points
+--   quotientOf p t b q e      the numerator, in front of q, divided by the locator of degree b, in front of e, if nothing remains
+--   locatedBy ..              that quotient, if b is at most `spare` and enough agree
+-- Laws: proofs/Exact, proofs/Answer.
 use mathlib.Core.Bool.{cond}
 use mathlib.Core.Option.{Option, none, some}
 use mathlib.Core.List.{List, [], _∷_}
@@ -13,9 +14,9 @@ use Rattle.trial.specs.Trial.{firstFitting}
 use Rattle.locator.specs.Quotient.{exactly}
 
 -- Remainder zero alone does not make enough points agree.
-abbrev pub judged : ℕ → ℕ → List ℕ → List ℕ → Option (List ℕ) → Option (List ℕ)
-judged p need xs ys none = none
-judged p need xs ys (some f) = firstFitting p need xs ys (f ∷ [])
+abbrev pub ifEnough : ℕ → ℕ → List ℕ → List ℕ → Option (List ℕ) → Option (List ℕ)
+ifEnough p need xs ys none = none
+ifEnough p need xs ys (some f) = firstFitting p need xs ys (f ∷ [])
 
 -- The quotient of the numerator by the locator.
 abbrev pub quotientOf : ℕ → ℕ → ℕ → List ℕ → List ℕ → Option (List ℕ)
@@ -23,4 +24,4 @@ quotientOf p t b q e = exactly p (inv p (getD e b 0)) (take (b + 1) e) (t + 1) (
 
 -- The answer, where at most `spare` of the points sent may be wrong.
 unfoldable pub locatedBy : ℕ → ℕ → ℕ → ℕ → List ℕ → List ℕ → ℕ → List ℕ → List ℕ → Option (List ℕ)
-locatedBy p t need spare xs ys b q e = cond (leb b spare) (judged p need xs ys (quotientOf p t b q e)) none
+locatedBy p t need spare xs ys b q e = cond (leb b spare) (ifEnough p need xs ys (quotientOf p t b q e)) none

@@ -1,11 +1,13 @@
 -- Division by a polynomial E of degree b, whose top coefficient has the inverse i.
---   plusTimes p R c E     R + c E, as long as E
---   plusProduct p R F E   R + F E, coefficient by coefficient, for R with b coefficients
+--   addTimes p R c E      R + c E, as long as E
+--   addProduct p R F E    R + F E, coefficient by coefficient, for R with b coefficients
 --   product p F E         F E
 --   lessTimes p r h E     r − h E
+--   leading p i E r       the coefficient h with which r − h E has no top
 --   division p i E n Q    n coefficients of the quotient, and the remainder, of b
+--   zeros r               whether r is nothing but zeros
 --   exactly p i E n Q     the quotient where nothing remains
--- Laws: proofs/Products.
+-- Laws: proofs/Products, proofs/Exact.
 use mathlib.Core.Bool.{Bool, true, _&&_, cond}
 use mathlib.Core.Option.{Option, none, some}
 use mathlib.Core.List.{List, [], _∷_, tail, zipWith}
@@ -16,18 +18,18 @@ use Rattle.field.specs.Arithmetic.{add, sub, mul}
 
 module _ (p : ℕ) where
   -- R + c E, as long as E.
-  abbrev pub plusTimes : List ℕ → ℕ → List ℕ → List ℕ
-  plusTimes R c [] = []
-  plusTimes R c (d ∷ E) = add p (getD R 0 0) (mul p c d) ∷ plusTimes (tail R) c E
+  abbrev pub addTimes : List ℕ → ℕ → List ℕ → List ℕ
+  addTimes R c [] = []
+  addTimes R c (d ∷ E) = add p (getD R 0 0) (mul p c d) ∷ addTimes (tail R) c E
 
   -- R + F E: the constant of F with all of E, and the rest of F one place on.
-  abbrev pub plusProduct : List ℕ → List ℕ → List ℕ → List ℕ
-  plusProduct R [] E = R
-  plusProduct R (c ∷ F) E = getD (plusTimes R c E) 0 0 ∷ plusProduct (tail (plusTimes R c E)) F E
+  abbrev pub addProduct : List ℕ → List ℕ → List ℕ → List ℕ
+  addProduct R [] E = R
+  addProduct R (c ∷ F) E = getD (addTimes R c E) 0 0 ∷ addProduct (tail (addTimes R c E)) F E
 
   -- F E, of as many coefficients as both have together but one.
   abbrev pub product : List ℕ → List ℕ → List ℕ
-  product F E = plusProduct (replicate (length E - 1) 0) F E
+  product F E = addProduct (replicate (length E - 1) 0) F E
 
   -- r − h E, coefficient by coefficient.
   abbrev pub lessTimes : List ℕ → ℕ → List ℕ → List ℕ

@@ -1,16 +1,16 @@
 -- The error locator E, which is 0 at every wrong point, and the numerator Q = f E, after Berlekamp and Welch: Q(x) = y E(x) at each point.
 -- Two solutions are brought up point by point: the first has a Q of degree a and an E of degree below a − t, the second an E of degree b
 -- and a Q of degree at most b + t, and a + b is the count of the points.
---   off p x y Q E              Q(x) − y E(x)
---   Solves p xs ys k Q E       that is 0 at the first k points
---   front l, raised p x l      a list without its last place, which is room; X − x times what stands before the room
---   Short p l, Roomy p l       at most 11 residues; these, and a last place that is room
---   mixed p d R g Q            d R − g Q, coefficient by coefficient
---   Met ..                     what two solutions become with one point more
---   Solution p n m xs ys k Q E   one solution: Q of n coefficients, E of m
---   Pair p t xs ys k a b ..      both
---   Solving p t xs ys k a ..     both in front of four lists
---   Roots p xs k l               l is a multiple of X − x for the first k points
+--   off p x y Q E                  Q(x) − y E(x)
+--   Solves p xs ys k Q E           that is 0 at the first k points
+--   front l, raised p x l          a list without its last place, which is room; X − x times what stands before the room
+--   Short p l, Roomy p l           at most 11 residues; these, and a last place that is room
+--   mixed p d R g Q                d R − g Q, coefficient by coefficient
+--   Held, Mixed, Met ..            what two solutions become with one point more
+--   Solution p n m xs ys k Q E     one solution: Q of n coefficients, E of m
+--   Solutions p t xs ys k a b ..   both
+--   Solving p t xs ys k a ..       both in front of four lists
+--   Roots p xs k l                 l is a multiple of X − x for the first k points
 -- Laws: proofs/Mixing, proofs/Solving, proofs/Locating.
 use mathlib.Core.Path.{_≡_}
 use mathlib.Core.Bool.{Bool, true, false}
@@ -32,7 +32,7 @@ pub record Short (p : ℕ) (l : List ℕ) : Type 0 where
 -- These, and a last place that is room.
 pub record Roomy (p : ℕ) (l : List ℕ) : Type 0 where
   pub residues : Residues p (front l)
-  pub some : 0 < length l
+  pub nonempty : 0 < length l
   pub most : length l ≤ 12
 
 module _ (p : ℕ) where
@@ -53,15 +53,16 @@ module _ (p : ℕ) where
   mixed d [] g Q = []
   mixed d (r ∷ R) g Q = sub p (mul p d r) (mul p g (getD Q 0 0)) ∷ mixed d R g (tail Q)
 
-  -- The first solution (q, e) and the second (r, f), each with a place of room, at one point more. Where the first holds there, the second
-  -- is raised. Otherwise as much of the first is taken from the second that it holds, and the first is raised.
-  pub record Kept (x y : ℕ) (q e r f q' e' r' f' : List ℕ) : Type 0 where
+  -- The first solution (q, e) and the second (r, f), each with a place of room, at one point more. Where the first holds there, it stays,
+  -- and the second is raised.
+  pub record Held (x y : ℕ) (q e r f q' e' r' f' : List ℕ) : Type 0 where
     pub holds : off x y (front q) (front e) ≡ 0
     pub first-q : q' ≡ q
     pub first-e : e' ≡ e
     pub second-q : r' ≡ raised x r
     pub second-e : f' ≡ raised x f
 
+  -- Where it does not, as much of the first is taken from the second that this holds, and the first is raised.
   pub record Mixed (x y : ℕ) (q e r f q' e' r' f' : List ℕ) : Type 0 where
     pub differs : off x y (front q) (front e) ≡ 0 → ⊥
     pub first-q : q' ≡ raised x q
@@ -72,7 +73,7 @@ module _ (p : ℕ) where
   -- Whether the first was raised, and what became of both.
   abbrev pub Met : ℕ → ℕ → (q e r f : List ℕ) → Bool → (q' e' r' f' : List ℕ) → Type 0
   Met x y q e r f true q' e' r' f' = Mixed x y q e r f q' e' r' f'
-  Met x y q e r f false q' e' r' f' = Kept x y q e r f q' e' r' f'
+  Met x y q e r f false q' e' r' f' = Held x y q e r f q' e' r' f'
 
   -- One solution at the first k points.
   pub record Solution (n m : ℕ) (xs ys : List ℕ) (k : ℕ) (Q E : List ℕ) : Type 0 where
@@ -81,7 +82,7 @@ module _ (p : ℕ) where
     pub solves : Solves xs ys k Q E
 
   -- Both, with their degrees and the tops that are not 0.
-  pub record Pair (t : ℕ) (xs ys : List ℕ) (k a b : ℕ) (Q1 E1 Q2 E2 : List ℕ) : Type 0 where
+  pub record Solutions (t : ℕ) (xs ys : List ℕ) (k a b : ℕ) (Q1 E1 Q2 E2 : List ℕ) : Type 0 where
     pub least : t + 1 ≤ a
     pub sum : a + b ≡ k
     pub one : Solution (suc a) (a - t) xs ys k Q1 E1
@@ -95,7 +96,7 @@ module _ (p : ℕ) where
     pub room-e1 : length e1 ≡ 8
     pub room-q2 : length q2 ≡ 12
     pub room-e2 : length e2 ≡ 8
-    pub pair : Pair t xs ys k a (k - a) (take (suc a) q1) (take (a - t) e1) (take (suc (k - a + t)) q2) (take (suc (k - a)) e2)
+    pub pair : Solutions t xs ys k a (k - a) (take (suc a) q1) (take (a - t) e1) (take (suc (k - a + t)) q2) (take (suc (k - a)) e2)
 
   -- k + 1 coefficients, a top that is not 0, and 0 at each of the first k points.
   pub record Roots (xs : List ℕ) (k : ℕ) (l : List ℕ) : Type 0 where

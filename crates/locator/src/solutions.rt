@@ -41,8 +41,9 @@ fn mix(w: Width, d: u32, r: &mut [u32], g: u32, q: &[u32])
     }
 }
 
-// The value at x. Of few coefficients it is found at once, and the quotient, which nobody asks for here, is not written.
-fn value_at(w: Width, f: &[u32], x: u32) -> u32
+// The remainder by X − x, which is the value at x, of what division gives. With one caller a compiler writes the division out here, and its
+// quotient, which solving does not use, not at all.
+fn remainder(w: Width, f: &[u32], x: u32) -> u32
     requires { ⌜ Short (primeOf w) (now f) × (x < primeOf w) ⌝ }
     ensures { λ r. ⌜ (r ≡ value (primeOf w) (now (f .entry)) x) × (r < primeOf w) ⌝ }
 {
@@ -59,8 +60,8 @@ fn off(w: Width, x: u32, y: u32, q: &[u32], e: &[u32]) -> u32
     requires { ⌜ Short (primeOf w) (now q) × Short (primeOf w) (now e) × (x < primeOf w) × (y < primeOf w) ⌝ }
     ensures { λ r. ⌜ (r ≡ off (primeOf w) x y (now (q .entry)) (now (e .entry))) × (r < primeOf w) ⌝ }
 {
-    let numerator = value_at(w, q, x);
-    let locator = value_at(w, e, x);
+    let numerator = remainder(w, q, x);
+    let locator = remainder(w, e, x);
     field::mul_sub(w, y, locator, numerator)
 }
 

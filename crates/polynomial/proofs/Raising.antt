@@ -56,7 +56,7 @@ module _ (p : ℕ) where
 
   -- ---- division by X − a, coefficient by coefficient
   -- What is added and taken away again.
-  taken-back : (c w : ℕ) → 0 < p → c < p → sub p (add p c w) w ≡ c
+  pub taken-back : (c w : ℕ) → 0 < p → c < p → sub p (add p c w) w ≡ c
   taken-back c w positive hc =
       sym (mod-eq-of-lt (sub-lt p (add p c w) w positive))
       ∙ add-cancel p w (sub p (add p c w) w) positive c (add-sub p (add p c w) w positive ∙ add-residue p c w ∙ add-comm p c w)

@@ -2,23 +2,26 @@
 --   both v q     a value and a quotient
 --   place        the coefficient of X^k in the quotient
 --   last-value, one-more   the value of the last coefficient, and of one more before those from i on
+--   scheme-again   the answer's quotient times X − x, and its value, give f: an identity of coefficients
 --   Written      from place i on the quotient is written, and 0 stands before it; with the start, a turn and the end of the loop
 use mathlib.Core.Path.{_≡_, refl, sym, ap, _∙_}
 use mathlib.Core.List.{List, [], _∷_}
 use Prim.Native.Nat.{ℕ, zero, suc, _+_, _-_, _<_, _≤_}
 use native.Mathlib.Decide.{ℕ-discrete}
 use native.Mathlib.Omega.{arith}
-use lib.ListN.{length, getD, drop, set, replicate, length-append, length-replicate, length-set}
-use lib.Seq.{ext-getD, getD-set-same, getD-set-other}
+use lib.ListN.{length, getD, take, drop, set, replicate, length-append, length-replicate, length-set}
+use lib.Seq.{ext-getD, getD-set-same, getD-set-other, take-at}
 use Rattle.lists.specs.Tabulate.{pad}
 use Rattle.lists.proofs.All.{all-getD}
 use Rattle.lists.proofs.InPlace.{drop-end, drop-next, drop-back}
 use Rattle.lists.proofs.Padded.{getD-zeros}
 use Rattle.field.specs.Arithmetic.{add, mul}
 use Rattle.polynomial.specs.declared.Scheme.{Scheme}
-use Rattle.polynomial.specs.Polynomial.{Residues, value, quotient}
+use Rattle.polynomial.specs.Polynomial.{Residues, value, quotient, schemeOf, raise}
 use Rattle.polynomial.proofs.Division.{value-alone, length-quotient}
+use Rattle.polynomial.proofs.Raising.{divided-again}
 
+-- A value and a quotient.
 abbrev pub both : ℕ → List ℕ → Scheme
 both v q = record { value = v; quotient = q }
 
@@ -40,6 +43,7 @@ module _ (p : ℕ) (x : ℕ) where
   one-more f i v low h e =
       ap (λ z. add p (getD f (i - 1) 0) (mul p x z)) e ∙ ap (λ z. value p z x) (sym (drop-back f i 0 low h))
 
+  -- From place i on the quotient is written.
   pub record Written (f q : List ℕ) (i : ℕ) : Type 0 where
     pub room : length q ≡ 11
     pub behind : (k : ℕ) → i ≤ k → getD q k 0 ≡ value p (drop (suc k) f) x
@@ -74,3 +78,10 @@ module _ (p : ℕ) (x : ℕ) where
     where
       full : length (quotient p f x) + length (replicate {A = ℕ} (11 - length (quotient p f x)) 0) ≡ 11
       full = omega (arith, length-replicate {A = ℕ} (11 - length (quotient p f x)) 0, length-quotient p f x)
+
+-- (X − x) quotient + value is f, of the answer itself.
+pub scheme-again : (p c : ℕ) (f : List ℕ) (x : ℕ) → 0 < p → Residues p (c ∷ f)
+    → raise p x (schemeOf p (c ∷ f) x .value ∷ take (length f) (schemeOf p (c ∷ f) x .quotient)) ≡ c ∷ f
+scheme-again p c f x positive r =
+    let size : length (quotient p (c ∷ f) x) ≡ length f = length-quotient p (c ∷ f) x ∙ omega arith in
+    ap (λ q. raise p x (value p (c ∷ f) x ∷ q)) (take-at (quotient p (c ∷ f) x) _ (length f) size) ∙ divided-again p c f x positive r

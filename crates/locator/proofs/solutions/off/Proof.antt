@@ -8,11 +8,11 @@ use borrow.Author.Needs.{needs}
 use Rattle.locator.proofs.solutions.off.Statement.{statement}
 use Rattle.locator.proofs.solutions.off.Tie as tie
 
-value-at-requires : tie.Need-value-at-requires
-value-at-requires c κs = search needs
+remainder-requires : tie.Need-remainder-requires
+remainder-requires c κs = search needs
 
-value-at-requires-2 : tie.Need-value-at-requires-2
-value-at-requires-2 c κs = search needs
+remainder-requires-2 : tie.Need-remainder-requires-2
+remainder-requires-2 c κs = search needs
 
 mul-sub-requires : tie.Need-mul-sub-requires
 mul-sub-requires c κs = search needs
@@ -21,9 +21,9 @@ returns : tie.Need-returns
 returns c =
     let s = c .before .before .before .before .before .args in
     let p = primeOf (s .w) in
-    let q = c .before .before .value-at .ensures .0 in
-    let e = c .before .value-at2 .ensures .0 in
+    let q = c .before .before .remainder .ensures .0 in
+    let e = c .before .remainder2 .ensures .0 in
     (c .mul-sub .ensures .0 ∙ ap₂ (λ (a b : ℕ). sub p a (mul p (s .y) b)) q e, c .mul-sub .ensures .1)
 
 pub off-spec : {M : Type 1} → statement M
-off-spec = tie.close (tie.spec value-at-requires value-at-requires-2 mul-sub-requires returns)
+off-spec = tie.close (tie.spec remainder-requires remainder-requires-2 mul-sub-requires returns)

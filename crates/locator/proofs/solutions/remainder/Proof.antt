@@ -1,10 +1,10 @@
--- `locator::solutions::value_at` meets its contract.
+-- `locator::solutions::remainder` meets its contract.
 use borrow.Author.Needs.{needs}
 use mathlib.Core.Path.{ap}
 use Rattle.polynomial.specs.declared.Scheme.{Scheme}
 use borrow.Author.Needs.{needs}
-use Rattle.locator.proofs.solutions.value_at.Statement.{statement}
-use Rattle.locator.proofs.solutions.value_at.Tie as tie
+use Rattle.locator.proofs.solutions.remainder.Statement.{statement}
+use Rattle.locator.proofs.solutions.remainder.Tie as tie
 
 divided-at-once-requires : tie.Need-divided-at-once-requires
 divided-at-once-requires c κs = search needs
@@ -18,5 +18,5 @@ divided-requires c κs = search needs
 returns-2 : tie.Need-returns-2
 returns-2 c = let e = c .divided .ensures in (ap (λ (v : Scheme). v .value) (e .0), e .1)
 
-pub value-at-spec : {M : Type 1} → statement M
-value-at-spec = tie.close (tie.spec divided-at-once-requires returns divided-requires returns-2)
+pub remainder-spec : {M : Type 1} → statement M
+remainder-spec = tie.close (tie.spec divided-at-once-requires returns divided-requires returns-2)
