@@ -7,10 +7,11 @@
 use mathlib.Core.Path.{_≡_, refl, sym, ap, _∙_}
 use mathlib.Core.Logic.{_↔_}
 use mathlib.Core.Option.{Option, none, some}
-use mathlib.Core.List.{List}
+use mathlib.Core.List.{List, [], _∷_}
 use Prim.Native.Nat.{ℕ, _+_, _*_, _≤_, _<_}
 use native.Mathlib.Omega.{arith}
 use borrow.Author.Tests.{le-leb, lt-leb, eq-eqb, ne-eqb, leb-true, eqb-true}
+use lib.Dec.{leb, eqb}
 use lib.ListN.{length}
 use Rattle.lists.specs.Tabulate.{pad}
 use Rattle.answers.specs.declared.Refusal.{Refusal}
@@ -18,8 +19,8 @@ use Rattle.answers.specs.declared.Refusal.the-variants.{WrongSize, WrongLength}
 use Rattle.answers.specs.declared.Admission.the-variants.{Pass, Fail}
 use Rattle.answers.specs.declared.Decoding.the-variants.{Found, Nothing}
 use Rattle.answers.specs.Fits.{decoded, refusedFit}
-use Rattle.answers.specs.Refusals.{lowest}
-use Rattle.answers.proofs.Tests.{lowest-pass}
+use Rattle.answers.specs.Refusals.{lowest, also}
+use Rattle.answers.proofs.Tests.{in-order, lowest-pass}
 use Rattle.answers.proofs.Fits.{found-is, nothing-is}
 use Rattle.field.specs.Arithmetic.{Prime}
 use Rattle.polynomial.specs.Polynomial.{Points}
@@ -41,6 +42,13 @@ fitted-result r o e = ap fittedOf e ∙ cases o
 module _ (t least : ℕ) (xs ys : List ℕ) where
   pub tests-degree : 3 < t → lowest (fitTests t least xs ys) ≡ Fail WrongSize
   tests-degree h = rw (lt-leb t 3 h)
+
+  -- With a small degree, the others one after the other.
+  pub tests-rest : t ≤ 3
+      → also (also (also Pass (eqb (length xs) (length ys)) WrongLength) (leb (length xs) 16) WrongLength) (leb (2 * t + 1) least) WrongLength
+      ≡ lowest (fitTests t least xs ys)
+  tests-rest degree = rw (le-leb t 3 degree)
+      (in-order ((eqb (length xs) (length ys), WrongLength) ∷ (leb (length xs) 16, WrongLength) ∷ (leb (2 * t + 1) least, WrongLength) ∷ []))
 
   module _ (degree : t ≤ 3) where
     pub tests-lengths : (length xs ≡ length ys → ⊥) → lowest (fitTests t least xs ys) ≡ Fail WrongLength

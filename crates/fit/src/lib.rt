@@ -21,6 +21,7 @@ use answers::Admission;
 use answers::Decoding;
 use answers::Fitted;
 use answers::Refusal;
+use answers::also;
 use field::Width;
 use pairs::by_pairs;
 use trial::Tried;
@@ -238,19 +239,12 @@ fn among_sent(w: Width, t: usize, least: usize, xs: &[u32], ys: &[u32]) -> Fitte
 pub fn admission(t: usize, least: usize, xs: &[u32], ys: &[u32]) -> Admission
     ensures { λ r. ⌜ r ≡ lowest (fitTests t least (now (xs .entry)) (now (ys .entry))) ⌝ }
 {
-    if 3 < t {
-        return Admission::Fail(Refusal::WrongSize);
+    if t <= 3 {
+        let even = also(Admission::Pass, xs.len() == ys.len(), Refusal::WrongLength);
+        let few = also(even, xs.len() <= 16, Refusal::WrongLength);
+        return also(few, 2 * t + 1 <= least, Refusal::WrongLength);
     }
-    if xs.len() != ys.len() {
-        return Admission::Fail(Refusal::WrongLength);
-    }
-    if 16 < xs.len() {
-        return Admission::Fail(Refusal::WrongLength);
-    }
-    if least <= 2 * t {
-        return Admission::Fail(Refusal::WrongLength);
-    }
-    Admission::Pass
+    Admission::Fail(Refusal::WrongSize)
 }
 
 // The polynomial of degree at most t with which at least `least` of the points (xs[i], ys[i]) agree, and from which at most t of those
