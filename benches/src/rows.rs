@@ -143,13 +143,14 @@ const UNSENT: [Unsent; 5] = [
 const FEWEST: Unsent = ("dark6-lies", (16, 3), 6, 3, "6 dark, lies at 3 of those sent");
 
 /// What is opened by locator too, with the inputs of the openings by trial: the word in the key, n and t, the lies.
-const LOCATED: [(&str, (u8, u8), Lies); 8] = [
+const LOCATED: [(&str, (u8, u8), Lies); 9] = [
     ("first", (5, 1), Lies::At(&[0])),
     ("first", (9, 2), Lies::At(&[0, 1])),
     ("none", (16, 3), Lies::At(&[])),
     ("first", (16, 3), Lies::At(&[0, 1, 2])),
     ("apart", (16, 3), Lies::At(&[0, 4, 8])),
     ("pairs", (13, 3), Lies::At(PAIRS)),
+    ("random", (13, 3), Lies::Any(3)),
     ("random", (16, 3), Lies::Any(3)),
     ("refused", (16, 3), Lies::At(&[0, 4, 8, 12])),
 ];

@@ -1,5 +1,5 @@
 /*
- * The library from C: the protocol's marked cases M1 to M4 and M10, openings with lamps dark, the repair of M7, and the text
+ * The library from C: the protocol's marked cases M1 to M4 and M10, openings with lamps dark, each by trial and by an error locator, the repair of M7, and the text
  * of the record whose path is the argument. Prints what stands in `expected` beside it.
  */
 #include <stdio.h>
@@ -37,8 +37,19 @@ static void deal(void)
     }
 }
 
+/* The error locator answers the same. */
+static void open_by_locator(const uint16_t *shares, size_t count)
+{
+    uint16_t opened = 0, located = 0;
+    uint8_t refusal = doumbaht_open(N, T, shares, count, &opened);
+    if (doumbaht_open_by_locator(N, T, shares, count, &located) != refusal || located != opened) {
+        printf("the locator answers otherwise\n");
+    }
+}
+
 static void open_shares(const uint16_t *shares, size_t count)
 {
+    open_by_locator(shares, count);
     uint16_t opened = 0;
     uint8_t refusal = doumbaht_open(N, T, shares, count, &opened);
     if (refusal != DOUMBAHT_DONE) {

@@ -52,6 +52,10 @@ static void open_shares(const uint16_t *table, const uint16_t *shares, uint16_t 
     const uint16_t published[N] = {shares[0], shares[1], third, shares[3], shares[4]};
     uint16_t opened = 0;
     uint8_t refusal = doumbaht_open_with(N, T, table, N, published, COUNT(published), &opened);
+    uint16_t located = 0;
+    if (doumbaht_open_by_locator_with(N, T, table, N, published, COUNT(published), &located) != refusal || located != opened) {
+        printf("the locator answers otherwise\n");
+    }
     if (refusal != DOUMBAHT_DONE) {
         printf("opened refused %u\n", (unsigned)refusal);
         return;

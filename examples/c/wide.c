@@ -37,8 +37,17 @@ static void print_deals(const uint32_t *table, const uint32_t *deals, uint32_t *
     }
 }
 
-static void print_opened(uint8_t refusal, uint32_t opened)
+/* Opens the shares by trial and by an error locator, with a table or, where there is none, without. */
+static void open_shares(const uint32_t *table, const uint32_t *shares)
 {
+    uint32_t opened = 0, located = 0;
+    uint8_t refusal = table ? doumbaht_open_wide_with(N, T, table, N, shares, N, &opened)
+                            : doumbaht_open_wide(N, T, shares, N, &opened);
+    uint8_t other = table ? doumbaht_open_by_locator_wide_with(N, T, table, N, shares, N, &located)
+                          : doumbaht_open_by_locator_wide(N, T, shares, N, &located);
+    if (other != refusal || located != opened) {
+        printf("the locator answers otherwise\n");
+    }
     if (refusal != DOUMBAHT_DONE) {
         printf("opened refused %u\n", (unsigned)refusal);
         return;
@@ -49,39 +58,35 @@ static void print_opened(uint8_t refusal, uint32_t opened)
 /* Without a table: a dealing, an opening in which lamp 3 lies, one in which lamp 4 is dark besides, and one in which both lie. */
 static void without(void)
 {
-    uint32_t deals[DOUMBAHT_DEALS(N, T)] = {0}, shares[N] = {0}, opened = 0;
+    uint32_t deals[DOUMBAHT_DEALS(N, T)] = {0}, shares[N] = {0};
     if (doumbaht_deal_wide(N, T, f, COUNT(f), deals, COUNT(deals)) != DOUMBAHT_DONE) {
         printf("deal refused\n");
         return;
     }
     print_deals(one_to_n, deals, shares);
     shares[2] = 999;
-    uint8_t refusal = doumbaht_open_wide(N, T, shares, N, &opened);
-    print_opened(refusal, opened);
+    open_shares(NULL, shares);
     shares[3] = DOUMBAHT_WIDE_NOT_SENT;
-    refusal = doumbaht_open_wide(N, T, shares, N, &opened);
-    print_opened(refusal, opened);
+    open_shares(NULL, shares);
     shares[3] = 998;
-    refusal = doumbaht_open_wide(N, T, shares, N, &opened);
-    print_opened(refusal, opened);
+    open_shares(NULL, shares);
 }
 
 /* With one: a dealing, an opening in which lamp 3 sent nothing, and lamp 5's column from what lamps 1 to 4 said first. */
 static void with_stations(void)
 {
-    uint32_t deals[DOUMBAHT_DEALS(N, T)] = {0}, shares[N] = {0}, opened = 0;
+    uint32_t deals[DOUMBAHT_DEALS(N, T)] = {0}, shares[N] = {0};
     if (doumbaht_deal_wide_with(N, T, stations, N, f, COUNT(f), deals, COUNT(deals)) != DOUMBAHT_DONE) {
         printf("deal refused\n");
         return;
     }
     print_deals(stations, deals, shares);
     shares[2] = DOUMBAHT_WIDE_NOT_SENT;
-    uint8_t refusal = doumbaht_open_wide_with(N, T, stations, N, shares, N, &opened);
-    print_opened(refusal, opened);
+    open_shares(stations, shares);
     /* F(1000000000, y) at their points y, but that lamp 2 lies. */
     const uint32_t said[] = {902374965, 999, 1147483644, 2115098123};
     uint32_t column[DOUMBAHT_COLUMN(T)] = {0};
-    refusal = doumbaht_repair_wide(T, stations, COUNT(said), said, COUNT(said), column, COUNT(column));
+    uint8_t refusal = doumbaht_repair_wide(T, stations, COUNT(said), said, COUNT(said), column, COUNT(column));
     printf("repaired %u", (unsigned)refusal);
     print_list("column", column, COUNT(column));
     printf("\n");
