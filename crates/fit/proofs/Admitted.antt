@@ -45,10 +45,12 @@ module _ (t least : ℕ) (xs ys : List ℕ) where
 
   -- With a small degree, the others one after the other.
   pub tests-rest : t ≤ 3
-      → also (also (also Pass (eqb (length xs) (length ys)) WrongLength) (leb (length xs) 16) WrongLength) (leb (2 * t + 1) least) WrongLength
+      → also (also (also Pass (eqb (length xs) (length ys)) WrongLength) (leb (length xs) 16) WrongLength)
+      (leb (2 * t + 1) least) WrongLength
       ≡ lowest (fitTests t least xs ys)
   tests-rest degree = rw (le-leb t 3 degree)
-      (in-order ((eqb (length xs) (length ys), WrongLength) ∷ (leb (length xs) 16, WrongLength) ∷ (leb (2 * t + 1) least, WrongLength) ∷ []))
+      (in-order
+      ((eqb (length xs) (length ys), WrongLength) ∷ (leb (length xs) 16, WrongLength) ∷ (leb (2 * t + 1) least, WrongLength) ∷ []))
 
   module _ (degree : t ≤ 3) where
     pub tests-lengths : (length xs ≡ length ys → ⊥) → lowest (fitTests t least xs ys) ≡ Fail WrongLength

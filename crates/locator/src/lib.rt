@@ -120,8 +120,8 @@ fn quotient(w: Width, t: usize, degree: usize, numerator: [u32; 12], locator: [u
     )
 }
 
-// The answer for a solution: the numerator divided by the locator, if this is of no higher degree than points may be wrong, nothing remains,
-// and enough of all points agree.
+// The answer for a solution: the numerator divided by the locator, if this is of no higher degree than points may be wrong, nothing
+// remains, and enough of all points agree.
 fn judged(
     w: Width,
     t: usize,

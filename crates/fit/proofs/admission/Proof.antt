@@ -38,7 +38,9 @@ returns c =
     ∙ tests-rest (a .t) (a .least) (a .xs .now) (a .ys .now) (even .before .if1 .taken)
 
 returns-2 : tie.Need-returns-2
-returns-2 c = let a = c .before .before .before .args in sym (tests-degree (a .t) (a .least) (a .xs .now) (a .ys .now) (omega (arith, c .if1 .left)))
+returns-2 c =
+    let a = c .before .before .before .args in
+    sym (tests-degree (a .t) (a .least) (a .xs .now) (a .ys .now) (omega (arith, c .if1 .left)))
 
 pub admission-spec : {M : Type 1} → statement M
 admission-spec =

@@ -76,7 +76,8 @@ returns-2 c =
     let told = list .before .before in
     let a = told .before .before .before .args in
     c .opened-list .ensures
-    ∙ ap₂ (λ b l. openedIf b (a .opened .now) (openingOf modulus (a .t) (take (a .n) (a .table)) l)) (sym (told .enum-told .given .1)) (front list)
+    ∙ ap₂ (λ b l. openedIf b (a .opened .now) (openingOf modulus (a .t) (take (a .n) (a .table)) l))
+    (sym (told .enum-told .given .1)) (front list)
 
 pub opened-by-spec : {M : Type 1} → statement M
 opened-by-spec =

@@ -29,10 +29,14 @@ put-fitted-requires-2 : tie.Need-put-fitted-requires-2
 put-fitted-requires-2 c κs = opened-narrow modulus _ _ _ _ _ (c .before .located .ensures) (prime-of Narrow) (omega arith)
 
 returns : tie.Need-returns
-returns c = opened-by modulus _ _ _ _ _ (c .before .before .published .ensures) _ _ _ (c .before .before .before .before .before .before .pre) refl (c .put-fitted .ensures)
+returns c =
+    opened-by modulus _ _ _ _ _ (c .before .before .published .ensures)
+    _ _ _ (c .before .before .before .before .before .before .pre) refl (c .put-fitted .ensures)
 
 returns-2 : tie.Need-returns-2
-returns-2 c = opened-by modulus _ _ _ _ _ (c .before .before .located .ensures) _ _ _ (c .before .before .before .before .before .before .pre) refl (c .put-fitted2 .ensures)
+returns-2 c =
+    opened-by modulus _ _ _ _ _ (c .before .before .located .ensures)
+    _ _ _ (c .before .before .before .before .before .before .pre) refl (c .put-fitted2 .ensures)
 
 pub opened-list-spec : {M : Type 1} → statement M
 opened-list-spec =

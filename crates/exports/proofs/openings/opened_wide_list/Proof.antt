@@ -26,10 +26,14 @@ put-wide-fitted-requires-2 : tie.Need-put-wide-fitted-requires-2
 put-wide-fitted-requires-2 c κs = search needs
 
 returns : tie.Need-returns
-returns c = opened-by wideModulus _ _ _ _ _ (c .before .before .published .ensures) _ _ _ (c .before .before .before .before .before .before .pre) refl (c .put-wide-fitted .ensures)
+returns c =
+    opened-by wideModulus _ _ _ _ _ (c .before .before .published .ensures)
+    _ _ _ (c .before .before .before .before .before .before .pre) refl (c .put-wide-fitted .ensures)
 
 returns-2 : tie.Need-returns-2
-returns-2 c = opened-by wideModulus _ _ _ _ _ (c .before .before .located .ensures) _ _ _ (c .before .before .before .before .before .before .pre) refl (c .put-wide-fitted2 .ensures)
+returns-2 c =
+    opened-by wideModulus _ _ _ _ _ (c .before .before .located .ensures)
+    _ _ _ (c .before .before .before .before .before .before .pre) refl (c .put-wide-fitted2 .ensures)
 
 pub opened-wide-list-spec : {M : Type 1} → statement M
 opened-wide-list-spec =
