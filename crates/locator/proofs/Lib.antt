@@ -8,6 +8,7 @@ pub mod Answer
 mod Loops
 mod Parts
 mod Stepping
+mod Rooting
 mod Starting
 mod Dividing
 mod Judging

@@ -1,113 +1,58 @@
--- The start: the product of X − x for the first points, and the pair of solutions for the first t + 1.
---   Rooting p xs out k, rooting-..   the loop of `roots`: out holds in front the product for the first k points
---   solving-start                    the pair that `solve` starts with
+-- The start: how many points the polynomial through the first t + 1 goes through, and the pair of solutions for these.
+--   start-residues, start-through   the polynomial, in an array of four, and the first t + 1 points
+--   Agreeing p xs ys f k n          the loop of `agreeing`: f goes through the first n points, which are no fewer than k
+--   solving-start                   the pair that `solve_from` starts with
+--   solved-at-once                  where that is for all points
+--   solving-end                     what the loop of `solve_from` ends with
 use mathlib.Core.Path.{_≡_, refl, sym, ap, subst, _∙_}
 use mathlib.Core.List.{List, [], _∷_, _++_, map, tail, append-assoc}
 use Prim.Native.Nat.{ℕ, zero, suc, _+_, _-_, _<_, _≤_}
 use native.Mathlib.Decide.{ℕ-discrete}
-use native.Mathlib.Nat.{zero-mod, mod-eq-of-lt}
+use native.Mathlib.Nat.{mod-eq-of-lt}
 use native.Mathlib.Omega.{arith}
-use lib.ListN.{length, getD, take, drop, set, replicate, length-append, length-drop, length-replicate}
-use lib.Seq.{length-take-le, take-at, take-all, getD-take}
+use lib.ListN.{length, getD, take, drop, replicate, length-append, length-drop, length-replicate}
+use lib.Seq.{length-take-le, take-at, getD-take}
 use Rattle.lists.specs.Tabulate.{pad}
 use Rattle.lists.proofs.Padded.{four}
-use Rattle.lists.proofs.All.{all-getD, all-take, distinct-take}
-use Rattle.field.specs.Arithmetic.{Prime, add, sub, mul}
-use Rattle.field.proofs.Ring.{add-zero, zero-add, mul-zero, mul-one}
-use Rattle.polynomial.specs.Polynomial.{Poly, Points, Residues, value, raise}
-use Rattle.polynomial.proofs.Raising.{length-raise, raise-residues, raise-value, raise-value-here}
+use Rattle.lists.proofs.All.{all-getD, all-take, all-append, distinct-take}
+use Rattle.field.specs.Arithmetic.{Prime, add, mul}
+use Rattle.field.proofs.Ring.{mul-zero, mul-one}
+use Rattle.polynomial.specs.Polynomial.{Poly, Points, Residues, value}
+use Rattle.polynomial.proofs.Below.{zeros-residues}
+use Rattle.polynomial.proofs.Division.{value-alone, value-zeros}
 use Rattle.interpolation.specs.Interpolation.{interpolate}
 use Rattle.interpolation.proofs.Interpolation.{interpolate-poly, interpolate-values}
-use Rattle.locator.specs.Solving.{front, raised, Solution, Solutions, Solving, Roots}
+use Rattle.locator.specs.Solving.{Through, Solution, Solutions, Solving, Roots}
 use Rattle.locator.specs.Solved.{Solved}
 use Rattle.locator.proofs.Products.{getD-first}
-use Rattle.locator.proofs.Parts.{front-part, back-size, raised-front}
-use Rattle.locator.proofs.Solving.{raise-top}
+use Rattle.locator.proofs.Rooting.{rootsOf, roots-of}
 
--- The first k + 1 places of out are the product of X − x for the first k points.
-pub record Rooting (p : ℕ) (xs out : List ℕ) (k : ℕ) : Type 0 where
-  pub within : k ≤ length xs
-  pub size : length out ≡ length xs + 1
-  pub roots : Roots p xs k (take (suc k) out)
+-- ---- how many points it goes through
+-- f goes through the first n points, which are no fewer than k.
+pub record Agreeing (p : ℕ) (xs ys f : List ℕ) (k n : ℕ) : Type 0 where
+  pub least : k ≤ n
+  pub within : n ≤ length xs
+  pub through : Through p xs ys n f
 
-module _ (p : ℕ) (P : Prime p) (xs : List ℕ) (points : Residues p xs) where
-  positive : 0 < p
-  positive = omega (arith, P .two)
+pub agreeing-next : (p : ℕ) (xs ys f : List ℕ) (k n : ℕ) → Agreeing p xs ys f k n → n < length xs
+    → value p f (getD xs n 0) ≡ getD ys n 0 → Agreeing p xs ys f k (n + 1)
+agreeing-next p xs ys f k n a more e = record {
+  least = omega (arith, a .least);
+  within = omega arith;
+  through = λ j h.
+      elim (ℕ-discrete j n) [
+        | yes i ↦ subst (λ i. value p f (getD xs i 0) ≡ getD ys i 0) (sym i) e
+        | no i ↦ a .through j (omega arith)
+      ];
+}
 
-  pub rooting-start : (out : List ℕ) → length out ≡ length xs + 1 → Rooting p xs (set out 0 1) 0
-  rooting-start [] l = absurd (omega arith)
-  rooting-start (c ∷ out) l = record {
-    within = omega arith;
-    size = l;
-    roots = record {
-      poly = record { residues = (omega (arith, P .two), tt); size = refl };
-      vanishes = λ j h. absurd (omega arith);
-      top = λ e. absurd (omega (arith, e));
-    };
-  }
+-- ---- the polynomial through the first t + 1 points
+-- Zeros in front of zeros.
+take-zeros : (n m : ℕ) → n ≤ m → take n (replicate {A = ℕ} m 0) ≡ replicate n 0
+take-zeros zero m h = refl
+take-zeros (suc n) zero h = absurd (omega arith)
+take-zeros (suc n) (suc m) h = ap (λ l. 0 ∷ l) (take-zeros n m (omega arith))
 
-  module _ (out : List ℕ) (k : ℕ) (r : Rooting p xs out k) (more : k < length xs) where
-    x : ℕ
-    x = getD xs k 0
-
-    point : (j : ℕ) → j ≤ k → getD xs j 0 < p
-    point j h = all-getD (λ c. c < p) xs j 0 (omega arith) points
-
-    pub rooting-point : getD xs k 0 < p
-    rooting-point = point k (omega arith)
-
-    pub rooting-lent : Residues p (front (take (k + 2) out)) × (k + 2 ≤ length out)
-    rooting-lent =
-        let two : k + 2 ≡ suc (suc k) = omega arith in
-        let inside : suc (suc k) ≤ length out = omega (arith, r .size) in (
-          rw two (subst (Residues p) (sym (front-part (suc k) out inside)) (r .roots .poly .residues)),
-          omega (arith, r .size),
-        )
-
-    -- The product with X − x more.
-    roots-next : (f : List ℕ) → Roots p xs k f → Roots p xs (suc k) (raise p (getD xs k 0) (0 ∷ f))
-    unfolding x
-    roots-next f h = record {
-      poly = record {
-        residues = raise-residues p x (0 ∷ f) positive (positive, h .poly .residues);
-        size = length-raise p x (0 ∷ f) ∙ ap suc (h .poly .size);
-      };
-      vanishes = λ j l.
-          elim (ℕ-discrete j k) [
-            | yes e ↦ ap (λ i. value p (raise p x (0 ∷ f)) (getD xs i 0)) e ∙ raise-value-here p x 0 f positive rooting-point positive
-            | no e ↦
-                let z = getD xs j 0 in
-                raise-value p x 0 f z positive (point j (omega arith))
-                ∙ ap (λ v. add p 0 (mul p (sub p z x) v)) (h .vanishes j (omega arith))
-                ∙ ap (add p 0) (mul-zero p (sub p z x))
-                ∙ zero-add p 0
-                ∙ zero-mod p
-          ];
-      top = λ e.
-          h .top (subst (λ i. getD (0 ∷ f) i 0 ≡ 0) (h .poly .size)
-          (sym (raise-top p x 0 f) ∙ subst (λ i. getD (raise p x (0 ∷ f)) i 0 ≡ 0) (sym (h .poly .size)) e));
-    }
-
-    pub rooting-next : (part : List ℕ) → part ≡ raised p (getD xs k 0) (take (k + 2) out) → Rooting p xs (part ++ drop (k + 2) out) (k + 1)
-    rooting-next part e =
-        let two : k + 2 ≡ suc (suc k) = omega arith in
-        let one : k + 1 ≡ suc k = omega arith in
-        let inside : suc (suc k) ≤ length out = omega (arith, r .size) in
-        let is : part ≡ raised p (getD xs k 0) (take (suc (suc k)) out) = rw two at e in
-        let (front-is, size) = raised-front p (getD xs k 0) (suc k) out part (r .roots .poly) (front-part (suc k) out inside) is in
-        rw (two, one) (record {
-          within = omega arith;
-          size = back-size (suc (suc k)) out part inside size ∙ r .size;
-          roots = subst (Roots p xs (suc k)) (sym front-is) (roots-next (take (suc k) out) (r .roots));
-        })
-
-  pub rooting-end : (out : List ℕ) (k : ℕ) → Rooting p xs out k → length xs ≤ k → Roots p xs (length xs) out
-  rooting-end out k r done =
-      let here : k ≡ length xs = omega (arith, r .within) in
-      subst (λ l. Roots p xs (length xs) l) (take-all (suc (length xs)) out (omega (arith, r .size)))
-      (subst (λ j. Roots p xs j (take (suc j) out)) here (r .roots))
-
--- ---- the pair for the first t + 1 points
 mapped : (g : ℕ → ℕ) (xs ys : List ℕ) → map g xs ≡ ys → (j : ℕ) → j < length xs → g (getD xs j 0) ≡ getD ys j 0
 mapped g [] ys e j h = absurd (omega arith)
 mapped g (x ∷ xs) ys e zero h = ap (λ l. getD l 0 0) e
@@ -145,84 +90,130 @@ module _ (p : ℕ) (P : Prime p) (t : ℕ) (low : t ≤ 3) (xs ys : List ℕ) (p
       j (omega (arith, size-x))
       ∙ getD-take (suc t) ys j 0 h
 
-  one-lt : 1 < p
-  one-lt = omega (arith, P .two)
+  -- In an array of four.
+  module _ (f : List ℕ) (is : f ≡ pad 4 (interpolate p (take (t + 1) xs) (take (t + 1) ys))) where
+    padded : f ≡ first ++ replicate (4 - length first) 0
+    padded = let i : t + 1 ≡ suc t = omega arith in rw i at is
 
-  constant-value : (c z : ℕ) → c < p → value p (c ∷ []) z ≡ c
-  constant-value c z h = ap (add p c) (mul-zero p z) ∙ add-zero p c ∙ mod-eq-of-lt h
+    pub start-residues : Residues p f
+    start-residues =
+        subst (Residues p) (sym padded)
+        (all-append (λ c. c < p) first (replicate (4 - length first) 0) (first-poly .residues)
+        (zeros-residues p (4 - length first) (omega (arith, P .two))))
 
-  two-start : Solution p (suc t) 1 xs ys (suc t) first (1 ∷ [])
-  two-start = record {
-    numerator = first-poly;
-    locator = record { residues = (one-lt, tt); size = refl };
-    solves = λ j h.
-        first-value j h
-        ∙ sym (ap (mul p (getD ys j 0)) (constant-value 1 (getD xs j 0) one-lt)
-        ∙ mul-one p (getD ys j 0)
-        ∙ mod-eq-of-lt (all-getD (λ c. c < p) ys j 0 (omega arith) values));
-  }
+    pub start-size : length f ≡ 4
+    start-size =
+        ap length padded ∙ length-append first (replicate (4 - length first) 0)
+        ∙ omega (arith, length-replicate {A = ℕ} (4 - length first) 0, first-poly .size)
 
-  one-start : (Q : List ℕ) → Roots p px (suc t) Q → Solution p (suc (suc t)) 1 xs ys (suc t) Q (0 ∷ [])
-  one-start Q r = record {
-    numerator = r .poly;
-    locator = record { residues = (omega (arith, P .two), tt); size = refl };
-    solves = λ j h.
-        ap (value p Q) (sym (getD-take (suc t) xs j 0 h))
-        ∙ r .vanishes j h
-        ∙ sym (ap (mul p (getD ys j 0)) (constant-value 0 (getD xs j 0) (omega (arith, P .two))) ∙ mul-zero p (getD ys j 0));
-  }
+    same-value : (x : ℕ) → value p f x ≡ value p first x
+    same-value x = ap (λ z. value p z x) padded ∙ value-zeros p first (4 - length first) x
 
-  pair-start : (Q : List ℕ) → Roots p px (suc t) Q → Solutions p t xs ys (suc t) (suc t) 0 Q (0 ∷ []) first (1 ∷ [])
-  pair-start Q r =
-      let none : suc (0 + t) ≡ suc t = omega arith in
-      let one : suc t - t ≡ 1 = omega arith in
-      record {
-        least = omega arith;
-        sum = omega arith;
-        one = subst (λ m. Solution p (suc (suc t)) m xs ys (suc t) Q (0 ∷ [])) (sym one) (one-start Q r);
-        two = subst (λ n. Solution p n 1 xs ys (suc t) first (1 ∷ [])) (sym none) two-start;
-        top-one = r .top;
-        top-two = λ e. absurd (omega (arith, e));
+    pub start-through : Through p xs ys (t + 1) f
+    start-through j h = same-value (getD xs j 0) ∙ first-value j (omega arith)
+
+    -- ---- the pair for the first k points, which it goes through
+    module _ (k : ℕ) (least : t + 1 ≤ k) (within : k ≤ length xs) (through : Through p xs ys k f) where
+      one-lt : 1 < p
+      one-lt = omega (arith, P .two)
+
+      two-start : Solution p (suc t) 1 xs ys k first (1 ∷ [])
+      two-start = record {
+        numerator = first-poly;
+        locator = record { residues = (one-lt, tt); size = refl };
+        solves = λ j h.
+            let y = getD ys j 0 in
+            sym (same-value (getD xs j 0))
+            ∙ through j h
+            ∙ sym (ap (mul p y) (value-alone p (getD xs j 0) 1 one-lt)
+            ∙ mul-one p y
+            ∙ mod-eq-of-lt (all-getD (λ c. c < p) ys j 0 (omega arith) values));
       }
 
-  -- In front of the four lists.
-  pub solving-start : (part f : List ℕ) → Roots p (take (t + 1) xs) (length (take (t + 1) xs)) part
-      → f ≡ pad 4 (interpolate p (take (t + 1) xs) (take (t + 1) ys))
-      → Solving p t xs ys (t + 1) (t + 1) (part ++ drop (t + 2) (replicate 12 0)) (replicate 8 0)
-      (getD f 0 0 ∷ getD f 1 0 ∷ getD f 2 0 ∷ getD f 3 0 ∷ replicate 8 0) (1 ∷ replicate 7 0)
-  solving-start part f r e =
-      let i : t + 1 ≡ suc t = omega arith in
-      let roots : Roots p px (suc t) part = subst (λ n. Roots p px n part) size-x (rw i at r) in
-      let first-is : f ≡ first ++ replicate (4 - length first) 0 = rw i at e in
-      let four-long : length f ≡ 4 =
-      ap length first-is ∙ length-append first (replicate (4 - length first) 0)
-      ∙ omega (arith, length-replicate {A = ℕ} (4 - length first) 0, first-poly .size) in
-      let array : getD f 0 0 ∷ getD f 1 0 ∷ getD f 2 0 ∷ getD f 3 0 ∷ replicate 8 0 ≡ f ++ replicate 8 0 =
-      ap (λ z. z ++ replicate 8 0) (four f four-long) in
-      let left : t + 1 - (t + 1) ≡ 0 = omega arith in
-      let none : suc (0 + t) ≡ suc t = omega arith in
-      let one : suc t - t ≡ 1 = omega arith in
-      let two : t + 2 ≡ suc (suc t) = omega arith in
-      record {
-        room-q1 =
-            length-append part (drop (t + 2) (replicate 12 0))
-            ∙ omega (arith, roots .poly .size, length-drop (t + 2) (replicate {A = ℕ} 12 0));
-        room-e1 = refl;
-        room-q2 = refl;
-        room-e2 = refl;
+      one-start : (Q : List ℕ) → Roots p xs k Q → Solution p (suc k) (k - t) xs ys k Q (replicate (k - t) 0)
+      one-start Q r = record {
+        numerator = r .poly;
+        locator = record {
+          residues = zeros-residues p (k - t) (omega (arith, P .two));
+          size = length-replicate (k - t) 0;
+        };
+        solves = λ j h.
+            r .vanishes j h
+            ∙ sym (ap (mul p (getD ys j 0)) (value-zeros p [] (k - t) (getD xs j 0)) ∙ mul-zero p (getD ys j 0));
+      }
+
+      pair-start : (Q : List ℕ) → Roots p xs k Q → Solutions p t xs ys k k 0 Q (replicate (k - t) 0) first (1 ∷ [])
+      pair-start Q r =
+          let none : suc (0 + t) ≡ suc t = omega arith in
+          record {
+            least = least;
+            sum = omega arith;
+            one = one-start Q r;
+            two = subst (λ n. Solution p n 1 xs ys k first (1 ∷ [])) (sym none) two-start;
+            top-one = r .top;
+            top-two = λ e. absurd (omega (arith, e));
+          }
+
+      abbrev array : List ℕ
+      array = getD f 0 0 ∷ getD f 1 0 ∷ getD f 2 0 ∷ getD f 3 0 ∷ replicate 8 0
+
+      -- In front of an array of twelve.
+      front-first : take (suc t) (getD f 0 0 ∷ getD f 1 0 ∷ getD f 2 0 ∷ getD f 3 0 ∷ replicate 8 0) ≡ first
+      front-first =
+          ap (λ z. take (suc t) (z ++ replicate 8 0)) (four f start-size ∙ padded)
+          ∙ ap (take (suc t)) (append-assoc first (replicate (4 - length first) 0) (replicate 8 0))
+          ∙ take-at first (replicate (4 - length first) 0 ++ replicate 8 0) (suc t) (first-poly .size)
+
+      -- What is 0 at the points of a part is so at those of the whole.
+      roots-within : (Q : List ℕ) → Roots p (take k xs) k Q → Roots p xs k Q
+      roots-within Q r = record {
+        poly = r .poly;
+        vanishes = λ j h. ap (value p Q) (sym (getD-take k xs j 0 h)) ∙ r .vanishes j h;
+        top = r .top;
+      }
+
+      -- In front of the four lists.
+      pub solving-start : (part : List ℕ) → length xs ≤ t + 7 → Roots p (take k xs) (length (take k xs)) part
+          → Solving p t xs ys k k (part ++ drop (k + 1) (replicate 12 0)) (replicate 8 0)
+          (getD f 0 0 ∷ getD f 1 0 ∷ getD f 2 0 ∷ getD f 3 0 ∷ replicate 8 0) (1 ∷ replicate 7 0)
+      solving-start part most r =
+          let left : k - k ≡ 0 = omega arith in
+          let one : k + 1 ≡ suc k = omega arith in
+          let none : 0 + t ≡ t = omega arith in
+          let roots : Roots p xs k part = roots-within part (subst (λ n. Roots p (take k xs) n part) (length-take-le k xs within) r) in
+          record {
+            room-q1 =
+                length-append part (drop (k + 1) (replicate 12 0))
+                ∙ omega (arith, roots .poly .size, length-drop (k + 1) (replicate {A = ℕ} 12 0));
+            room-e1 = refl;
+            room-q2 = refl;
+            room-e2 = refl;
+            pair =
+                rw (left, none)
+                (subst (λ z. Solutions p t xs ys k k 0 z (take (k - t) (replicate 8 0)) (take (suc t) array) (1 ∷ []))
+                (sym (take-at part (drop (k + 1) (replicate 12 0)) (suc k) (roots .poly .size)))
+                (subst (λ z. Solutions p t xs ys k k 0 part z (take (suc t) array) (1 ∷ []))
+                (sym (take-zeros (k - t) 8 (omega arith)))
+                (subst (λ z. Solutions p t xs ys k k 0 part (replicate (k - t) 0) z (1 ∷ []))
+                (sym front-first) (pair-start part roots))));
+          }
+
+      -- Where these are all points, there is nothing to solve.
+      pub solved-at-once : k ≡ length xs → Solved p t xs ys (record {
+        numerator = getD f 0 0 ∷ getD f 1 0 ∷ getD f 2 0 ∷ getD f 3 0 ∷ replicate 8 0;
+        locator = 1 ∷ replicate 7 0;
+        degree = 0;
+      })
+      solved-at-once all = record {
+        a = k;
+        first-numerator = rootsOf p xs k;
+        first-locator = replicate (k - t) 0;
         pair =
-            subst (λ z.
-            Solutions p t xs ys (t + 1) (t + 1) (t + 1 - (t + 1)) (take (suc (t + 1)) (part ++ drop (t + 2) (replicate 12 0)))
-            (take (t + 1 - t) (replicate 8 0)) (take (suc (t + 1 - (t + 1) + t)) z) (take (suc (t + 1 - (t + 1))) (1 ∷ replicate 7 0)))
-            (sym array)
-            (rw (left, i, one, none)
-            (subst (λ z. Solutions p t xs ys (suc t) (suc t) 0 z (0 ∷ []) (take (suc t) (f ++ replicate 8 0)) (1 ∷ []))
-            (sym (take-at part (drop (t + 2) (replicate 12 0)) (suc (suc t)) (roots .poly .size)))
-            (subst (λ z. Solutions p t xs ys (suc t) (suc t) 0 part (0 ∷ []) z (1 ∷ []))
-            (sym (ap (λ z. take (suc t) (z ++ replicate 8 0)) first-is
-            ∙ ap (take (suc t)) (append-assoc first (replicate (4 - length first) 0) (replicate 8 0))
-            ∙ take-at first (replicate (4 - length first) 0 ++ replicate 8 0) (suc t) (first-poly .size)))
-            (pair-start part roots))));
+            subst (λ n. Solutions p t xs ys n k 0 (rootsOf p xs k) (replicate (k - t) 0) (take (suc (0 + t)) array) (1 ∷ [])) all
+            (let none : 0 + t ≡ t = omega arith in
+            rw none
+            (subst (λ z. Solutions p t xs ys k k 0 (rootsOf p xs k) (replicate (k - t) 0) z (1 ∷ [])) (sym front-first)
+            (pair-start (rootsOf p xs k) (roots-of p P xs (points .0) k within))));
       }
 
 -- ---- the end

@@ -3,6 +3,7 @@
 -- and a Q of degree at most b + t, and a + b is the count of the points.
 --   off p x y Q E                  Q(x) − y E(x)
 --   Solves p xs ys k Q E           that is 0 at the first k points
+--   Through p xs ys k f            f takes the values at the first k points
 --   front l, raised p x l          a list without its last place, which is room; X − x times what stands before the room
 --   Short p l, Roomy p l           at most 11 residues; these, and a last place that is room
 --   mixed p d R g Q                d R − g Q, coefficient by coefficient
@@ -43,6 +44,10 @@ module _ (p : ℕ) where
   -- Q(x) = y E(x) at the first k points.
   abbrev pub Solves : List ℕ → List ℕ → ℕ → List ℕ → List ℕ → Type 0
   Solves xs ys k Q E = (j : ℕ) → j < k → value p Q (getD xs j 0) ≡ mul p (getD ys j 0) (value p E (getD xs j 0))
+
+  -- f(x) = y at the first k points.
+  abbrev pub Through : List ℕ → List ℕ → ℕ → List ℕ → Type 0
+  Through xs ys k f = (j : ℕ) → j < k → value p f (getD xs j 0) ≡ getD ys j 0
 
   -- X − x times what stands before the last place, in the whole of the list.
   abbrev pub raised : ℕ → List ℕ → List ℕ

@@ -6,7 +6,7 @@ ghost use Rattle.lists.specs.Tabulate.{pad};
 ghost use Rattle.field.specs.Modulus.{primeOf};
 ghost use Rattle.polynomial.specs.Polynomial.{Residues, Points, value};
 ghost use Rattle.interpolation.specs.Interpolation.{interpolate};
-ghost use Rattle.locator.specs.Solving.{off, mixed, raised, Short, Roomy, Met, Solving, Roots};
+ghost use Rattle.locator.specs.Solving.{off, mixed, raised, Short, Roomy, Met, Solving, Roots, Through};
 ghost use Rattle.locator.specs.Solved.{Solved};
 use crate::Located;
 use field::Width;
@@ -184,28 +184,64 @@ fn roots(w: Width, xs: &[u32], out: &mut [u32])
     }
 }
 
-// The second solution for all points, at most t + 7 of them. The start has the first t + 1: f goes through them, so that the locator 1
-// holds there; and their product is 0 there, so that the locator 0 does.
-pub(crate) fn solve(w: Width, t: usize, xs: &[u32], ys: &[u32], f: [u32; 4]) -> Located
+// How many of the first points f goes through, which goes through the first k.
+fn agreeing(w: Width, k: usize, f: [u32; 4], xs: &[u32], ys: &[u32]) -> usize
+    requires { ⌜ Residues (primeOf w) f × Residues (primeOf w) (now xs) × (k ≤ length (now xs)) × (length (now xs) ≡ length (now ys)) ⌝ }
+    requires { ⌜ Through (primeOf w) (now xs) (now ys) k f ⌝ }
+    ensures { λ r. ⌜ (k ≤ r) × (r ≤ length (now (xs .entry))) × Through (primeOf w) (now (xs .entry)) (now (ys .entry)) r f ⌝ }
+{
+    let mut n = k;
+    while n < xs.len() {
+        if !field::is_cubic_value(w, f[0], f[1], f[2], f[3], xs[n], ys[n]) {
+            return n;
+        }
+        n += 1;
+    }
+    n
+}
+
+// The second solution for all points. The start has the first k: f goes through them, so that the locator 1 holds there; and their product
+// is 0 there, so that the locator 0 does.
+fn solve_from(w: Width, t: usize, k: usize, f: [u32; 4], xs: &[u32], ys: &[u32]) -> Located
     requires { ⌜ (t ≤ 3) × Points (primeOf w) (now xs) × Residues (primeOf w) (now ys) × (length (now xs) ≡ length (now ys))
-        × (t + 1 ≤ length (now xs)) × (length (now xs) ≤ t + 7) ⌝ }
+        × (t + 1 ≤ k) × (k ≤ length (now xs)) × (length (now xs) ≤ t + 7) ⌝ }
     requires { ⌜ f ≡ pad 4 (interpolate (primeOf w) (take (t + 1) (now xs)) (take (t + 1) (now ys))) ⌝ }
+    requires { ⌜ Through (primeOf w) (now xs) (now ys) k f ⌝ }
     ensures { λ r. ⌜ Solved (primeOf w) t (now (xs .entry)) (now (ys .entry)) r ⌝ }
 {
     let mut q1 = [0u32; 12];
     let mut e1 = [0u32; 8];
     let mut q2 = [f[0], f[1], f[2], f[3], 0, 0, 0, 0, 0, 0, 0, 0];
     let mut e2 = [1, 0, 0, 0, 0, 0, 0, 0];
-    roots(w, &xs[..t + 1], &mut q1[..t + 2]);
-    let mut a = t + 1;
-    let mut k = t + 1;
-    while k < xs.len() {
-        a = step(w, t, k, a, xs, ys, &mut q1, &mut e1, &mut q2, &mut e2);
-        k += 1;
+    roots(w, &xs[..k], &mut q1[..k + 1]);
+    let mut a = k;
+    let mut n = k;
+    while n < xs.len() {
+        a = step(w, t, n, a, xs, ys, &mut q1, &mut e1, &mut q2, &mut e2);
+        n += 1;
     }
     Located {
         numerator: q2,
         locator: e2,
-        degree: k - a,
+        degree: n - a,
     }
+}
+
+// The second solution for all points, at most t + 7 of them, where f goes through the first t + 1. As long as f goes through more, nothing
+// is solved: the locator is 1.
+pub(crate) fn solve(w: Width, t: usize, xs: &[u32], ys: &[u32], f: [u32; 4]) -> Located
+    requires { ⌜ (t ≤ 3) × Points (primeOf w) (now xs) × Residues (primeOf w) (now ys) × (length (now xs) ≡ length (now ys))
+        × (t + 1 ≤ length (now xs)) × (length (now xs) ≤ t + 7) ⌝ }
+    requires { ⌜ f ≡ pad 4 (interpolate (primeOf w) (take (t + 1) (now xs)) (take (t + 1) (now ys))) ⌝ }
+    ensures { λ r. ⌜ Solved (primeOf w) t (now (xs .entry)) (now (ys .entry)) r ⌝ }
+{
+    let k = agreeing(w, t + 1, f, xs, ys);
+    if k == xs.len() {
+        return Located {
+            numerator: [f[0], f[1], f[2], f[3], 0, 0, 0, 0, 0, 0, 0, 0],
+            locator: [1, 0, 0, 0, 0, 0, 0, 0],
+            degree: 0,
+        };
+    }
+    solve_from(w, t, k, f, xs, ys)
 }

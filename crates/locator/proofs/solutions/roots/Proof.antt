@@ -7,7 +7,7 @@ use lib.ListN.{length}
 use lib.Seq.{length-take-le}
 use Rattle.field.specs.Modulus.{primeOf}
 use Rattle.field.proofs.Primes.{prime-of}
-use Rattle.locator.proofs.Starting.{Rooting, rooting-start, rooting-point, rooting-lent, rooting-next, rooting-end}
+use Rattle.locator.proofs.Rooting.{Rooting, rooting-start, rooting-point, rooting-lent, rooting-next, rooting-end}
 use Rattle.locator.proofs.solutions.roots.Statement.{statement}
 use Rattle.locator.proofs.solutions.roots.Tie as tie
 
