@@ -4,13 +4,14 @@ use mathlib.Core.List.{List, [], _∷_, zipWith}
 use Prim.Native.Nat.{ℕ, zero, suc, _*_, _<_}
 use native.Mathlib.Nat.{zero-mod}
 use native.Mathlib.Omega.{arith}
-use lib.ListN.{length, replicate, take, drop, length-take, length-drop, length-replicate}
+use lib.ListN.{length, take, drop, length-take, length-drop, length-replicate}
 use Rattle.lists.proofs.InPlace.{length-zipWith}
 use Rattle.field.specs.Arithmetic.{add, mul}
 use Rattle.field.proofs.Ring.{ring, add-lt, add-zero, mul-zero}
 use Rattle.polynomial.specs.Polynomial.{Poly, Residues, value}
 use Rattle.bivariate.specs.Bivariate.{row, plusTimes, column}
-use Rattle.polynomial.proofs.Division.{value-lt}
+use Rattle.polynomial.proofs.Below.{zeros-residues}
+use Rattle.polynomial.proofs.Division.{value-lt, value-zeros}
 
 module _ (p : ℕ) where
   -- ---- f + x g
@@ -54,14 +55,6 @@ module _ (p : ℕ) where
       let rest : length (column p k n (drop n F) x) ≡ n = length-column k n (drop n F) x (back k n F e) in
       length-plusTimes (take n F) x (column p k n (drop n F) x) (front k n F e ∙ sym rest) ∙ front k n F e
 
-  zeros-residues : (n : ℕ) → 0 < p → Residues p (replicate n 0)
-  zeros-residues zero positive = tt
-  zeros-residues (suc n) positive = (positive, zeros-residues n positive)
-
-  zeros-value : (n x : ℕ) → value p (replicate n 0) x ≡ 0
-  zeros-value zero x = refl
-  zeros-value (suc n) x = ap (λ z. add p 0 (mul p x z)) (zeros-value n x) ∙ simp (mul-zero, add-zero, zero-mod)
-
   pub row-poly : (k n : ℕ) (F : List ℕ) (y : ℕ) → 0 < p → Poly p k (row p k n F y)
   row-poly k n F y positive = record { residues = residues k F; size = length-row k n F y }
     where
@@ -73,12 +66,12 @@ module _ (p : ℕ) where
   column-poly k n F x positive e = record { residues = residues k F; size = length-column k n F x e }
     where
       residues : (k : ℕ) (F : List ℕ) → Residues p (column p k n F x)
-      residues zero F = zeros-residues n positive
+      residues zero F = zeros-residues p n positive
       residues (suc k) F = plusTimes-residues (take n F) x (column p k n (drop n F) x) positive
 
   -- ---- row and column cross: F(X, y) at x is F(x, Y) at y
   pub crossing : (k n : ℕ) (F : List ℕ) (x y : ℕ) → length F ≡ k * n → value p (row p k n F y) x ≡ value p (column p k n F x) y
-  crossing zero n F x y e = sym (zeros-value n y)
+  crossing zero n F x y e = sym (value-zeros p [] n y)
   crossing (suc k) n F x y e =
       let rest : List ℕ = column p k n (drop n F) x in
       ap (λ z. add p (value p (take n F) y) (mul p x z)) (crossing k n (drop n F) x y (back k n F e))

@@ -44,12 +44,6 @@ column-block f n end l h =
 pub block-residues : (p : ℕ) (f : List ℕ) (k at : ℕ) → Residues p f → Residues p (take k (drop at f))
 block-residues p f k at h = all-take (λ c. c < p) k (drop at f) (all-drop (λ c. c < p) at f h)
 
--- A list of residues is one after another is written into it.
-pub set-residue : (p : ℕ) (f : List ℕ) (i v : ℕ) → v < p → Residues p f → Residues p (set f i v)
-set-residue p [] i v b h = tt
-set-residue p (c ∷ f) zero v b h = (b, h .1)
-set-residue p (c ∷ f) (suc i) v b h = (h .0, set-residue p f i v b (h .1))
-
 -- Two lists of one length, and of each two numbers the first.
 pub zip-first : (f g : List ℕ) → length f ≡ length g → zipWith (λ c d. c) f g ≡ f
 unfolding zipWith

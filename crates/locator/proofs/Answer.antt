@@ -1,7 +1,10 @@
 -- The locator answers what fits: what it accepts fits, and what fits it finds.
---   located-fits    what is answered fits
---   located-found   what fits is answered
---   located-fit     so it is what decoding by trial answers
+--   accepted-exactly   of what is answered: times the locator it is the numerator, the locator's degree is at most `spare`, and at least
+--                      `need` of all points agree
+--   located-fits       what is answered fits
+--   located-found      what fits is answered
+--   located-fit        so it is what decoding by trial answers
+--   as-by-trial        and, where as many must agree as for an opening, the opening
 use mathlib.Core.Path.{_≡_, refl, sym, ap, subst, _∙_}
 use mathlib.Core.Option.{some}
 use mathlib.Core.List.{List}
@@ -9,20 +12,22 @@ use Prim.Native.Nat.{ℕ, suc, _+_, _*_, _≤_, _<_}
 use native.Mathlib.Omega.{arith}
 use borrow.Author.Tests.{le-leb}
 use lib.Dec.{leb}
-use lib.ListN.{length, getD, take}
+use lib.ListN.{length, getD, take, length-take}
+use lib.Seq.{getD-take}
 use Rattle.lists.specs.Choices.{count}
 use Rattle.lists.proofs.Choices.{count-take}
 use Rattle.field.specs.Arithmetic.{Prime, mul, inv}
 use Rattle.polynomial.specs.Polynomial.{Poly, Points}
-use Rattle.trial.specs.Trial.{pointsOf, pointsSent, meets}
+use Rattle.trial.specs.Trial.{pointsOf, pointsSent, meets, hits}
 use Rattle.fit.specs.Fit.{sent, Fits, fit}
+use Rattle.fit.specs.Opening.{needed, openingOf}
 use Rattle.fit.proofs.Decoding.{points-sent-all, hits-points-sent, fit-by}
 use Rattle.locator.specs.declared.Located.{Located}
 use Rattle.locator.specs.Solved.{Solved}
 use Rattle.locator.specs.Quotient.{product, division, exactly}
 use Rattle.locator.specs.Answer.{ifEnough, quotientOf, locatedBy}
 use Rattle.locator.proofs.Products.{division-size, division-residues}
-use Rattle.locator.proofs.Exact.{none-not-some, test-passed, enough-sound, enough-found, exactly-sound, inverse-top, product-exactly}
+use Rattle.locator.proofs.Exact.{answered-exactly, none-not-some, test-passed, enough-sound, enough-found, exactly-sound, inverse-top, product-exactly}
 use Rattle.locator.proofs.Locating.{few-wrong, numerator-is}
 
 -- The code's numbers, and those of the laws.
@@ -75,6 +80,20 @@ module _ (p : ℕ) (P : Prime p) (t need spare : ℕ) (xs ys : List ℕ) (length
         enough = enough;
       }
 
+  -- What is answered leaves nothing: times the locator it is the numerator.
+  pub accepted-exactly : (f : List ℕ) → locatedBy p t need spare xs ys b (r .numerator) (r .locator) ≡ some f
+      → (Q ≡ product p f E) × (b ≤ spare) × (need ≤ hits p f xs ys)
+  accepted-exactly f e =
+      let j : b + t + 1 ≡ suc (b + t) = omega arith in
+      let k : b + 1 ≡ suc b = omega arith in
+      let all =
+      answered-exactly p P t need spare xs ys b (r .numerator) (r .locator)
+      (omega (arith, s .pair .two .numerator .size, length-take (suc (b + t)) (r .numerator)))
+      (omega (arith, size-E, length-take (suc b) (r .locator)))
+      (rw j (s .pair .two .numerator .residues)) (rw k (s .pair .two .locator .residues))
+      (λ z. s .pair .top-two (getD-take (suc b) (r .locator) b 0 (omega arith) ∙ z)) f e in
+      rw (j, k) at all
+
   -- Where F fits, it differs from at most as many of the points solved for as may be wrong.
   module _ (F : List ℕ) (fits : Fits p t need xs ys F) where
     window : t + 1 + 2 * spare ≤ count (meets p F) (pointsOf px py) + spare
@@ -116,3 +135,13 @@ module _ (p : ℕ) (P : Prime p) (t need spare : ℕ) (xs ys : List ℕ) (length
   located-fit =
       fit-by p P t need xs ys points (omega arith) (locatedBy p t need spare xs ys b (r .numerator) (r .locator)) located-fits
       (λ e F fits. none-not-some _ F e (located-found F fits))
+
+-- "For each list, whole or with lamps dark, it must answer as the opening" does: where 2t + 1 must agree, and all but t of those sent, what
+-- is made of any solution for the first t + 1 + 2 spare points sent is the opening.
+pub as-by-trial : (p : ℕ) → Prime p → (t spare : ℕ) (xs ys : List ℕ) → length xs ≡ length ys → Points p xs → spare ≤ t
+    → sent p ys ≡ needed t (2 * t + 1) (sent p ys) + spare → (px py : List ℕ)
+    → pointsOf px py ≡ take (t + 1 + 2 * spare) (pointsSent p xs ys) → length px ≡ t + 1 + 2 * spare → length py ≡ length px → Points p px
+    → (r : Located) → Solved p t px py r
+    → locatedBy p t (needed t (2 * t + 1) (sent p ys)) spare xs ys (r .degree) (r .numerator) (r .locator) ≡ openingOf p t xs ys
+as-by-trial p P t spare xs ys lengths points few all px py gathered size-x size-y fine r s =
+    located-fit p P t (needed t (2 * t + 1) (sent p ys)) spare xs ys lengths points all (omega arith) few px py gathered size-x size-y fine r s

@@ -5,7 +5,7 @@
 --   product-exactly                where F E was divided, F is given
 --   inverse-top                    the top of a locator has its inverse
 --   enough-sound, enough-found     what is given under the count of the points that agree
---   accepted-exactly               of an answer: times the locator it is the numerator, the locator's degree is at most `spare`, and at
+--   answered-exactly               of an answer: times the locator it is the numerator, the locator's degree is at most `spare`, and at
 --                                  least `need` of all points agree
 use mathlib.Core.Path.{_≡_, refl, sym, ap, ap₂, subst, _∙_}
 use mathlib.Core.Bool.{Bool, true, false, cond, and-eq-true-iff}
@@ -101,10 +101,10 @@ module _ (p need : ℕ) (xs ys : List ℕ) where
 module _ (p : ℕ) (P : Prime p) (t need spare : ℕ) (xs ys : List ℕ) (b : ℕ) (q e : List ℕ) (size-q : b + t + 1 ≤ length q)
     (size-e : b + 1 ≤ length e) (fine-q : Residues p (take (b + t + 1) q)) (fine-e : Residues p (take (b + 1) e))
     (top : getD e b 0 ≡ 0 → ⊥) (f : List ℕ) where
-  pub accepted-exactly : locatedBy p t need spare xs ys b q e ≡ some f
+  pub answered-exactly : locatedBy p t need spare xs ys b q e ≡ some f
       → (take (b + t + 1) q ≡ product p f (take (b + 1) e)) × (b ≤ spare) × (need ≤ hits p f xs ys)
   unfolding locatedBy
-  accepted-exactly answer =
+  answered-exactly answer =
       let (low, given) = test-passed (leb b spare) (ifEnough p need xs ys (quotientOf p t b q e)) f answer in
       let (found, enough) = enough-sound p need xs ys (quotientOf p t b q e) f given in
       let next : b + 1 ≡ suc b = omega arith in

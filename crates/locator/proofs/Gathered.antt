@@ -18,7 +18,7 @@ use Rattle.interpolation.specs.Interpolation.{interpolate}
 use Rattle.trial.specs.Trial.{pointsOf, xsOf, ysOf, hits, pointsSent, through, firstFitting, tried}
 use Rattle.fit.proofs.Decoding.{residues, points-sent-fine}
 use Rattle.fit.proofs.Rule.{length-points}
-use Rattle.locator.proofs.Locating.{points-xs, points-ys}
+use Rattle.locator.proofs.Locating.{xs-of-points, ys-of-points}
 
 module _ (p : ℕ) (xs ys : List ℕ) (points : Points p xs) (m : ℕ) (px py : List ℕ) (size-x : length px ≡ m) (size-y : length py ≡ m)
     (gathered : pointsOf px py ≡ take m (pointsSent p xs ys)) where
@@ -27,12 +27,12 @@ module _ (p : ℕ) (xs ys : List ℕ) (points : Points p xs) (m : ℕ) (px py : 
 
   pub gathered-points : Points p px
   gathered-points =
-      subst (Points p) (ap xsOf (sym gathered) ∙ points-xs px py even)
+      subst (Points p) (ap xsOf (sym gathered) ∙ xs-of-points px py even)
       (points-sent-fine p xs ys (take m (pointsSent p xs ys)) points (take-sublist m (pointsSent p xs ys)))
 
   pub gathered-values : Residues p py
   gathered-values =
-      subst (Residues p) (ap ysOf (sym gathered) ∙ points-ys px py even)
+      subst (Residues p) (ap ysOf (sym gathered) ∙ ys-of-points px py even)
       (residues p xs ys (take m (pointsSent p xs ys)) (take-sublist m (pointsSent p xs ys)))
 
 -- ---- one of the arrays
@@ -74,5 +74,5 @@ tried-through p k xs ys r l m =
     ∙ ap₂ choices (sym size) (take-all (length qs) qs (omega arith))
     ∙ choices-whole qs in
     ap (λ cs. firstFitting p 0 xs ys (map (λ c. interpolate p (xsOf c) (ysOf c)) cs)) whole
-    ∙ ap₂ (λ u v. firstFitting p 0 xs ys (interpolate p u v ∷ [])) (points-xs xs ys (l ∙ sym m)) (points-ys xs ys (l ∙ sym m))
+    ∙ ap₂ (λ u v. firstFitting p 0 xs ys (interpolate p u v ∷ [])) (xs-of-points xs ys (l ∙ sym m)) (ys-of-points xs ys (l ∙ sym m))
     ∙ rw (le-leb 0 (hits p (interpolate p xs ys) xs ys) (omega arith)) refl

@@ -3,7 +3,6 @@ pub mod Solving
 pub mod Products
 pub mod Locating
 pub mod Exact
-pub mod Same
 pub mod Answer
 mod Loops
 mod Parts

@@ -1,12 +1,15 @@
 -- What the pair of solutions tells where a polynomial F of degree at most t agrees with all but e of t + 1 + 2e points: the locator has a
 -- degree of at most e, and the numerator is F times the locator.
---   few-wrong    b ≤ e
+--   few-wrong      b ≤ e
 --   numerator-is   Q = F E
+--   locates        E is 0 at each of these points where F differs
 use mathlib.Core.Path.{_≡_, refl, sym, ap, ap₂, subst, _∙_}
 use mathlib.Core.Bool.{true}
 use mathlib.Core.Logic.{⊎-elim}
 use mathlib.Core.List.{List, [], _∷_, _++_, map, Sublistᴰ}
 use Prim.Native.Nat.{ℕ, zero, suc, _+_, _*_, _-_, _<_, _≤_}
+use native.Mathlib.Decide.{ℕ-discrete}
+use native.Mathlib.Nat.{mod-eq-of-lt}
 use native.Mathlib.Omega.{arith}
 use borrow.Author.Tests.{eqb-true}
 use lib.ListN.{length, getD, replicate, length-append, length-replicate, length-map}
@@ -17,28 +20,29 @@ use Rattle.lists.proofs.Cases.{le-or-lt}
 use Rattle.lists.proofs.Choices.{choices-sublist, choices-passing}
 use Rattle.lists.proofs.Sublists.{all-sublist, map-sublist}
 use Rattle.field.specs.Arithmetic.{Prime, add, mul}
-use Rattle.field.proofs.Ring.{zero-add, mul-residue}
+use Rattle.field.proofs.Ring.{zero-add, mul-comm, mul-residue}
+use Rattle.field.proofs.Inverse.{mul-cancel}
 use Rattle.polynomial.specs.Polynomial.{Poly, Points, value}
 use Rattle.polynomial.proofs.Below.{zeros-residues}
-use Rattle.polynomial.proofs.Division.{value-zeros}
+use Rattle.polynomial.proofs.Division.{value-lt, value-zeros}
 use Rattle.polynomial.proofs.Uniqueness.{unique}
 use Rattle.trial.specs.Trial.{pointsOf, xsOf, ysOf, meets}
 use Rattle.fit.proofs.Decoding.{points-sublist}
 use Rattle.locator.specs.Solving.{Solves, Solutions}
 use Rattle.locator.specs.Quotient.{product}
-use Rattle.locator.proofs.Products.{length-product, product-residues, value-product}
+use Rattle.locator.proofs.Products.{length-addProduct, addProduct-residues, addProduct-value}
 
 -- The coordinates of points.
-pub points-xs : (xs ys : List ℕ) → length xs ≡ length ys → xsOf (pointsOf xs ys) ≡ xs
-points-xs [] ys l = refl
-points-xs (x ∷ xs) [] l = absurd (omega arith)
-points-xs (x ∷ xs) (y ∷ ys) l = ap (λ z. x ∷ z) (points-xs xs ys (omega arith))
+pub xs-of-points : (xs ys : List ℕ) → length xs ≡ length ys → xsOf (pointsOf xs ys) ≡ xs
+xs-of-points [] ys l = refl
+xs-of-points (x ∷ xs) [] l = absurd (omega arith)
+xs-of-points (x ∷ xs) (y ∷ ys) l = ap (λ z. x ∷ z) (xs-of-points xs ys (omega arith))
 
-pub points-ys : (xs ys : List ℕ) → length xs ≡ length ys → ysOf (pointsOf xs ys) ≡ ys
-points-ys [] [] l = refl
-points-ys [] (y ∷ ys) l = absurd (omega arith)
-points-ys (x ∷ xs) [] l = absurd (omega arith)
-points-ys (x ∷ xs) (y ∷ ys) l = ap (λ z. y ∷ z) (points-ys xs ys (omega arith))
+pub ys-of-points : (xs ys : List ℕ) → length xs ≡ length ys → ysOf (pointsOf xs ys) ≡ ys
+ys-of-points [] [] l = refl
+ys-of-points [] (y ∷ ys) l = absurd (omega arith)
+ys-of-points (x ∷ xs) [] l = absurd (omega arith)
+ys-of-points (x ∷ xs) (y ∷ ys) l = ap (λ z. y ∷ z) (ys-of-points xs ys (omega arith))
 
 module _ (p : ℕ) (P : Prime p) where
   positive : 0 < p
@@ -49,13 +53,13 @@ module _ (p : ℕ) (P : Prime p) where
       let b : length E - 1 ≡ m = omega (arith, e .size) in
       let l : length (replicate {A = ℕ} (length E - 1) 0) ≡ m = length-replicate (length E - 1) 0 ∙ b in
       record {
-        residues = product-residues p (replicate (length E - 1) 0) F E positive (zeros-residues p (length E - 1) positive);
-        size = length-product p (replicate (length E - 1) 0) F E (omega (arith, e .size)) ∙ omega (arith, f .size);
+        residues = addProduct-residues p (replicate (length E - 1) 0) F E positive (zeros-residues p (length E - 1) positive);
+        size = length-addProduct p (replicate (length E - 1) 0) F E (omega (arith, e .size)) ∙ omega (arith, f .size);
       }
 
   product-value : (m : ℕ) (F E : List ℕ) (x : ℕ) → length E ≡ suc m → value p (product p F E) x ≡ mul p (value p F x) (value p E x)
   product-value m F E x e =
-      value-product p (replicate (length E - 1) 0) F E x (omega (arith, length-replicate {A = ℕ} (length E - 1) 0))
+      addProduct-value p (replicate (length E - 1) 0) F E x (omega (arith, length-replicate {A = ℕ} (length E - 1) 0))
       ∙ ap (λ z. add p z (mul p (value p F x) (value p E x))) (value-zeros p [] (length E - 1) x)
       ∙ zero-add p _
       ∙ mul-residue p (value p F x) (value p E x)
@@ -80,7 +84,7 @@ module _ (p : ℕ) (P : Prime p) where
           let (c, chosen, right) = choices-passing (meets p F) n (pointsOf xs ys) enough in
           let (part, size) = choices-sublist n (pointsOf xs ys) c chosen in
           let fine : Points p (xsOf c) =
-          points-sublist p (subst (Sublistᴰ (xsOf c)) (points-xs xs ys lengths) (map-sublist (λ (q : ℕ × ℕ). q .0) part)) points in
+          points-sublist p (subst (Sublistᴰ (xsOf c)) (xs-of-points xs ys lengths) (map-sublist (λ (q : ℕ × ℕ). q .0) part)) points in
           unique p P n (xsOf c) Q G fine (omega (arith, length-map c (λ (q : ℕ × ℕ). q .0))) hQ hG
           (go c right (all-sublist (λ (q : ℕ × ℕ). value p Q (q .0) ≡ mul p (q .1) (value p E (q .0))) part (solves-all Q E s)))
         where
@@ -131,3 +135,24 @@ module _ (p : ℕ) (P : Prime p) where
               (s .two .locator .size)
               (λ x. product-value b F E2 x (s .two .locator .size))
               (omega (arith, few-wrong))
+
+          -- The locator is 0 at each of the points that is wrong.
+          pub locates : (j : ℕ) → j < k → getD ys j 0 < p → (value p F (getD xs j 0) ≡ getD ys j 0 → ⊥) → value p E2 (getD xs j 0) ≡ 0
+          locates j h small wrong =
+              let x = getD xs j 0 in
+              let y = getD ys j 0 in
+              let e = value p E2 x in
+              let low : e < p = value-lt p E2 x positive in
+              let same : mul p e (value p F x) ≡ mul p e y =
+              mul-comm p e (value p F x)
+              ∙ sym (product-value b F E2 x (s .two .locator .size))
+              ∙ ap (λ q. value p q x) (sym numerator-is)
+              ∙ s .two .solves j h
+              ∙ mul-comm p y e in
+              elim (ℕ-discrete e 0) [
+                | yes z ↦ z
+                | no n ↦
+                    absurd (wrong (sym (mod-eq-of-lt (value-lt p F x positive))
+                    ∙ mul-cancel p P e (value p F x) y (λ z. n (sym (mod-eq-of-lt low) ∙ z)) same
+                    ∙ mod-eq-of-lt small))
+              ]

@@ -10,6 +10,7 @@ use lib.ListN.{length, getD, take, drop, set, length-set}
 use lib.Seq.{length-take-le}
 use Rattle.lists.proofs.InPlace.{write-next, rest-kept, drop-next, drop-end, write-end}
 use Rattle.field.specs.Arithmetic.{sub, mul}
+use Rattle.polynomial.proofs.Below.{set-residues}
 use Rattle.polynomial.specs.Polynomial.{Residues, raise}
 use Rattle.locator.specs.Solving.{front, Short, Roomy, raised, mixed}
 
@@ -30,11 +31,6 @@ set-last [] n v l = absurd (omega arith)
 set-last (c ∷ []) zero v l = refl
 set-last (c ∷ d ∷ f) zero v l = absurd (omega arith)
 set-last (c ∷ f) (suc n) v l = ap (λ z. c ∷ z) (set-last f n v (omega arith))
-
-pub set-residues : (p : ℕ) (f : List ℕ) (i v : ℕ) → v < p → Residues p f → Residues p (set f i v)
-set-residues p [] i v h r = tt
-set-residues p (c ∷ f) zero v h r = (h, r .1)
-set-residues p (c ∷ f) (suc i) v h r = (r .0, set-residues p f i v h (r .1))
 
 -- ---- what stands before the room
 pub front-size : (l : List ℕ) → length l - 1 ≡ length (front l)

@@ -21,10 +21,9 @@ front-part n l h =
     ap (λ i. take i (take (suc n) l)) size ∙ ap (λ i. take n (take i l)) (sym one) ∙ take-take n 1 l
 
 -- What stands in front of a part that comes back stands in front of the list.
-pub back-in-front : (n k : ℕ) (l part front : List ℕ) (rest : List ℕ) → part ≡ front ++ rest → length front ≡ k
-    → take k (part ++ drop n l) ≡ front
-back-in-front n k l part front rest e size =
-    ap (λ z. take k (z ++ drop n l)) e ∙ ap (take k) (append-assoc front rest (drop n l)) ∙ take-at front (rest ++ drop n l) k size
+pub back-in-front : (n k : ℕ) (l part first rest : List ℕ) → part ≡ first ++ rest → length first ≡ k → take k (part ++ drop n l) ≡ first
+back-in-front n k l part first rest e size =
+    ap (λ z. take k (z ++ drop n l)) e ∙ ap (take k) (append-assoc first rest (drop n l)) ∙ take-at first (rest ++ drop n l) k size
 
 pub back-size : (n : ℕ) (l part : List ℕ) → n ≤ length l → length part ≡ n → length (part ++ drop n l) ≡ length l
 back-size n l part h size = length-append part (drop n l) ∙ omega (arith, length-drop n l)

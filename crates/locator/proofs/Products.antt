@@ -1,9 +1,10 @@
 -- R + F E: its length, residues and values; and that division by E takes it apart and that it puts together what was divided.
---   length-product, product-residues, value-product   of R + F E
---   division-back                                     R + F E is divided into F and R
---   division-size, division-residues                  of the quotient, whatever is divided
---   remainder-size, remainder-residues                of the remainder
---   division-forth                                    remainder + quotient · E is what was divided
+--   length-addProduct, addProduct-residues, addProduct-value   of R + F E
+--   raise-is                                                   y + (X − a) q is one
+--   division-back                                              R + F E is divided into F and R
+--   division-size, division-residues                           of the quotient, whatever is divided
+--   remainder-size, remainder-residues                         of the remainder
+--   division-forth                                             remainder + quotient · E is what was divided
 use mathlib.Core.Path.{_≡_, refl, sym, ap, ap₂, _∙_}
 use mathlib.Core.List.{List, [], _∷_, tail, zipWith}
 use Prim.Native.Nat.{ℕ, zero, suc, _+_, _-_, _<_, _≤_}
@@ -13,12 +14,11 @@ use lib.ListN.{length, getD, take}
 use lib.Seq.{length-take-le}
 use Rattle.lists.proofs.All.{all-getD, all-take}
 use Rattle.lists.proofs.InPlace.{length-zipWith}
-use Rattle.field.specs.Arithmetic.{add, sub, mul}
-use Rattle.field.proofs.Ring.{ring, add-comm, add-zero, zero-add, add-lt, add-sub, sub-lt}
+use Rattle.field.specs.Arithmetic.{add, sub, mul, neg}
+use Rattle.field.proofs.Ring.{ring, add-comm, add-zero, zero-add, add-lt, add-sub, sub-lt, sub-add, add-mul-neg}
 use Rattle.field.proofs.Ring.{mul-lt, mul-zero, mul-comm, mul-assoc, mul-one, mul-residue}
-use Rattle.polynomial.specs.Polynomial.{Residues, value}
+use Rattle.polynomial.specs.Polynomial.{Residues, value, raise}
 use Rattle.polynomial.proofs.Division.{value-residue}
-use Rattle.polynomial.proofs.Raising.{taken-back}
 use Rattle.locator.specs.Quotient.{addTimes, addProduct, lessTimes, leading, division}
 use Rattle.locator.proofs.Mixing.{value-split, length-tail}
 
@@ -57,21 +57,29 @@ module _ (p : ℕ) where
   getD-plus R c (d ∷ E) (suc j) h = getD-plus (tail R) c E j (omega arith) ∙ ap (λ z. add p z (mul p c (getD E j 0))) (getD-first R j)
 
   -- ---- R + F E
-  pub length-product : (R F E : List ℕ) → suc (length R) ≡ length E → length (addProduct p R F E) ≡ length F + length R
-  length-product R [] E h = omega arith
-  length-product R (c ∷ F) E h =
+  pub length-addProduct : (R F E : List ℕ) → suc (length R) ≡ length E → length (addProduct p R F E) ≡ length F + length R
+  length-addProduct R [] E h = omega arith
+  length-addProduct R (c ∷ F) E h =
       let s : length (tail (addTimes p R c E)) ≡ length R = length-tail (addTimes p R c E) ∙ omega (arith, length-plus R c E) in
-      omega (arith, s, length-product (tail (addTimes p R c E)) F E (omega arith))
+      omega (arith, s, length-addProduct (tail (addTimes p R c E)) F E (omega arith))
+
+  -- y + (X − a) q of the crate `polynomial` is such a sum.
+  pub raise-is : (a y : ℕ) (q : List ℕ) → 0 < p → Residues p q → raise p a (y ∷ q) ≡ addProduct p (y ∷ []) q (neg p a ∷ 1 ∷ [])
+  raise-is a y [] positive r = refl
+  raise-is a y (c ∷ q) positive r =
+      let kept : add p 0 (mul p c 1) ≡ c = zero-add p (mul p c 1) ∙ mul-residue p c 1 ∙ mul-one p c ∙ mod-eq-of-lt (r .0) in
+      ap₂ _∷_ (sym (ap (add p y) (mul-comm p c (neg p a)) ∙ add-mul-neg p y a c positive))
+      (raise-is a c q positive (r .1) ∙ ap (λ z. addProduct p (z ∷ []) q (neg p a ∷ 1 ∷ [])) (sym kept))
 
   residue-at : (f : List ℕ) → 0 < p → Residues p f → (getD f 0 0 < p) × Residues p (tail f)
   residue-at [] positive r = (positive, tt)
   residue-at (c ∷ f) positive r = r
 
-  pub product-residues : (R F E : List ℕ) → 0 < p → Residues p R → Residues p (addProduct p R F E)
-  product-residues R [] E positive r = r
-  product-residues R (c ∷ F) E positive r =
+  pub addProduct-residues : (R F E : List ℕ) → 0 < p → Residues p R → Residues p (addProduct p R F E)
+  addProduct-residues R [] E positive r = r
+  addProduct-residues R (c ∷ F) E positive r =
       let (a, b) = residue-at (addTimes p R c E) positive (plus-residues R c E positive) in
-      (a, product-residues (tail (addTimes p R c E)) F E positive b)
+      (a, addProduct-residues (tail (addTimes p R c E)) F E positive b)
 
   product-step : (u x v f E : ℕ) → add p u (mul p x (add p v (mul p f E))) ≡ add p (add p u (mul p x v)) (mul p (mul p x f) E)
   product-step u x v f E = simp ring
@@ -79,17 +87,17 @@ module _ (p : ℕ) where
   product-sum : (R c E x f : ℕ) → add p (add p R (mul p c E)) (mul p (mul p x f) E) ≡ add p R (mul p (add p c (mul p x f)) E)
   product-sum R c E x f = simp ring
 
-  pub value-product : (R F E : List ℕ) (x : ℕ) → length R ≤ length E
+  pub addProduct-value : (R F E : List ℕ) (x : ℕ) → length R ≤ length E
       → value p (addProduct p R F E) x ≡ add p (value p R x) (mul p (value p F x) (value p E x))
-  value-product R [] E x h =
+  addProduct-value R [] E x h =
       sym
       (ap (add p (value p R x)) (mul-comm p 0 (value p E x) ∙ mul-zero p (value p E x))
       ∙ add-zero p (value p R x)
       ∙ value-residue p R x)
-  value-product R (c ∷ F) E x h =
+  addProduct-value R (c ∷ F) E x h =
       let S = addTimes p R c E in
       ap (λ z. add p (getD S 0 0) (mul p x z))
-      (value-product (tail S) F E x (omega (arith, length-tail S, length-plus R c E)))
+      (addProduct-value (tail S) F E x (omega (arith, length-tail S, length-plus R c E)))
       ∙ product-step (getD S 0 0) x (value p (tail S) x) (value p F x) (value p E x)
       ∙ ap (λ z. add p z (mul p (mul p x (value p F x)) (value p E x))) (sym (value-split p S x) ∙ value-plus R c E x h)
       ∙ product-sum (value p R x) c (value p E x) x (value p F x)
@@ -103,7 +111,7 @@ module _ (p : ℕ) where
   taken (suc b) [] c E positive r l m = absurd (omega arith)
   taken (suc b) (d ∷ R) c [] positive r l m = absurd (omega arith)
   taken (suc b) (d ∷ R) c (e ∷ E) positive r l m =
-      ap₂ _∷_ (taken-back p d (mul p c e) positive (r .0)) (taken b R c E positive (r .1) (omega arith) (omega arith))
+      ap₂ _∷_ (sub-add p d (mul p c e) positive (r .0)) (taken b R c E positive (r .1) (omega arith) (omega arith))
 
   cons-split : (S : List ℕ) → 0 < length S → getD S 0 0 ∷ tail S ≡ S
   cons-split [] h = absurd (omega arith)

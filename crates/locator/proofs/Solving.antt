@@ -2,6 +2,7 @@
 --   kept, raised-one, mixed-one   one solution, where it holds at the point, times X − x, and less as much of the other that it holds
 --   first-holds, first-mixed      the pair, the first being the lower; second-holds, second-mixed likewise
 use mathlib.Core.Path.{_≡_, refl, sym, ap, ap₂, subst, _∙_}
+use mathlib.Core.Logic.{⊎-elim}
 use mathlib.Core.List.{List, [], _∷_}
 use Prim.Native.Nat.{ℕ, suc, _+_, _-_, _<_, _≤_}
 use native.Mathlib.Decide.{ℕ-discrete}
@@ -12,7 +13,7 @@ use Rattle.lists.proofs.All.{all-getD}
 use Rattle.field.specs.Arithmetic.{Prime, add, sub, mul, neg}
 use Rattle.field.proofs.Ring.{ring, add-zero, zero-add, mul-zero, mul-left-comm, mul-residue, add-neg}
 use Rattle.field.proofs.Ring.{sub-lt, sub-zero, add-sub, add-mul-neg}
-use Rattle.field.proofs.Inverse.{mul-cancel}
+use Rattle.field.proofs.Inverse.{mul-zero-cases}
 use Rattle.polynomial.specs.Polynomial.{Poly, Residues, value, raise}
 use Rattle.polynomial.proofs.Division.{value-residue}
 use Rattle.polynomial.proofs.Raising.{length-raise, raise-residues, raise-value, raise-value-here}
@@ -149,19 +150,13 @@ module _ (p : ℕ) (P : Prime p) (xs ys : List ℕ) (points : Residues p xs) (k 
         solves = more (mixed p d R g Q) (mixed p d F g E) there here;
       }
 
-  -- A product of numbers that are not 0 is not.
-  no-divisors : (d c : ℕ) → d < p → c < p → (d ≡ 0 → ⊥) → (c ≡ 0 → ⊥) → mul p d c ≡ 0 → ⊥
-  no-divisors d c hd hc nd nc e =
-      nc (sym (mod-eq-of-lt hc)
-      ∙ mul-cancel p P d c 0 (λ z. nd (sym (mod-eq-of-lt hd) ∙ z)) (e ∙ sym (mul-zero p d))
-      ∙ zero-mod p)
-
   -- The top of a list that a shorter one is taken from.
   mixed-top-not : (i : ℕ) (R Q : List ℕ) (d g : ℕ) → Poly p (suc i) R → length Q ≤ i → d < p → (d ≡ 0 → ⊥) → (getD R i 0 ≡ 0 → ⊥)
       → getD (mixed p d R g Q) i 0 ≡ 0 → ⊥
   mixed-top-not i R Q d g a short hd nd top e =
-      no-divisors d (getD R i 0) hd (all-getD (λ c. c < p) R i 0 (omega (arith, a .size)) (a .residues)) nd top
-      (sym (mixed-top p d R g Q i short (omega (arith, a .size))) ∙ e)
+      let small : getD R i 0 < p = all-getD (λ c. c < p) R i 0 (omega (arith, a .size)) (a .residues) in
+      ⊎-elim (λ z. nd (sym (mod-eq-of-lt hd) ∙ z)) (λ z. top (sym (mod-eq-of-lt small) ∙ z))
+      (mul-zero-cases p P d (getD R i 0) (sym (mixed-top p d R g Q i short (omega (arith, a .size))) ∙ e))
 
   raised-top-not : (i : ℕ) (Q : List ℕ) → length Q ≡ suc i → (getD Q i 0 ≡ 0 → ⊥) → getD (raise p x (0 ∷ Q)) (suc i) 0 ≡ 0 → ⊥
   raised-top-not i Q l top e =

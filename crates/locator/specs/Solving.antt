@@ -1,4 +1,5 @@
--- The error locator E, which is 0 at every wrong point, and the numerator Q = f E, after Berlekamp and Welch: Q(x) = y E(x) at each point.
+-- The error locator E, which is 0 at every wrong point among those solved for, and the numerator Q = f E, after Berlekamp and Welch:
+-- Q(x) = y E(x) at each of them.
 -- Two solutions are brought up point by point: the first has a Q of degree a and an E of degree below a − t, the second an E of degree b
 -- and a Q of degree at most b + t, and a + b is the count of the points.
 --   off p x y Q E                  Q(x) − y E(x)

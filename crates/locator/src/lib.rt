@@ -1,5 +1,5 @@
-// Decoding by an error locator, after Berlekamp and Welch: a numerator Q and a locator E with Q(x) = y E(x) at each point. Where a
-// polynomial f fits, E is 0 at every wrong point and Q is f E: Q divided by E is f. Nothing is tried.
+// Decoding by an error locator, after Berlekamp and Welch: a numerator Q and a locator E with Q(x) = y E(x) at each point solved for. Where
+// a polynomial f fits, E is 0 at every wrong one of these and Q is f E: Q divided by E is f. Nothing is tried.
 mod solutions;
 
 ghost use mathlib.Core.Path.{_≡_};
@@ -188,7 +188,7 @@ fn admitted(w: Width, t: usize, least: usize, xs: &[u32], ys: &[u32]) -> Fitted
     by_locator(w, t, need, s - need, xs, ys)
 }
 
-// What `fit::fit` answers, by an error locator: for every prime, any distinct points, and whatever is missing.
+// What `fit::fit` answers, by an error locator: for either prime, any distinct points, and whatever is missing.
 pub fn fit(w: Width, t: usize, least: usize, xs: &[u32], ys: &[u32]) -> Fitted
     requires { ⌜ Points (primeOf w) (now xs) ⌝ }
     ensures { λ r. ⌜ r ≡ fitIn (primeOf w) t least (now (xs .entry)) (now (ys .entry)) ⌝ }

@@ -47,12 +47,8 @@ fn remainder(w: Width, f: &[u32], x: u32) -> u32
     requires { ⌜ Short (primeOf w) (now f) × (x < primeOf w) ⌝ }
     ensures { λ r. ⌜ (r ≡ value (primeOf w) (now (f .entry)) x) × (r < primeOf w) ⌝ }
 {
-    if f.len() <= 4 {
-        let few = polynomial::divided_at_once(w, f, x);
-        return few.value;
-    }
-    let many = polynomial::divided(w, f, x);
-    many.value
+    let scheme = polynomial::divided(w, f, x);
+    scheme.value
 }
 
 // Q(x) − y E(x).

@@ -9,7 +9,7 @@ use native.Mathlib.Nat.{mod-eq-of-lt}
 use native.Mathlib.Omega.{arith}
 use lib.ListN.{length}
 use Rattle.field.specs.Arithmetic.{add, sub, mul}
-use Rattle.field.proofs.Ring.{add-comm, add-zero, mul-zero, mul-comm, add-mod, add-sub, add-cancel, add-residue, sub-lt}
+use Rattle.field.proofs.Ring.{add-comm, add-zero, mul-zero, mul-comm, add-mod, add-sub, sub-lt, sub-add}
 use Rattle.polynomial.specs.Polynomial.{Residues, value, quotient, raise}
 use Rattle.polynomial.proofs.Division.{horner-step}
 
@@ -55,19 +55,12 @@ module _ (p : ℕ) where
       ∙ mod-eq-of-lt hy)
 
   -- ---- division by X − a, coefficient by coefficient
-  -- What is added and taken away again.
-  pub taken-back : (c w : ℕ) → 0 < p → c < p → sub p (add p c w) w ≡ c
-  taken-back c w positive hc =
-      sym (mod-eq-of-lt (sub-lt p (add p c w) w positive))
-      ∙ add-cancel p w (sub p (add p c w) w) positive c (add-sub p (add p c w) w positive ∙ add-residue p c w ∙ add-comm p c w)
-      ∙ mod-eq-of-lt hc
-
   -- (X − a) quotient + value is f.
   pub divided-again : (c : ℕ) (f : List ℕ) (a : ℕ) → 0 < p → Residues p (c ∷ f)
       → raise p a (value p (c ∷ f) a ∷ quotient p (c ∷ f) a) ≡ c ∷ f
   divided-again c [] a positive r = ap (λ z. z ∷ []) (ap (add p c) (mul-zero p a) ∙ add-zero p c ∙ mod-eq-of-lt (r .0))
   divided-again c (d ∷ f) a positive r =
-      ap₂ _∷_ (taken-back c (mul p a (value p (d ∷ f) a)) positive (r .0)) (divided-again d f a positive (r .1))
+      ap₂ _∷_ (sub-add p c (mul p a (value p (d ∷ f) a)) positive (r .0)) (divided-again d f a positive (r .1))
 
   -- And no other quotient with any other remainder gives it.
   pub raise-divided : (a y : ℕ) (q : List ℕ) → 0 < p → a < p → Residues p (y ∷ q)

@@ -8,7 +8,7 @@ use lib.ListN.{length}
 use Rattle.field.specs.Arithmetic.{add, mul}
 use Rattle.lists.proofs.All.{all-getD}
 use Rattle.polynomial.specs.Polynomial.{Residues}
-use Rattle.bivariate.proofs.Loops.{set-residue}
+use Rattle.polynomial.proofs.Below.{set-residues}
 use Rattle.bivariate.proofs.plus_times.Statement.{statement}
 use Rattle.bivariate.proofs.plus_times.Tie as tie
 
@@ -59,7 +59,7 @@ loop-again : tie.Need-loop-again Inv-loop μ-loop
 loop-again c =
     let k = c .before .before .before .before .loop in
     let e = c .mul-add .ensures in
-    (zip-next _ _ _ (k .out) (k .i) _ 0 0 (k .inv .0) (omega arith) (e .0), set-residue _ (k .out) (k .i) _ (e .1) (k .inv .1))
+    (zip-next _ _ _ (k .out) (k .i) _ 0 0 (k .inv .0) (omega arith) (e .0), set-residues _ (k .out) (k .i) _ (e .1) (k .inv .1))
 
 same-length : tie.Need-same-length Inv-loop μ-loop
 same-length c = search needs

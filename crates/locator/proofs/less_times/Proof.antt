@@ -8,7 +8,7 @@ use Rattle.lists.proofs.InPlace.{Zipping, zip-start, zip-next, zip-end}
 use Rattle.field.specs.Arithmetic.{sub, mul}
 use Rattle.field.specs.Modulus.{primeOf}
 use Rattle.polynomial.specs.Polynomial.{Residues}
-use Rattle.locator.proofs.Loops.{set-residues}
+use Rattle.polynomial.proofs.Below.{set-residues}
 use Rattle.locator.proofs.less_times.Statement.{statement}
 use Rattle.locator.proofs.less_times.Tie as tie
 

@@ -2,21 +2,14 @@
 use borrow.Author.Needs.{needs}
 use mathlib.Core.Path.{ap}
 use Rattle.polynomial.specs.declared.Scheme.{Scheme}
-use borrow.Author.Needs.{needs}
 use Rattle.locator.proofs.solutions.remainder.Statement.{statement}
 use Rattle.locator.proofs.solutions.remainder.Tie as tie
-
-divided-at-once-requires : tie.Need-divided-at-once-requires
-divided-at-once-requires c κs = search needs
-
-returns : tie.Need-returns
-returns c = let e = c .divided-at-once .ensures in (ap (λ (v : Scheme). v .value) (e .0), e .1)
 
 divided-requires : tie.Need-divided-requires
 divided-requires c κs = search needs
 
-returns-2 : tie.Need-returns-2
-returns-2 c = let e = c .divided .ensures in (ap (λ (v : Scheme). v .value) (e .0), e .1)
+returns : tie.Need-returns
+returns c = let e = c .divided .ensures in (ap (λ (v : Scheme). v .value) (e .0), e .1)
 
 pub remainder-spec : {M : Type 1} → statement M
-remainder-spec = tie.close (tie.spec divided-at-once-requires returns divided-requires returns-2)
+remainder-spec = tie.close (tie.spec divided-requires returns)
