@@ -55,7 +55,7 @@ roots-requires c κs =
     let k = s .args .k in (
       all-take (λ c. c < p) k (s .args .xs .now) (r .1 .0),
       length-take-le (k + 1) (replicate {A = ℕ} 12 0) (omega (arith, r .0, r .5, r .6))
-      ∙ omega (arith, length-take-le k (s .args .xs .now) (r .5)),
+          ∙ omega (arith, length-take-le k (s .args .xs .now) (r .5)),
     )
 
 loop-holds : tie.Need-loop-holds Inv-loop μ-loop
@@ -65,7 +65,7 @@ loop-holds c =
     let a = s .args in (
       r .5,
       solving-start _ (prime-of (a .w)) _ (r .0) _ _ (r .1) (r .2) (r .3) (omega (arith, r .4, r .5)) (a .t4) (s .pre .1 .0) _ (r .4) (r .5)
-      (s .pre .1 .1) _ (r .6) (c .before .roots .ensures),
+          (s .pre .1 .1) _ (r .6) (c .before .roots .ensures),
     )
 
 slice-aggregate-step : tie.Need-slice-aggregate-step Inv-loop μ-loop
