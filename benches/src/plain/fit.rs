@@ -74,7 +74,7 @@ pub fn value<N: Number>(f: &[N], x: N) -> N {
 /// Whether y is the value at x of four coefficients. The value less y fits 64 bits, and whether P divides it is asked by a
 /// product.
 #[inline(always)]
-fn meets<N: Number>(f: &[N; 4], x: N, y: N) -> bool {
+pub fn meets<N: Number>(f: &[N; 4], x: N, y: N) -> bool {
     y.is_sent() && (N::cubic(*f, x.into()) + u64::from(N::P - y.into())) % u64::from(N::P) == 0
 }
 

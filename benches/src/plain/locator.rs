@@ -4,7 +4,7 @@
 
 use super::differences_now;
 use super::field::Number;
-use super::fit::{cubic, enough, interpolate, needed, Taken};
+use super::fit::{cubic, enough, interpolate, meets, needed, Taken};
 
 pub const NAME: &str = "an error locator";
 
@@ -46,14 +46,19 @@ impl<N: Number> Sent<N> {
     }
 
     /// The polynomial that fits the first points but for so many wrong ones: t + 1 points, and two for each of these.
-    /// With each point the solution of lower degree goes up, unless it holds there: then the other one does.
+    /// The one through t + 1 of them may go through more: as far as it does, nothing is solved. Then with each point the
+    /// solution of lower degree goes up, unless it holds there: then the other one does.
     #[inline(always)]
     fn located(&self, t: usize, wrong: usize) -> Option<[N; 4]> {
         let (mut first, mut second) = (Solution::none(), Solution::none());
-        let taken = self.taken(t + 1);
-        second.start(&through(&taken)[..=t]);
-        first.start_at(&taken.xs[..=t]);
-        for k in t + 1..(t + 1 + 2 * wrong).min(16) {
+        let f = through(&self.taken(t + 1));
+        let end = (t + 1 + 2 * wrong).min(16);
+        let start = self.agreeing(&f, t + 1, end);
+        second.start(&f[..=t]);
+        if start < end {
+            first.start_at(&self.xs[..start]);
+        }
+        for k in start..end {
             let (x, y) = (self.xs[k], self.ys[k]);
             if first.q_count <= second.q_count {
                 step(&mut first, &mut second, x, y);
@@ -65,6 +70,12 @@ impl<N: Number> Sent<N> {
             return None;
         }
         second.quotient(t)
+    }
+
+    /// How many of the points before the end f goes through, the first k among them.
+    #[inline(always)]
+    fn agreeing(&self, f: &[N; 4], k: usize, end: usize) -> usize {
+        (k..end).find(|&i| !meets(f, self.xs[i], self.ys[i])).unwrap_or(end)
     }
 
     #[inline(always)]
@@ -128,13 +139,13 @@ impl<N: Number> Solution<N> {
 
     /// The product of X - x over these points, and 0.
     #[inline(always)]
-    fn start_at(&mut self, xs: &[u32]) {
-        self.q[0] = N::lent(N::sub(0, xs[0]));
+    fn start_at(&mut self, xs: &[N]) {
+        self.q[0] = N::lent(N::sub(0, xs[0].into()));
         self.q[1] = N::from(1);
         self.q_count = 2;
         for &x in &xs[1..] {
             self.q_count += 1;
-            raise(&mut self.q[..self.q_count], N::P - x);
+            raise(&mut self.q[..self.q_count], N::P - x.into());
         }
     }
 

@@ -2,6 +2,7 @@
 // answer 0, or the protocol's number of the refusal, and write where they answer 0 alone. Each has a form for numbers of 16 bits and one
 // for numbers of 32, `_wide`; lists of the former are copied into arrays once their lengths are known.
 mod columns;
+mod locating;
 mod openings;
 
 ghost use mathlib.Core.Path.{_≡_};
@@ -18,11 +19,12 @@ use columns::repair_sizes;
 use columns::repaired;
 use dealer::Dealing;
 use field::Width;
-use openings::open_plain;
-use openings::open_wide_plain;
-use openings::open_wide_with;
-use openings::open_with;
-use recovery::Decoder;
+use locating::located_by;
+use locating::located_wide_by;
+use openings::open_admission;
+use openings::open_lengths;
+use openings::opened_by;
+use openings::opened_wide_by;
 
 // The protocol's number of the desk's answer, 0 where the deals are written.
 fn dealing_number(answer: Dealing) -> u8
@@ -140,7 +142,9 @@ pub extern "C" fn doumbaht_open_with(
 ) -> u8
     ensures { λ r. ⌜ (now (opened .exit), r) ≡ openingAt modulus n t (now (table .entry)) (now (shares .entry)) (now (opened .entry)) ⌝ }
 {
-    open_with(Decoder::Trial, n, t, table, shares, opened)
+    let points = tables::in_array(n, table);
+    let admitted = open_admission(Width::Narrow, n, t, points, shares.len(), table.len());
+    opened_by(admitted, n, t, points, shares, opened)
 }
 
 // The same at the points 1 to n.
@@ -148,7 +152,8 @@ pub extern "C" fn doumbaht_open_with(
 pub extern "C" fn doumbaht_open(n: u8, t: u8, shares: &[u16], opened: &mut u16) -> u8
     ensures { λ r. ⌜ (now (opened .exit), r) ≡ opening modulus n t (now (shares .entry)) (now (opened .entry)) ⌝ }
 {
-    open_plain(Decoder::Trial, n, t, shares, opened)
+    let admitted = open_lengths(n, t, shares.len(), n as usize);
+    opened_by(admitted, n, t, tables::sixteen(), shares, opened)
 }
 
 // With a table, of numbers of 32 bits.
@@ -163,7 +168,9 @@ pub extern "C" fn doumbaht_open_wide_with(
     ensures { λ r. ⌜ (now (opened .exit), r)
         ≡ openingAt wideModulus n t (now (table .entry)) (now (shares .entry)) (now (opened .entry)) ⌝ }
 {
-    open_wide_with(Decoder::Trial, n, t, table, shares, opened)
+    let points = tables::in_array_wide(n, table);
+    let admitted = open_admission(Width::Wide, n, t, points, shares.len(), table.len());
+    opened_wide_by(admitted, n, t, points, shares, opened)
 }
 
 // The same at the points 1 to n.
@@ -171,7 +178,8 @@ pub extern "C" fn doumbaht_open_wide_with(
 pub extern "C" fn doumbaht_open_wide(n: u8, t: u8, shares: &[u32], opened: &mut u32) -> u8
     ensures { λ r. ⌜ (now (opened .exit), r) ≡ opening wideModulus n t (now (shares .entry)) (now (opened .entry)) ⌝ }
 {
-    open_wide_plain(Decoder::Trial, n, t, shares, opened)
+    let admitted = open_lengths(n, t, shares.len(), n as usize);
+    opened_wide_by(admitted, n, t, tables::sixteen(), shares, opened)
 }
 
 // The same four by an error locator: the answers are the same. With a table.
@@ -185,7 +193,9 @@ pub extern "C" fn doumbaht_open_by_locator_with(
 ) -> u8
     ensures { λ r. ⌜ (now (opened .exit), r) ≡ openingAt modulus n t (now (table .entry)) (now (shares .entry)) (now (opened .entry)) ⌝ }
 {
-    open_with(Decoder::Locator, n, t, table, shares, opened)
+    let points = tables::in_array(n, table);
+    let admitted = open_admission(Width::Narrow, n, t, points, shares.len(), table.len());
+    located_by(admitted, n, t, points, shares, opened)
 }
 
 // The same at the points 1 to n.
@@ -193,7 +203,8 @@ pub extern "C" fn doumbaht_open_by_locator_with(
 pub extern "C" fn doumbaht_open_by_locator(n: u8, t: u8, shares: &[u16], opened: &mut u16) -> u8
     ensures { λ r. ⌜ (now (opened .exit), r) ≡ opening modulus n t (now (shares .entry)) (now (opened .entry)) ⌝ }
 {
-    open_plain(Decoder::Locator, n, t, shares, opened)
+    let admitted = open_lengths(n, t, shares.len(), n as usize);
+    located_by(admitted, n, t, tables::sixteen(), shares, opened)
 }
 
 // With a table, of numbers of 32 bits.
@@ -208,7 +219,9 @@ pub extern "C" fn doumbaht_open_by_locator_wide_with(
     ensures { λ r. ⌜ (now (opened .exit), r)
         ≡ openingAt wideModulus n t (now (table .entry)) (now (shares .entry)) (now (opened .entry)) ⌝ }
 {
-    open_wide_with(Decoder::Locator, n, t, table, shares, opened)
+    let points = tables::in_array_wide(n, table);
+    let admitted = open_admission(Width::Wide, n, t, points, shares.len(), table.len());
+    located_wide_by(admitted, n, t, points, shares, opened)
 }
 
 // The same at the points 1 to n.
@@ -221,7 +234,8 @@ pub extern "C" fn doumbaht_open_by_locator_wide(
 ) -> u8
     ensures { λ r. ⌜ (now (opened .exit), r) ≡ opening wideModulus n t (now (shares .entry)) (now (opened .entry)) ⌝ }
 {
-    open_wide_plain(Decoder::Locator, n, t, shares, opened)
+    let admitted = open_lengths(n, t, shares.len(), n as usize);
+    located_wide_by(admitted, n, t, tables::sixteen(), shares, opened)
 }
 
 // Writes the text of a record over the front of the lent buffer, and answers its length. No text is empty: 0 says that the

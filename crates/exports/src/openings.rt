@@ -2,26 +2,24 @@
 ghost use mathlib.Core.Path.{_≡_};
 ghost use mathlib.Core.List.{[], _∷_, _++_};
 ghost use Prim.Native.Nat.{_<_};
-ghost use lib.ListN.{take, getD};
+ghost use lib.ListN.{take};
 ghost use Rattle.field.specs.Modulus.{modulus, wideModulus, primeOf};
 ghost use Rattle.answers.specs.declared.Admission.the-variants.{Pass};
 ghost use Rattle.answers.specs.declared.Refusal.the-variants.{WrongTable};
 ghost use Rattle.answers.specs.Refusals.{lowest};
 ghost use Rattle.tables.specs.Tables.{isTable};
 ghost use Rattle.fit.specs.Opening.{openingOf};
-ghost use Rattle.exports.specs.Exports.{openingLengths, openedIf, openingAt, opening};
+ghost use Rattle.exports.specs.Exports.{openingLengths, openedIf};
 ghost use Rattle.exports.specs.Pieces.{openedBy, Openings};
 use answers::Admission;
 use answers::Decoding;
-use answers::Fitted;
 use answers::Refusal;
 use answers::also;
 use answers::refusal_number;
 use field::Width;
-use recovery::Decoder;
 
 // What an opening is refused for, with so many shares and, in a table, so many points.
-fn open_lengths(n: u8, t: u8, shares: usize, points: usize) -> Admission
+pub(crate) fn open_lengths(n: u8, t: u8, shares: usize, points: usize) -> Admission
     ensures { λ r. ⌜ r ≡ lowest (openingLengths n t shares points) ⌝ }
 {
     let size = also(Admission::Pass, parties::sizes(n, t), Refusal::WrongSize);
@@ -30,7 +28,7 @@ fn open_lengths(n: u8, t: u8, shares: usize, points: usize) -> Admission
 }
 
 // The same with a table, the first n numbers of the array, which is looked at behind these.
-fn open_admission(
+pub(crate) fn open_admission(
     w: Width,
     n: u8,
     t: u8,
@@ -52,7 +50,7 @@ fn open_admission(
 }
 
 // Writes the constant where it is found.
-fn put_wide_opened(outcome: Decoding, constant: u32, opened: &mut u32) -> u8
+pub(crate) fn put_wide_opened(outcome: Decoding, constant: u32, opened: &mut u32) -> u8
     ensures { λ r. ⌜ (now (opened .exit), r) ≡ openedBy outcome constant (now (opened .entry)) ⌝ }
 {
     match outcome {
@@ -66,7 +64,7 @@ fn put_wide_opened(outcome: Decoding, constant: u32, opened: &mut u32) -> u8
 }
 
 // The same as a number of 16 bits.
-fn put_opened(outcome: Decoding, constant: u32, opened: &mut u16) -> u8
+pub(crate) fn put_opened(outcome: Decoding, constant: u32, opened: &mut u16) -> u8
     requires { ⌜ constant < 65536 ⌝ }
     ensures { λ r. ⌜ (now (opened .exit), r) ≡ openedBy outcome constant (now (opened .entry)) ⌝ }
 {
@@ -80,72 +78,8 @@ fn put_opened(outcome: Decoding, constant: u32, opened: &mut u16) -> u8
     }
 }
 
-// Writes the constant of what fits, where something does.
-fn put_fitted(fitted: Fitted, opened: &mut u16) -> u8
-    requires { ⌜ getD (fitted .coefficients) 0 0 < 65536 ⌝ }
-    ensures { λ r. ⌜ (now (opened .exit), r) ≡ openedBy (fitted .outcome) (getD (fitted .coefficients) 0 0) (now (opened .entry)) ⌝ }
-{
-    let outcome = fitted.outcome;
-    let coefficients = fitted.coefficients;
-    put_opened(outcome, coefficients[0], opened)
-}
-
-// The same as a number of 32 bits.
-fn put_wide_fitted(fitted: Fitted, opened: &mut u32) -> u8
-    ensures { λ r. ⌜ (now (opened .exit), r) ≡ openedBy (fitted .outcome) (getD (fitted .coefficients) 0 0) (now (opened .entry)) ⌝ }
-{
-    let outcome = fitted.outcome;
-    let coefficients = fitted.coefficients;
-    put_wide_opened(outcome, coefficients[0], opened)
-}
-
-// The opening of numbers of 16 bits in a list of 32, where all is right. Each decoder is called by itself: with one function for both, the
-// quicker one would be called through the larger one.
-fn opened_list(by: Decoder, n: u8, t: u8, table: [u32; 16], shares: &[u32], opened: &mut u16) -> u8
-    requires { ⌜ Openings modulus n t (take n table) (now shares) ⌝ }
-    ensures { λ r. ⌜ (now (opened .exit), r) ≡ openedIf Pass (now (opened .entry))
-        (openingOf modulus t (take n table) (now (shares .entry))) ⌝ }
-{
-    match by {
-        Decoder::Trial => put_fitted(
-            recovery::published(Width::Narrow, n, t, table, shares),
-            opened,
-        ),
-        Decoder::Locator => put_fitted(
-            recovery::located(Width::Narrow, n, t, table, shares),
-            opened,
-        ),
-    }
-}
-
-// The same of numbers of 32 bits.
-fn opened_wide_list(
-    by: Decoder,
-    n: u8,
-    t: u8,
-    table: [u32; 16],
-    shares: &[u32],
-    opened: &mut u32,
-) -> u8
-    requires { ⌜ Openings wideModulus n t (take n table) (now shares) ⌝ }
-    ensures { λ r. ⌜ (now (opened .exit), r) ≡ openedIf Pass (now (opened .entry))
-        (openingOf wideModulus t (take n table) (now (shares .entry))) ⌝ }
-{
-    match by {
-        Decoder::Trial => put_wide_fitted(
-            recovery::published(Width::Wide, n, t, table, shares),
-            opened,
-        ),
-        Decoder::Locator => put_wide_fitted(
-            recovery::located(Width::Wide, n, t, table, shares),
-            opened,
-        ),
-    }
-}
-
-// The opening by what is found of its arguments: refused, or what fits the shares by themselves, found by either decoder.
-fn opened_by(
-    by: Decoder,
+// The opening by what is found of its arguments: refused, or what fits the shares by themselves.
+pub(crate) fn opened_by(
     admitted: Admission,
     n: u8,
     t: u8,
@@ -163,14 +97,16 @@ fn opened_by(
             let count = n as usize;
             let mut list = [0u32; 16];
             arrays::widened(shares, &mut list[..count]);
-            opened_list(by, n, t, table, &list[..count], opened)
+            let fitted = recovery::published(Width::Narrow, n, t, table, &list[..count]);
+            let outcome = fitted.outcome;
+            let coefficients = fitted.coefficients;
+            put_opened(outcome, coefficients[0], opened)
         }
     }
 }
 
 // The same of numbers of 32 bits.
-fn opened_wide_by(
-    by: Decoder,
+pub(crate) fn opened_wide_by(
     admitted: Admission,
     n: u8,
     t: u8,
@@ -184,55 +120,11 @@ fn opened_wide_by(
 {
     match admitted {
         Admission::Fail(why) => refusal_number(why),
-        Admission::Pass => opened_wide_list(by, n, t, table, shares, opened),
+        Admission::Pass => {
+            let fitted = recovery::published(Width::Wide, n, t, table, shares);
+            let outcome = fitted.outcome;
+            let coefficients = fitted.coefficients;
+            put_wide_opened(outcome, coefficients[0], opened)
+        }
     }
-}
-
-// The opening of shares at the points of a table, by either decoder.
-pub(crate) fn open_with(
-    by: Decoder,
-    n: u8,
-    t: u8,
-    table: &[u16],
-    shares: &[u16],
-    opened: &mut u16,
-) -> u8
-    ensures { λ r. ⌜ (now (opened .exit), r) ≡ openingAt modulus n t (now (table .entry)) (now (shares .entry)) (now (opened .entry)) ⌝ }
-{
-    let points = tables::in_array(n, table);
-    let admitted = open_admission(Width::Narrow, n, t, points, shares.len(), table.len());
-    opened_by(by, admitted, n, t, points, shares, opened)
-}
-
-// The same at the points 1 to n.
-pub(crate) fn open_plain(by: Decoder, n: u8, t: u8, shares: &[u16], opened: &mut u16) -> u8
-    ensures { λ r. ⌜ (now (opened .exit), r) ≡ opening modulus n t (now (shares .entry)) (now (opened .entry)) ⌝ }
-{
-    let admitted = open_lengths(n, t, shares.len(), n as usize);
-    opened_by(by, admitted, n, t, tables::sixteen(), shares, opened)
-}
-
-// With a table, of numbers of 32 bits.
-pub(crate) fn open_wide_with(
-    by: Decoder,
-    n: u8,
-    t: u8,
-    table: &[u32],
-    shares: &[u32],
-    opened: &mut u32,
-) -> u8
-    ensures { λ r. ⌜ (now (opened .exit), r)
-        ≡ openingAt wideModulus n t (now (table .entry)) (now (shares .entry)) (now (opened .entry)) ⌝ }
-{
-    let points = tables::in_array_wide(n, table);
-    let admitted = open_admission(Width::Wide, n, t, points, shares.len(), table.len());
-    opened_wide_by(by, admitted, n, t, points, shares, opened)
-}
-
-// The same at the points 1 to n.
-pub(crate) fn open_wide_plain(by: Decoder, n: u8, t: u8, shares: &[u32], opened: &mut u32) -> u8
-    ensures { λ r. ⌜ (now (opened .exit), r) ≡ opening wideModulus n t (now (shares .entry)) (now (opened .entry)) ⌝ }
-{
-    let admitted = open_lengths(n, t, shares.len(), n as usize);
-    opened_wide_by(by, admitted, n, t, tables::sixteen(), shares, opened)
 }

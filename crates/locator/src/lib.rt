@@ -188,7 +188,7 @@ fn admitted(w: Width, t: usize, least: usize, xs: &[u32], ys: &[u32]) -> Fitted
     by_locator(w, t, need, s - need, xs, ys)
 }
 
-// What `fit::fit` answers, by an error locator: for either prime, any distinct points, and whatever is missing.
+// What decoding by trial answers, by an error locator: for either prime, any distinct points, and whatever is missing.
 pub fn fit(w: Width, t: usize, least: usize, xs: &[u32], ys: &[u32]) -> Fitted
     requires { ⌜ Points (primeOf w) (now xs) ⌝ }
     ensures { λ r. ⌜ r ≡ fitIn (primeOf w) t least (now (xs .entry)) (now (ys .entry)) ⌝ }

@@ -45,6 +45,7 @@ repairIn p n t T S heard =
 abbrev pub publishedTests : ℕ → ℕ → ℕ → List Test
 publishedTests n t m = (sizes n t, WrongSize) ∷ (eqb m n, WrongLength) ∷ []
 
+-- A published list by itself, behind these tests.
 unfoldable pub publishedIn : ℕ → ℕ → ℕ → List ℕ → List ℕ → Fitted
 publishedIn p n t T xs =
     decodedIf (lowest (publishedTests n t (length xs))) (openingOf p t T xs)

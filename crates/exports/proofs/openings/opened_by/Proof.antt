@@ -1,16 +1,19 @@
 -- `exports::openings::opened_by` meets its contract: refused, or what fits the list in front of an array.
-use mathlib.Core.Path.{_≡_, sym, ap, ap₂, subst, _∙_}
-use mathlib.Core.List.{_++_}
+use mathlib.Core.Path.{_≡_, sym, ap, _∙_}
 use Prim.Native.Nat.{ℕ, _≤_}
 use native.Mathlib.Omega.{arith}
 use lib.ListN.{take, drop, replicate}
 use lib.Seq.{length-take-le}
 use Rattle.field.specs.Modulus.{modulus}
+use Rattle.field.specs.declared.Width.the-variants.{Narrow}
+use Rattle.field.proofs.Primes.{prime-of}
 use Rattle.parties.proofs.Parties.{sizes-facts}
 use Rattle.fit.specs.Opening.{openingOf}
+use Rattle.recovery.specs.Recovery.{publishedIn}
 use Rattle.exports.specs.Exports.{openedIf}
 use Rattle.exports.specs.Pieces.{Openings}
 use Rattle.exports.proofs.Fronts.{front-list, front-within, front-size}
+use Rattle.exports.proofs.Opened.{opened-by, opened-narrow}
 use borrow.Author.Needs.{needs}
 use Rattle.exports.proofs.openings.opened_by.Statement.{statement}
 use Rattle.exports.proofs.openings.opened_by.Tie as tie
@@ -23,13 +26,16 @@ right o = o .before .before .before .pre (o .enum-told .given .1)
 few : (o : tie.After-enum-told) → o .before .before .before .args .n ≤ 16
 few o = let a = o .before .before .before .args in sizes-facts (a .n) (a .t) (right o .size) .3
 
--- The array has the list in front.
-front : (o : tie.After-widened) → let a = o .before .before .before .before .before .args in
-    take (a .n) (o .widened .last .1 .0 ++ drop (a .n) (replicate 16 0)) ≡ a .shares .now
-front o =
-    let told = o .before .before in
+-- The array has the list in front, so what fits is what fits the list.
+same : (o : tie.After-published) → let a = o .before .before .before .before .before .before .before .before .args in
+    o .published .result ≡ publishedIn modulus (a .n) (a .t) (take (a .n) (a .table)) (a .shares .now)
+same o =
+    let list = o .before .before .before in
+    let told = list .before .before in
     let a = told .before .before .before .args in
-    front-list (a .shares .now) _ (drop (a .n) (replicate 16 0)) (a .n) (right told .lengths) (o .widened .ensures)
+    o .published .ensures
+    ∙ ap (publishedIn modulus (a .n) (a .t) (take (a .n) (a .table)))
+    (front-list (a .shares .now) _ (drop (a .n) (replicate 16 0)) (a .n) (right told .lengths) (list .widened .ensures))
 
 enum-known-admitted : tie.Need-enum-known-admitted
 enum-known-admitted c = search needs
@@ -52,16 +58,18 @@ widened-requires c κs = let f = few (c .before) in right (c .before) .lengths �
 array-share-prefix-list : tie.Need-array-share-prefix-list
 array-share-prefix-list c = front-within _ _ _ _ (right (c .before .before .before) .lengths) (c .before .widened .ensures)
 
-slice-aggregate-opened-list : tie.Need-slice-aggregate-opened-list
-slice-aggregate-opened-list c =
+slice-aggregate-published : tie.Need-slice-aggregate-published
+slice-aggregate-published c =
     let list = c .before .before in sym (front-size _ _ _ _ (right (list .before .before) .lengths) (list .widened .ensures))
 
-opened-list-requires : tie.Need-opened-list-requires
-opened-list-requires c κs =
-    let list = c .before .before .before in
-    let told = list .before .before in
-    let a = told .before .before .before .args in
-    subst (Openings modulus (a .n) (a .t) (take (a .n) (a .table))) (sym (front list)) (right told)
+published-requires : tie.Need-published-requires
+published-requires c κs = right (c .before .before .before .before) .table
+
+array-read-put-opened : tie.Need-array-read-put-opened
+array-read-put-opened c = search needs
+
+put-opened-requires : tie.Need-put-opened-requires
+put-opened-requires c κs = opened-narrow modulus _ _ _ _ _ (same (c .before .before)) (prime-of Narrow) (omega arith)
 
 returns : tie.Need-returns
 returns c =
@@ -72,12 +80,9 @@ returns c =
 
 returns-2 : tie.Need-returns-2
 returns-2 c =
-    let list = c .before .before .before .before in
-    let told = list .before .before in
-    let a = told .before .before .before .args in
-    c .opened-list .ensures
-    ∙ ap₂ (λ b l. openedIf b (a .opened .now) (openingOf modulus (a .t) (take (a .n) (a .table)) l))
-    (sym (told .enum-told .given .1)) (front list)
+    let fitted = c .before .before .before in
+    let told = fitted .before .before .before .before .before in
+    opened-by modulus _ _ _ _ _ (same fitted) _ _ _ (right told) (told .enum-told .given .1) (c .put-opened .ensures)
 
 pub opened-by-spec : {M : Type 1} → statement M
 opened-by-spec =
@@ -90,7 +95,9 @@ opened-by-spec =
     slice-aggregate-widened
     widened-requires
     array-share-prefix-list
-    slice-aggregate-opened-list
-    opened-list-requires
+    slice-aggregate-published
+    published-requires
+    array-read-put-opened
+    put-opened-requires
     returns
     returns-2)

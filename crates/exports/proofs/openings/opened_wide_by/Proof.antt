@@ -6,6 +6,7 @@ use Rattle.field.specs.Modulus.{wideModulus}
 use Rattle.fit.specs.Opening.{openingOf}
 use Rattle.exports.specs.Exports.{openedIf}
 use Rattle.exports.specs.Pieces.{Openings}
+use Rattle.exports.proofs.Opened.{opened-by}
 use borrow.Author.Needs.{needs}
 use Rattle.exports.proofs.openings.opened_wide_by.Statement.{statement}
 use Rattle.exports.proofs.openings.opened_wide_by.Tie as tie
@@ -24,8 +25,14 @@ refusal-number-requires c κs = search needs
 enum-told : tie.Need-enum-told
 enum-told c = search needs
 
-opened-wide-list-requires : tie.Need-opened-wide-list-requires
-opened-wide-list-requires c κs = right (c .before)
+published-requires : tie.Need-published-requires
+published-requires c κs = right c .table
+
+array-read-put-wide-opened : tie.Need-array-read-put-wide-opened
+array-read-put-wide-opened c = search needs
+
+put-wide-opened-requires : tie.Need-put-wide-opened-requires
+put-wide-opened-requires c κs = search needs
 
 returns : tie.Need-returns
 returns c =
@@ -36,10 +43,10 @@ returns c =
 
 returns-2 : tie.Need-returns-2
 returns-2 c =
-    let a = c .before .before .before .before .before .args in
-    c .opened-wide-list .ensures
-    ∙ ap (λ b. openedIf b (a .opened .now) (openingOf wideModulus (a .t) (take (a .n) (a .table)) (a .shares .now)))
-    (sym (c .before .before .enum-told .given .1))
+    let fitted = c .before .before .before in
+    let told = fitted .before in
+    opened-by wideModulus _ _ _ _ _ (fitted .published .ensures) _ _ _ (right told) (told .enum-told .given .1)
+    (c .put-wide-opened .ensures)
 
 pub opened-wide-by-spec : {M : Type 1} → statement M
 opened-wide-by-spec =
@@ -48,6 +55,8 @@ opened-wide-by-spec =
     enum-known-admitted
     refusal-number-requires
     enum-told
-    opened-wide-list-requires
+    published-requires
+    array-read-put-wide-opened
+    put-wide-opened-requires
     returns
     returns-2)

@@ -1,10 +1,10 @@
--- `exports::openings::open_with` meets its contract: opened with the table in an array.
+-- `exports::doumbaht_open_with` meets its contract: opened with the table in an array.
 use mathlib.Core.Path.{sym, _∙_}
 use Rattle.field.specs.Modulus.{modulus}
 use Rattle.exports.proofs.Opened.{with-passed, opening-with}
 use borrow.Author.Needs.{needs}
-use Rattle.exports.proofs.openings.open_with.Statement.{statement}
-use Rattle.exports.proofs.openings.open_with.Tie as tie
+use Rattle.exports.proofs.doumbaht_open_with.Statement.{statement}
+use Rattle.exports.proofs.doumbaht_open_with.Tie as tie
 
 in-array-requires : tie.Need-in-array-requires
 in-array-requires c κs = search needs
@@ -20,6 +20,6 @@ returns c =
     let o = c .before .before in
     opening-with modulus _ _ _ _ _ _ _ _ (o .before .in-array .ensures) (o .open-admission .ensures) (c .opened-by .ensures)
 
-pub open-with-spec : {M : Type 1} → statement M
-open-with-spec =
+pub doumbaht-open-with-spec : {M : Type 1} → statement M
+doumbaht-open-with-spec =
     tie.close (tie.spec in-array-requires open-admission-requires opened-by-requires returns)

@@ -1,11 +1,11 @@
--- `exports::openings::open_plain` meets its contract: opened at the points 1 to n.
+-- `exports::doumbaht_open` meets its contract: opened at the points 1 to n.
 use mathlib.Core.Path.{sym, _∙_}
 use native.Mathlib.Omega.{arith}
 use Rattle.field.specs.Modulus.{modulus}
 use Rattle.exports.proofs.Opened.{plain-passed, opening-plain}
 use borrow.Author.Needs.{needs}
-use Rattle.exports.proofs.openings.open_plain.Statement.{statement}
-use Rattle.exports.proofs.openings.open_plain.Tie as tie
+use Rattle.exports.proofs.doumbaht_open.Statement.{statement}
+use Rattle.exports.proofs.doumbaht_open.Tie as tie
 
 open-lengths-requires : tie.Need-open-lengths-requires
 open-lengths-requires c κs = search needs
@@ -23,6 +23,6 @@ returns c =
     let o = c .before .before in
     opening-plain modulus _ _ _ (omega arith) _ _ _ _ (o .sixteen .ensures) (o .before .open-lengths .ensures) (c .opened-by .ensures)
 
-pub open-plain-spec : {M : Type 1} → statement M
-open-plain-spec =
+pub doumbaht-open-spec : {M : Type 1} → statement M
+doumbaht-open-spec =
     tie.close (tie.spec open-lengths-requires sixteen-requires opened-by-requires returns)

@@ -1,10 +1,10 @@
--- `exports::openings::open_wide_with` meets its contract: opened with the table in an array.
+-- `exports::doumbaht_open_wide_with` meets its contract: opened with the table in an array.
 use mathlib.Core.Path.{sym, _∙_}
 use Rattle.field.specs.Modulus.{wideModulus}
 use Rattle.exports.proofs.Opened.{with-passed, opening-with}
 use borrow.Author.Needs.{needs}
-use Rattle.exports.proofs.openings.open_wide_with.Statement.{statement}
-use Rattle.exports.proofs.openings.open_wide_with.Tie as tie
+use Rattle.exports.proofs.doumbaht_open_wide_with.Statement.{statement}
+use Rattle.exports.proofs.doumbaht_open_wide_with.Tie as tie
 
 in-array-wide-requires : tie.Need-in-array-wide-requires
 in-array-wide-requires c κs = search needs
@@ -20,7 +20,7 @@ returns c =
     let o = c .before .before in
     opening-with wideModulus _ _ _ _ _ _ _ _ (o .before .in-array-wide .ensures) (o .open-admission .ensures) (c .opened-wide-by .ensures)
 
-pub open-wide-with-spec : {M : Type 1} → statement M
-open-wide-with-spec =
+pub doumbaht-open-wide-with-spec : {M : Type 1} → statement M
+doumbaht-open-wide-with-spec =
     tie.close
     (tie.spec in-array-wide-requires open-admission-requires opened-wide-by-requires returns)
