@@ -1,90 +1,138 @@
--- Dividing in place, by a call for the rest and one coefficient more.
---   division-none, division-step   no coefficient, and one more than the rest gave
+-- Dividing in place, from the top coefficient down.
+--   Divided p i E n Q f q s, divided-..   the loop of `divide`: f has the coefficients of the quotient from place s on, and in q, from place s
+--                                         on, stands what remains of the numerator from there
 use mathlib.Core.Path.{_≡_, refl, sym, ap, ap₂, subst, _∙_}
 use mathlib.Core.List.{List, [], _∷_, _++_}
 use Prim.Native.Nat.{ℕ, suc, _+_, _-_, _≤_, _<_}
+use native.Mathlib.Decide.{ℕ-discrete}
 use native.Mathlib.Omega.{arith}
-use borrow.Rule.Slice.PartMut.{putMid}
-use lib.ListN.{length, getD, take, drop, replicate}
-use lib.Seq.{length-take-le, take-all, take-append-le}
+use borrow.Rule.Slice.PartMut.{putMid, same-len-mid, take-put}
+use lib.ListN.{length, getD, take, drop, set, replicate, length-append, length-drop, length-replicate, length-set}
+use lib.Seq.{ext-getD, getD-set-same, getD-set-other, getD-take, take-take, take-all, take-append-le, drop-at, length-take-le}
 use Rattle.lists.specs.Tabulate.{pad}
 use Rattle.lists.proofs.All.{all-append, all-take, all-drop}
-use Rattle.lists.proofs.InPlace.{length-zipWith, lent-rest, put-rest}
+use Rattle.lists.proofs.InPlace.{drop-back, length-zipWith}
+use Rattle.lists.proofs.Padded.{getD-zeros}
 use Rattle.polynomial.specs.Polynomial.{Residues}
 use Rattle.locator.specs.Quotient.{lessTimes, leading, division}
 use Rattle.locator.proofs.Products.{division-size}
 
--- Four places hold three coefficients and one in front of them.
-pad-front : (h : ℕ) (F rest : List ℕ) → length F ≤ 3 → rest ≡ pad 4 F
-    → h ∷ getD rest 0 0 ∷ getD rest 1 0 ∷ getD rest 2 0 ∷ [] ≡ pad 4 (h ∷ F)
-pad-front h [] rest l e = ap (λ r. h ∷ getD r 0 0 ∷ getD r 1 0 ∷ getD r 2 0 ∷ []) e
-pad-front h (a ∷ []) rest l e = ap (λ r. h ∷ getD r 0 0 ∷ getD r 1 0 ∷ getD r 2 0 ∷ []) e
-pad-front h (a ∷ b ∷ []) rest l e = ap (λ r. h ∷ getD r 0 0 ∷ getD r 1 0 ∷ getD r 2 0 ∷ []) e
-pad-front h (a ∷ b ∷ c ∷ []) rest l e = ap (λ r. h ∷ getD r 0 0 ∷ getD r 1 0 ∷ getD r 2 0 ∷ []) e
-pad-front h (a ∷ b ∷ c ∷ d ∷ F) rest l e = absurd (omega arith)
-
-module _ (p i : ℕ) (E : List ℕ) (nonempty : 0 < length E) where
+module _ (p i : ℕ) (E : List ℕ) (n : ℕ) (Q : List ℕ) where
   abbrev b : ℕ
   b = length E - 1
 
-  pub division-none : (n : ℕ) (q : List ℕ) → n ≡ 0 → length q + 1 ≡ n + length E → Residues p q
-      → (replicate 4 0 ≡ pad 4 (division p i E n q .0)) × (take b q ≡ division p i E n q .1) × Residues p q
-  division-none n q none l r =
-      let all : length q ≤ b = omega arith in (
-        rw none refl,
-        take-all b q all ∙ sym (ap (λ m. division p i E m q .1) none),
-        r,
-      )
+  -- From place s on the quotient is written, and what remains stands from there.
+  pub record Divided (f q : List ℕ) (s : ℕ) : Type 0 where
+    pub within : s ≤ n
+    pub room : length f ≡ 4
+    pub kept : length q ≡ length Q
+    pub residues : Residues p q
+    pub before : take s q ≡ take s Q
+    pub written : (j : ℕ) → s ≤ j → getD f j 0 ≡ getD (division p i E (n - s) (drop s Q) .0) (j - s) 0
+    pub remains : take b (drop s q) ≡ division p i E (n - s) (drop s Q) .1
 
-  module _ (n : ℕ) (q : List ℕ) (more : n ≡ 0 → ⊥) (few : n ≤ 4) (l : length q + 1 ≡ n + length E) (r : Residues p q) (part : List ℕ)
-      (second-size : length (putMid 1 (length q - 1) q part) ≡ length q)
-      (left : take b part ≡ division p i E (n - 1) (take (length q - 1) (drop 1 q)) .1) (fine : Residues p part) where
-    abbrev q1 : List ℕ
-    q1 = putMid 1 (length q - 1) q part
+  module _ (nonempty : 0 < length E) (sizes : length Q + 1 ≡ n + length E) (few : n ≤ 4) where
+    pub divided-start : Residues p Q → Divided (replicate 4 0) Q n
+    divided-start r =
+        let none : n - n ≡ 0 = omega arith in
+        record {
+          within = omega arith;
+          room = refl;
+          kept = refl;
+          residues = r;
+          before = refl;
+          written = λ j h. getD-zeros [] 4 j ∙ ap (λ m. getD (division p i E m (drop n Q) .0) (j - n) 0) (sym none);
+          remains = take-all b (drop n Q) (omega (arith, length-drop n Q)) ∙ ap (λ m. division p i E m (drop n Q) .1) (sym none);
+        }
 
-    longer : 0 < length q
-    longer = omega arith
+    -- One coefficient more, at the place before s.
+    module _ (f q : List ℕ) (s : ℕ) (d : Divided f q s) (more : 0 < s) where
+      abbrev lent : List ℕ
+      lent = take (s - 1 + length E - (s - 1)) (drop (s - 1) q)
 
-    whole : q1 ≡ take 1 q ++ part
-    whole = put-rest 1 q part
+      abbrev c : ℕ
+      c = getD Q (s - 1) 0
 
-    pub second-residues : Residues p q1
-    second-residues = subst (Residues p) (sym whole) (all-append (λ c. c < p) (take 1 q) part (all-take (λ c. c < p) 1 q r) fine)
+      inside : s - 1 + length E ≤ length q
+      inside = omega (arith, d .kept, d .within)
 
-    pub second-lent : (length E ≤ length q1) × Residues p (take (length E) q1)
-    second-lent = (omega (arith, second-size), all-take (λ c. c < p) (length E) q1 second-residues)
+      pub divided-lent : (length lent ≡ length E) × Residues p lent
+      divided-lent =
+          let k : ℕ = s - 1 + length E - (s - 1) in
+          let all : k ≡ length E = omega arith in (
+            length-take-le k (drop (s - 1) q) (omega (arith, length-drop (s - 1) q, inside)) ∙ all,
+            all-take (λ c. c < p) k (drop (s - 1) q) (all-drop (λ c. c < p) (s - 1) q (d .residues)),
+          )
 
-    -- The first number, and what remains of the rest.
-    lent-is : (c : ℕ) (Q : List ℕ) → q ≡ c ∷ Q → take (length E) q1 ≡ c ∷ division p i E (n - 1) Q .1
-    lent-is c Q e =
-        let one : length E ≡ suc b = omega arith in
-        let rest : take (length q - 1) (drop 1 q) ≡ Q = lent-rest 1 q ∙ ap (drop 1) e in
-        ap₂ take one (whole ∙ ap (λ z. take 1 z ++ part) e) ∙ ap (λ z. c ∷ z) (left ∙ ap (λ z. division p i E (n - 1) z .1) rest)
+      -- The number at that place, and what remains behind it.
+      lent-is : lent ≡ c ∷ division p i E (n - s) (drop s Q) .1
+      lent-is =
+          let k : s - 1 + length E - (s - 1) ≡ suc b = omega arith in
+          let same : getD q (s - 1) 0 ≡ c =
+          sym (getD-take s q (s - 1) 0 (omega arith)) ∙ ap (λ l. getD l (s - 1) 0) (d .before) ∙ getD-take s Q (s - 1) 0 (omega arith) in
+          ap₂ take k (drop-back q s 0 more (omega (arith, inside, d .kept, d .within))) ∙ ap₂ _∷_ same (d .remains)
 
-    cons : (z : List ℕ) → 0 < length z → (c : ℕ) × (Q : List ℕ) × (z ≡ c ∷ Q)
-    cons [] h = absurd (omega arith)
-    cons (c ∷ Q) h = (c, Q, refl)
+      next : division p i E (n - (s - 1)) (drop (s - 1) Q) ≡ division p i E (suc (n - s)) (c ∷ drop s Q)
+      next =
+          let k : n - (s - 1) ≡ suc (n - s) = omega (arith, d .within) in
+          ap₂ (division p i E) k (drop-back Q s 0 more (omega (arith, d .within)))
 
-    pub division-step : (rest : List ℕ) → rest ≡ pad 4 (division p i E (n - 1) (take (length q - 1) (drop 1 q)) .0) → (h : ℕ)
-        → h ≡ leading p i E (take (length E) q1) → (part2 : List ℕ) → part2 ≡ lessTimes p (take (length E) q1) h E → Residues p part2
-        → (h ∷ getD rest 0 0 ∷ getD rest 1 0 ∷ getD rest 2 0 ∷ [] ≡ pad 4 (division p i E n q .0))
-        × (take b (part2 ++ drop (length E) q1) ≡ division p i E n q .1) × Residues p (part2 ++ drop (length E) q1)
-    division-step rest e h top part2 less fine2 =
-        let (c, Q, is) = cons q longer in
-        let again : take (length q - 1) (drop 1 q) ≡ Q = lent-rest 1 q ∙ ap (drop 1) is in
-        let lent : take (length E) q1 ≡ c ∷ division p i E (n - 1) Q .1 = lent-is c Q is in
-        let n-is : n ≡ suc (n - 1) = omega arith in
-        let whole-n : division p i E n q ≡ division p i E (suc (n - 1)) (c ∷ Q) = ap₂ (division p i E) n-is is in
-        let h-is : h ≡ leading p i E (c ∷ division p i E (n - 1) Q .1) = top ∙ ap (leading p i E) lent in
-        let lent-size : length (take (length E) q1) ≡ length E = length-take-le (length E) q1 (second-lent .0) in
-        let part-long : length part2 ≡ length E = ap length less ∙ length-zipWith _ E (take (length E) q1) (sym lent-size) ∙ lent-size in
-        let F-size : length (division p i E (n - 1) Q .0) ≡ n - 1 =
-        division-size p i E nonempty (n - 1) Q (omega (arith, ap length is)) in (
-          pad-front h (division p i E (n - 1) Q .0) rest (omega arith) (e ∙ ap (λ z. pad 4 (division p i E (n - 1) z .0)) again)
-              ∙ ap (λ z. pad 4 (z ∷ division p i E (n - 1) Q .0)) h-is
-              ∙ ap (λ o. pad 4 (o .0)) (sym whole-n),
-          take-append-le b part2 (drop (length E) q1) (omega arith)
-              ∙ ap (take b) (less ∙ ap₂ (λ z w. lessTimes p z w E) lent h-is)
-              ∙ ap (λ o. o .1) (sym whole-n),
-          all-append (λ c. c < p) part2 (drop (length E) q1) fine2 (all-drop (λ c. c < p) (length E) q1 second-residues),
+      pub divided-next : (h : ℕ) → h ≡ leading p i E lent → (part : List ℕ) → part ≡ lessTimes p lent h E → Residues p part
+          → Divided (set f (s - 1) h) (putMid (s - 1) (s - 1 + length E - (s - 1)) q part) (s - 1)
+      divided-next h top part less fine =
+          let k : ℕ = s - 1 + length E - (s - 1) in
+          let h-is : h ≡ leading p i E (c ∷ division p i E (n - s) (drop s Q) .1) = top ∙ ap (leading p i E) lent-is in
+          let long : length part ≡ length lent = ap length less ∙ length-zipWith _ E lent (sym (divided-lent .0)) in
+          let front-long : length (take (s - 1) q) ≡ s - 1 = length-take-le (s - 1) q (omega (arith, inside)) in
+          record {
+            within = omega (arith, d .within);
+            room = length-set f (s - 1) h ∙ d .room;
+            kept = same-len-mid (s - 1) k q part long ∙ d .kept;
+            residues =
+                all-append (λ c. c < p) (take (s - 1) q) _ (all-take (λ c. c < p) (s - 1) q (d .residues))
+                (all-append (λ c. c < p) part _ fine
+                (all-drop (λ c. c < p) k (drop (s - 1) q) (all-drop (λ c. c < p) (s - 1) q (d .residues))));
+            before =
+                take-put (s - 1) k q part (omega (arith, inside))
+                ∙ sym (take-take (s - 1) s q (omega arith))
+                ∙ ap (take (s - 1)) (d .before)
+                ∙ take-take (s - 1) s Q (omega arith);
+            written = λ j l.
+                elim (ℕ-discrete j (s - 1)) [
+                  | yes e ↦
+                      let zero-is : j - (s - 1) ≡ 0 = omega arith in
+                      ap (λ z. getD (set f (s - 1) h) z 0) e
+                      ∙ getD-set-same f (s - 1) h 0 (omega (arith, d .room, d .within))
+                      ∙ h-is
+                      ∙ ap₂ (λ (o : List ℕ × List ℕ) (k : ℕ). getD (o .0) k 0) (sym next) (sym zero-is)
+                  | no e ↦
+                      let one : j - (s - 1) ≡ suc (j - s) = omega arith in
+                      getD-set-other f (s - 1) j h 0 e
+                      ∙ d .written j (omega arith)
+                      ∙ ap₂ (λ (o : List ℕ × List ℕ) (k : ℕ). getD (o .0) k 0) (sym next) (sym one)
+                ];
+            remains =
+                ap (take b) (drop-at (take (s - 1) q) _ (s - 1) front-long)
+                ∙ take-append-le b part _ (omega (arith, long, divided-lent .0))
+                ∙ ap (take b) (less ∙ ap₂ (λ z w. lessTimes p z w E) lent-is h-is)
+                ∙ ap (λ (o : List ℕ × List ℕ). o .1) (sym next);
+          }
+
+    pub divided-end : (f q : List ℕ) (s : ℕ) → Divided f q s → s ≡ 0
+        → (f ≡ pad 4 (division p i E n Q .0)) × (take b q ≡ division p i E n Q .1) × Residues p q
+    divided-end f q s d end =
+        let at : Divided f q 0 = subst (Divided f q) end d in
+        let whole : n - 0 ≡ n = omega arith in
+        let F : List ℕ = division p i E n Q .0 in
+        let size : length F ≡ n = division-size p i E nonempty n Q (omega arith) in
+        let padded : length (pad 4 F) ≡ 4 =
+        length-append F (replicate (4 - length F) 0) ∙ omega (arith, length-replicate {A = ℕ} (4 - length F) 0, size) in (
+          ext-getD 0 f (pad 4 F) (d .room ∙ sym padded)
+              (λ j l.
+              let here : j - 0 ≡ j = omega arith in
+              at .written j (omega arith)
+              ∙ ap₂ (λ m k. getD (division p i E m Q .0) k 0) whole here
+              ∙ sym (getD-zeros F (4 - length F) j)),
+          at .remains ∙ ap (λ m. division p i E m Q .1) whole,
+          d .residues,
         )

@@ -55,7 +55,7 @@ fn next_coefficient(w: Width, inverse: u32, e: &[u32], r: &mut [u32]) -> u32
     h
 }
 
-// The n coefficients of q divided by e, with 0 behind them. The remainder is left in front of q. It calls itself n times.
+// The n coefficients of q divided by e, with 0 behind them, from the top down. The remainder is left in front of q.
 fn divide(w: Width, n: usize, inverse: u32, e: &[u32], q: &mut [u32]) -> [u32; 4]
     requires { ⌜ (n ≤ 4) × (0 < length (now e)) × (length (now q) + 1 ≡ n + length (now e)) ⌝ }
     requires { ⌜ Residues (primeOf w) (now e) × Residues (primeOf w) (now q) × (inverse < primeOf w) ⌝ }
@@ -63,13 +63,14 @@ fn divide(w: Width, n: usize, inverse: u32, e: &[u32], q: &mut [u32]) -> [u32; 4
         × (take (length (now (e .entry)) - 1) (now (q .exit)) ≡ division (primeOf w) inverse (now (e .entry)) n (now (q .entry)) .1)
         × Residues (primeOf w) (now (q .exit)) ⌝ }
 {
-    if n == 0 {
-        return [0; 4];
-    }
-    let rest = divide(w, n - 1, inverse, e, &mut q[1..]);
     let size = e.len();
-    let h = next_coefficient(w, inverse, e, &mut q[..size]);
-    [h, rest[0], rest[1], rest[2]]
+    let mut f = [0u32; 4];
+    let mut s = n;
+    while 0 < s {
+        s -= 1;
+        f[s] = next_coefficient(w, inverse, e, &mut q[s..s + size]);
+    }
+    f
 }
 
 // Whether every number is 0.
