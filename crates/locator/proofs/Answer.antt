@@ -22,8 +22,8 @@ use Rattle.trial.specs.Trial.{pointsOf, pointsSent, meets, hits}
 use Rattle.fit.specs.Fit.{sent, Fits, fit}
 use Rattle.fit.specs.Opening.{needed, openingOf}
 use Rattle.fit.proofs.Decoding.{points-sent-all, hits-points-sent, fit-by}
-use Rattle.locator.specs.declared.Located.{Located}
-use Rattle.locator.specs.Solved.{Solved}
+use Rattle.key_equation.specs.declared.Located.{Located}
+use Rattle.key_equation.specs.Solved.{Solved}
 use Rattle.locator.specs.Quotient.{product, division, exactly}
 use Rattle.locator.specs.Answer.{ifEnough, quotientOf, locatedBy}
 use Rattle.locator.proofs.Products.{division-size, division-residues}

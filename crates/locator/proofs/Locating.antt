@@ -28,7 +28,7 @@ use Rattle.polynomial.proofs.Division.{value-lt, value-zeros}
 use Rattle.polynomial.proofs.Uniqueness.{unique}
 use Rattle.trial.specs.Trial.{pointsOf, xsOf, ysOf, meets}
 use Rattle.fit.proofs.Decoding.{points-sublist}
-use Rattle.locator.specs.Solving.{Solves, Solutions}
+use Rattle.key_equation.specs.Solving.{Solves, Solutions}
 use Rattle.locator.specs.Quotient.{product}
 use Rattle.locator.proofs.Products.{length-addProduct, addProduct-residues, addProduct-value}
 

@@ -20,11 +20,7 @@ use Rattle.field.proofs.Ring.{mul-lt, mul-zero, mul-comm, mul-assoc, mul-one, m
 use Rattle.polynomial.specs.Polynomial.{Residues, value, raise}
 use Rattle.polynomial.proofs.Division.{value-residue}
 use Rattle.locator.specs.Quotient.{addTimes, addProduct, lessTimes, leading, division}
-use Rattle.locator.proofs.Mixing.{value-split, length-tail}
-
-pub getD-first : (R : List ℕ) (j : ℕ) → getD (tail R) j 0 ≡ getD R (suc j) 0
-getD-first [] j = refl
-getD-first (c ∷ R) j = refl
+use Rattle.key_equation.proofs.Mixing.{value-split, length-tail, getD-tail}
 
 module _ (p : ℕ) where
   -- ---- R + c E
@@ -54,7 +50,7 @@ module _ (p : ℕ) where
       → getD (addTimes p R c E) j 0 ≡ add p (getD R j 0) (mul p c (getD E j 0))
   getD-plus R c [] j h = absurd (omega arith)
   getD-plus R c (d ∷ E) zero h = refl
-  getD-plus R c (d ∷ E) (suc j) h = getD-plus (tail R) c E j (omega arith) ∙ ap (λ z. add p z (mul p c (getD E j 0))) (getD-first R j)
+  getD-plus R c (d ∷ E) (suc j) h = getD-plus (tail R) c E j (omega arith) ∙ ap (λ z. add p z (mul p c (getD E j 0))) (getD-tail R j)
 
   -- ---- R + F E
   pub length-addProduct : (R F E : List ℕ) → suc (length R) ≡ length E → length (addProduct p R F E) ≡ length F + length R

@@ -1,4 +1,2 @@
-pub mod Solving
-pub mod Solved
 pub mod Quotient
 pub mod Answer

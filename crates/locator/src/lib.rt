@@ -1,7 +1,5 @@
 // Decoding by an error locator, after Berlekamp and Welch: a numerator Q and a locator E with Q(x) = y E(x) at each point solved for. Where
 // a polynomial f fits, E is 0 at every wrong one of these and Q is f E: Q divided by E is f. Nothing is tried.
-mod solutions;
-
 ghost use mathlib.Core.Path.{_≡_};
 ghost use Prim.Native.Nat.{_+_, _*_, _-_, _≤_, _<_};
 ghost use lib.ListN.{length, take};
@@ -19,15 +17,7 @@ use answers::Admission;
 use answers::Decoding;
 use answers::Fitted;
 use field::Width;
-use solutions::solve;
 use trial::Tried;
-
-// The second solution: a numerator, and a locator of such a degree.
-pub struct Located {
-    pub numerator: [u32; 12],
-    pub locator: [u32; 8],
-    pub degree: usize,
-}
 
 // r − h e, in the place of r.
 fn less_times(w: Width, h: u32, e: &[u32], r: &mut [u32])
@@ -169,7 +159,7 @@ fn by_locator(w: Width, t: usize, need: usize, spare: usize, xs: &[u32], ys: &[u
     // Of no more points than it goes through, none need agree: this is interpolation.
     let first = trial::next(w, &px[..t + 1], &py[..t + 1], 0, 0, t + 1);
     let f = first.coefficients;
-    let solved = solve(w, t, &px[..m], &py[..m], f);
+    let solved = key_equation::solve(w, t, &px[..m], &py[..m], f);
     let q = solved.numerator;
     let e = solved.locator;
     judged(w, t, need, spare, xs, ys, solved.degree, q, e)

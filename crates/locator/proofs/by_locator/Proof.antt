@@ -18,7 +18,7 @@ use Rattle.trial.specs.declared.Tried.{Tried}
 use Rattle.trial.specs.Trial.{pointsOf, pointsSent}
 use Rattle.trial.specs.Results.{resultOf}
 use Rattle.fit.proofs.Decoding.{points-sent-all}
-use Rattle.locator.specs.Solved.{Solved}
+use Rattle.key_equation.specs.Solved.{Solved}
 use Rattle.locator.proofs.Gathered.{gathered-points, gathered-values, array-size, front-all, front-some, tried-through}
 use Rattle.locator.proofs.Answer.{located-fit}
 use borrow.Author.Needs.{needs}

@@ -1,0 +1,7 @@
+pub mod Mixing
+pub mod Solving
+mod Loops
+mod Parts
+mod Stepping
+mod Rooting
+mod Starting
