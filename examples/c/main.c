@@ -1,6 +1,6 @@
 /*
- * The library from C: the protocol's marked cases M1 to M4 and M10, openings with lamps dark, each by trial and by an error locator, the repair of M7, and the text
- * of the record whose path is the argument. Prints what stands in `expected` beside it.
+ * The library from C: the protocol's marked cases M1 to M4 and M10, openings with lamps dark, each by trial and by an error
+ * locator, the repair of M7, and the text of the record whose path is the argument. Prints what stands in `expected` beside it.
  */
 #include <stdio.h>
 

@@ -182,7 +182,7 @@ pub extern "C" fn doumbaht_open_wide(n: u8, t: u8, shares: &[u32], opened: &mut 
     opened_wide_by(admitted, n, t, tables::sixteen(), shares, opened)
 }
 
-// The same four by an error locator: the answers are the same. With a table.
+// The same four by an error locator, which answers the same for every list. With a table.
 #[no_mangle]
 pub extern "C" fn doumbaht_open_by_locator_with(
     n: u8,

@@ -12,8 +12,8 @@ use answers::Admission;
 use answers::refusal_number;
 use field::Width;
 
-// The opening by what is found of its arguments: refused, or what fits the shares by themselves. A function of its own beside that by trial,
-// which, with both decoders in one function, took 2 ns of 22 more.
+// The opening by what is found of its arguments: refused, or what fits the shares by themselves. A function of its own beside that by
+// trial, which, with both decoders in one function, took 2 ns of 22 more.
 pub(crate) fn located_by(
     admitted: Admission,
     n: u8,

@@ -1,5 +1,5 @@
-// The key equation of Berlekamp and Welch, Q(x) = y E(x) at each of some points: a numerator Q, and a locator E that is 0 at the wrong ones.
-// Two solutions are brought up point by point, by products alone: nothing is divided.
+// The key equation of Berlekamp and Welch, Q(x) = y E(x) at each of some points: a numerator Q, and a locator E that is 0 at the wrong
+// ones. Two solutions are brought up point by point, by products alone: nothing is divided.
 ghost use mathlib.Core.Path.{_≡_};
 ghost use Prim.Native.Nat.{_+_, _-_, _≤_, _<_};
 ghost use lib.ListN.{length, take};

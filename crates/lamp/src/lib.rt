@@ -235,7 +235,7 @@ impl Lamp {
         }
     }
 
-    // Opens n published shares by trial, which is the quicker way where few lie.
+    // Opens n published shares by trial, which is quicker on most lists.
     pub fn open(self, shares: &[u16]) -> Reply
         ensures { λ r. ⌜ r ≡ step self (openShares Narrow (now (shares .entry))) ⌝ }
     {

@@ -24,15 +24,16 @@ use Rattle.fit.specs.Opening.{needed, openingOf}
 use Rattle.fit.proofs.Decoding.{points-sent-all, hits-points-sent, fit-by}
 use Rattle.key_equation.specs.declared.Located.{Located}
 use Rattle.key_equation.specs.Solved.{Solved}
-use Rattle.locator.specs.Quotient.{product, division, exactly}
+use Rattle.locator.specs.Quotient.{product, longDivision, exactQuotient}
 use Rattle.locator.specs.Answer.{ifEnough, quotientOf, locatedBy}
 use Rattle.locator.proofs.Products.{division-size, division-residues}
-use Rattle.locator.proofs.Exact.{answered-exactly, none-not-some, test-passed, enough-sound, enough-found, exactly-sound, inverse-top, product-exactly}
+use Rattle.locator.proofs.Exact.{answered-exactly, none-not-some, test-passed, enough-sound, enough-found}
+use Rattle.locator.proofs.Exact.{exactly-sound, inverse-top, product-exactly}
 use Rattle.locator.proofs.Locating.{few-wrong, numerator-is}
 
 -- The code's numbers, and those of the laws.
 quotient-is : (p t b : ℕ) (q e : List ℕ)
-    → quotientOf p t b q e ≡ exactly p (inv p (getD e b 0)) (take (suc b) e) (suc t) (take (suc (b + t)) q)
+    → quotientOf p t b q e ≡ exactQuotient p (inv p (getD e b 0)) (take (suc b) e) (suc t) (take (suc (b + t)) q)
 quotient-is p t b q e =
     let i : b + 1 ≡ suc b = omega arith in
     let j : t + 1 ≡ suc t = omega arith in
@@ -70,7 +71,7 @@ module _ (p : ℕ) (P : Prime p) (t need spare : ℕ) (xs ys : List ℕ) (length
   located-fits f e =
       let (low, given) = test-passed (leb b spare) (ifEnough p need xs ys (quotientOf p t b (r .numerator) (r .locator))) f e in
       let (found, enough) = enough-sound p need xs ys (quotientOf p t b (r .numerator) (r .locator)) f given in
-      let is : f ≡ division p i E (suc t) Q .0 =
+      let is : f ≡ longDivision p i E (suc t) Q .0 =
       exactly-sound p i E (suc t) Q f (sym (quotient-is p t b (r .numerator) (r .locator)) ∙ found) in
       record {
         poly = subst (Poly p (suc t)) (sym is) (record {
@@ -144,4 +145,5 @@ pub as-by-trial : (p : ℕ) → Prime p → (t spare : ℕ) (xs ys : List ℕ) �
     → (r : Located) → Solved p t px py r
     → locatedBy p t (needed t (2 * t + 1) (sent p ys)) spare xs ys (r .degree) (r .numerator) (r .locator) ≡ openingOf p t xs ys
 as-by-trial p P t spare xs ys lengths points few all px py gathered size-x size-y fine r s =
-    located-fit p P t (needed t (2 * t + 1) (sent p ys)) spare xs ys lengths points all (omega arith) few px py gathered size-x size-y fine r s
+    located-fit p P t (needed t (2 * t + 1) (sent p ys)) spare xs ys lengths points all (omega arith) few px py gathered size-x size-y fine r
+    s

@@ -26,7 +26,7 @@ use Rattle.field.proofs.Inverse.{mul-inv}
 use Rattle.polynomial.specs.Polynomial.{Poly, Residues}
 use Rattle.polynomial.proofs.Below.{zeros-residues}
 use Rattle.trial.specs.Trial.{hits}
-use Rattle.locator.specs.Quotient.{addProduct, product, division, zeros, exactly}
+use Rattle.locator.specs.Quotient.{addProduct, product, longDivision, allZero, exactQuotient}
 use Rattle.locator.specs.Answer.{ifEnough, quotientOf, locatedBy}
 use Rattle.locator.proofs.Products.{division-back, division-forth, remainder-size}
 
@@ -34,14 +34,14 @@ use Rattle.locator.proofs.Products.{division-back, division-forth, rema
 pub none-not-some : {A : Type 0} (o : Option (List ℕ)) (f : List ℕ) → o ≡ none → o ≡ some f → A
 none-not-some o f e i = absurd (Option·none-ne-some f (sym e ∙ i))
 
-zeros-true : (n : ℕ) → zeros (replicate n 0) ≡ true
+zeros-true : (n : ℕ) → allZero (replicate n 0) ≡ true
 zeros-true zero = refl
 zeros-true (suc n) = zeros-true n
 
-zeros-all : (r : List ℕ) → zeros r ≡ true → r ≡ replicate (length r) 0
+zeros-all : (r : List ℕ) → allZero r ≡ true → r ≡ replicate (length r) 0
 zeros-all [] e = refl
 zeros-all (c ∷ r) e =
-    let (first, rest) = and-eq-true-iff (eqb c 0) (zeros r) .0 e in
+    let (first, rest) = and-eq-true-iff (eqb c 0) (allZero r) .0 e in
     ap₂ _∷_ (eqb-true c 0 first) (zeros-all r rest)
 
 -- What is given under a test passed it.
@@ -49,34 +49,34 @@ pub test-passed : (c : Bool) (o : Option (List ℕ)) (f : List ℕ) → cond c o
 test-passed true o f e = (refl, e)
 test-passed false o f e = none-not-some none f refl e
 
-module _ (p i : ℕ) (E : List ℕ) (n : ℕ) (Q f : List ℕ) (e : exactly p i E n Q ≡ some f) where
-  nothing-remains : zeros (division p i E n Q .1) ≡ true
-  unfolding exactly
-  nothing-remains = test-passed (zeros (division p i E n Q .1)) (some (division p i E n Q .0)) f e .0
+module _ (p i : ℕ) (E : List ℕ) (n : ℕ) (Q f : List ℕ) (e : exactQuotient p i E n Q ≡ some f) where
+  nothing-remains : allZero (longDivision p i E n Q .1) ≡ true
+  unfolding exactQuotient
+  nothing-remains = test-passed (allZero (longDivision p i E n Q .1)) (some (longDivision p i E n Q .0)) f e .0
 
-  pub exactly-sound : f ≡ division p i E n Q .0
-  unfolding exactly
-  exactly-sound = let same = test-passed (zeros (division p i E n Q .1)) (some (division p i E n Q .0)) f e .1 in cc
+  pub exactly-sound : f ≡ longDivision p i E n Q .0
+  unfolding exactQuotient
+  exactly-sound = let same = test-passed (allZero (longDivision p i E n Q .1)) (some (longDivision p i E n Q .0)) f e .1 in cc
 
 module _ (p i : ℕ) (E : List ℕ) (b : ℕ) (size : length E ≡ suc b) (inverse : mul p i (getD E b 0) ≡ 1) (positive : 0 < p) (n : ℕ)
     (Q F : List ℕ) where
-  pub exactly-product : Residues p Q → length Q ≡ n + b → exactly p i E n Q ≡ some F → Q ≡ product p F E
+  pub exactly-product : Residues p Q → length Q ≡ n + b → exactQuotient p i E n Q ≡ some F → Q ≡ product p F E
   exactly-product f l e =
-      let left : length (division p i E n Q .1) ≡ length E - 1 = remainder-size p i E (omega arith) n Q (omega arith) in
+      let left : length (longDivision p i E n Q .1) ≡ length E - 1 = remainder-size p i E (omega arith) n Q (omega arith) in
       sym (division-forth p i E b size inverse positive n Q f l)
       ∙ ap₂ (λ r z. addProduct p r z E)
-      (zeros-all (division p i E n Q .1) (nothing-remains p i E n Q F e) ∙ ap (λ m. replicate m 0) left)
+      (zeros-all (longDivision p i E n Q .1) (nothing-remains p i E n Q F e) ∙ ap (λ m. replicate m 0) left)
       (sym (exactly-sound p i E n Q F e))
 
-  pub product-exactly : Poly p n F → Q ≡ product p F E → exactly p i E n Q ≡ some F
-  unfolding exactly
+  pub product-exactly : Poly p n F → Q ≡ product p F E → exactQuotient p i E n Q ≡ some F
+  unfolding exactQuotient
   product-exactly poly e =
       let left : length E - 1 ≡ b = omega arith in
-      let divided : division p i E n Q ≡ (F, replicate b 0) =
-      ap₂ (λ (m : ℕ) (z : List ℕ). division p i E m z) (sym (poly .size)) (e ∙ ap (λ m. addProduct p (replicate m 0) F E) left)
+      let divided : longDivision p i E n Q ≡ (F, replicate b 0) =
+      ap₂ (λ (m : ℕ) (z : List ℕ). longDivision p i E m z) (sym (poly .size)) (e ∙ ap (λ m. addProduct p (replicate m 0) F E) left)
       ∙ division-back p i E b size inverse positive (replicate b 0) F (zeros-residues p b positive)
       (poly .residues) (length-replicate b 0) in
-      ap (λ (o : List ℕ × List ℕ). cond (zeros (o .1)) (some (o .0)) none) divided ∙ ap (λ c. cond c (some F) none) (zeros-true b)
+      ap (λ (o : List ℕ × List ℕ). cond (allZero (o .1)) (some (o .0)) none) divided ∙ ap (λ c. cond c (some F) none) (zeros-true b)
 
 pub inverse-top : (p : ℕ) → Prime p → (b : ℕ) (e : List ℕ) → Residues p (take (suc b) e) → length (take (suc b) e) ≡ suc b
     → (getD (take (suc b) e) b 0 ≡ 0 → ⊥) → mul p (inv p (getD e b 0)) (getD (take (suc b) e) b 0) ≡ 1

@@ -25,22 +25,22 @@ use Rattle.trial.specs.Trial.{hits}
 use Rattle.trial.specs.Results.{resultOf}
 use Rattle.trial.proofs.Counting.{hits-zeros}
 use Rattle.trial.proofs.Results.{result-found, result-not-found}
-use Rattle.locator.specs.Quotient.{division, zeros, exactly}
+use Rattle.locator.specs.Quotient.{longDivision, allZero, exactQuotient}
 use Rattle.locator.specs.Answer.{ifEnough, quotientOf, locatedBy}
 use Rattle.locator.proofs.Products.{division-size, division-residues}
 use Rattle.locator.proofs.Exact.{exactly-sound}
 
-module _ (p i : ℕ) (E : List ℕ) (n : ℕ) (Q : List ℕ) (l : List ℕ) (rest : l ≡ division p i E n Q .1) where
-  pub exactly-not : zeros l ≡ false → resultOf none ≡ resultOf (exactly p i E n Q)
-  unfolding exactly
-  exactly-not e = ap (λ c. resultOf (cond c (some (division p i E n Q .0)) none)) (sym e ∙ ap zeros rest)
+module _ (p i : ℕ) (E : List ℕ) (n : ℕ) (Q : List ℕ) (l : List ℕ) (rest : l ≡ longDivision p i E n Q .1) where
+  pub exactly-not : allZero l ≡ false → resultOf none ≡ resultOf (exactQuotient p i E n Q)
+  unfolding exactQuotient
+  exactly-not e = ap (λ c. resultOf (cond c (some (longDivision p i E n Q .0)) none)) (sym e ∙ ap allZero rest)
 
-  pub exactly-found : zeros l ≡ true → (f : List ℕ) → f ≡ pad 4 (division p i E n Q .0)
-      → _≡_ {A = Tried} (record { found = true; coefficients = f }) (resultOf (exactly p i E n Q))
-  unfolding exactly
+  pub exactly-found : allZero l ≡ true → (f : List ℕ) → f ≡ pad 4 (longDivision p i E n Q .0)
+      → _≡_ {A = Tried} (record { found = true; coefficients = f }) (resultOf (exactQuotient p i E n Q))
+  unfolding exactQuotient
   exactly-found e f is =
       let struct : List ℕ → Tried = λ g. record { found = true; coefficients = g } in
-      ap struct is ∙ ap (λ c. resultOf (cond c (some (division p i E n Q .0)) none)) (sym e ∙ ap zeros rest)
+      ap struct is ∙ ap (λ c. resultOf (cond c (some (longDivision p i E n Q .0)) none)) (sym e ∙ ap allZero rest)
 
 module _ (p t need spare : ℕ) (xs ys : List ℕ) (b : ℕ) (q e : List ℕ) where
   pub judged-high : spare < b → decoded none ≡ decoded (locatedBy p t need spare xs ys b q e)
@@ -70,7 +70,7 @@ module _ (p t need spare : ℕ) (xs ys : List ℕ) (b : ℕ) (q e : List ℕ) wh
       coefficients-are : f ≡ pad 4 g
       coefficients-are = ap (λ w. w .coefficients) (is ∙ ap resultOf (quotient .1))
 
-      divided : g ≡ division p (inv p (getD e b 0)) (take (b + 1) e) (t + 1) (take (b + t + 1) q) .0
+      divided : g ≡ longDivision p (inv p (getD e b 0)) (take (b + 1) e) (t + 1) (take (b + t + 1) q) .0
       divided = exactly-sound p (inv p (getD e b 0)) (take (b + 1) e) (t + 1) (take (b + t + 1) q) g (quotient .1)
 
       some-e : 0 < length (take (b + 1) e)

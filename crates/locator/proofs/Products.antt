@@ -19,7 +19,7 @@ use Rattle.field.proofs.Ring.{ring, add-comm, add-zero, zero-add, add-lt, add-s
 use Rattle.field.proofs.Ring.{mul-lt, mul-zero, mul-comm, mul-assoc, mul-one, mul-residue}
 use Rattle.polynomial.specs.Polynomial.{Residues, value, raise}
 use Rattle.polynomial.proofs.Division.{value-residue}
-use Rattle.locator.specs.Quotient.{addTimes, addProduct, lessTimes, leading, division}
+use Rattle.locator.specs.Quotient.{addTimes, addProduct, lessTimes, leading, longDivision}
 use Rattle.key_equation.proofs.Mixing.{value-split, length-tail, getD-tail}
 
 module _ (p : ℕ) where
@@ -137,7 +137,7 @@ module _ (p : ℕ) where
 
     -- R + F E is divided into F and R.
     pub division-back : (R F : List ℕ) → Residues p R → Residues p F → length R ≡ b
-        → division p i E (length F) (addProduct p R F E) ≡ (F, R)
+        → longDivision p i E (length F) (addProduct p R F E) ≡ (F, R)
     division-back R [] r f l = refl
     division-back R (c ∷ F) r f l =
         let S = addTimes p R c E in
@@ -157,22 +157,22 @@ module _ (p : ℕ) where
 
   -- ---- what division gives, whatever is divided
   module _ (i : ℕ) (E : List ℕ) (nonempty : 0 < length E) where
-    pub division-size : (n : ℕ) (Q : List ℕ) → n ≤ length Q → length (division p i E n Q .0) ≡ n
+    pub division-size : (n : ℕ) (Q : List ℕ) → n ≤ length Q → length (longDivision p i E n Q .0) ≡ n
     division-size zero Q h = refl
     division-size (suc n) [] h = absurd (omega arith)
     division-size (suc n) (c ∷ Q) h = ap suc (division-size n Q (omega arith))
 
-    pub division-residues : (n : ℕ) (Q : List ℕ) → 0 < p → Residues p (division p i E n Q .0)
+    pub division-residues : (n : ℕ) (Q : List ℕ) → 0 < p → Residues p (longDivision p i E n Q .0)
     division-residues zero Q positive = tt
     division-residues (suc n) [] positive = tt
     division-residues (suc n) (c ∷ Q) positive = (mul-lt p i _ positive, division-residues n Q positive)
 
-    pub remainder-size : (n : ℕ) (Q : List ℕ) → length Q ≡ n + (length E - 1) → length (division p i E n Q .1) ≡ length E - 1
+    pub remainder-size : (n : ℕ) (Q : List ℕ) → length Q ≡ n + (length E - 1) → length (longDivision p i E n Q .1) ≡ length E - 1
     remainder-size zero Q h = h ∙ omega arith
     remainder-size (suc n) [] h = absurd (omega arith)
     remainder-size (suc n) (c ∷ Q) h =
-        let rest : length (division p i E n Q .1) ≡ length E - 1 = remainder-size n Q (omega arith) in
-        let r : List ℕ = c ∷ division p i E n Q .1 in
+        let rest : length (longDivision p i E n Q .1) ≡ length E - 1 = remainder-size n Q (omega arith) in
+        let r : List ℕ = c ∷ longDivision p i E n Q .1 in
         let whole : length (lessTimes p r (leading p i E r) E) ≡ length r = length-zipWith _ E r (omega arith) in
         length-take-le (length E - 1) (lessTimes p r (leading p i E r) E) (omega arith)
 
@@ -182,11 +182,11 @@ module _ (p : ℕ) where
     less-residues [] h (d ∷ F) positive = tt
     less-residues (c ∷ r) h (d ∷ F) positive = (sub-lt p c (mul p h d) positive, less-residues r h F positive)
 
-    pub remainder-residues : (n : ℕ) (Q : List ℕ) → 0 < p → Residues p Q → Residues p (division p i E n Q .1)
+    pub remainder-residues : (n : ℕ) (Q : List ℕ) → 0 < p → Residues p Q → Residues p (longDivision p i E n Q .1)
     remainder-residues zero Q positive f = f
     remainder-residues (suc n) [] positive f = tt
     remainder-residues (suc n) (c ∷ Q) positive f =
-        let r : List ℕ = c ∷ division p i E n Q .1 in
+        let r : List ℕ = c ∷ longDivision p i E n Q .1 in
         all-take (λ c. c < p) (length E - 1) (lessTimes p r (leading p i E r) E) (less-residues r (leading p i E r) E positive)
 
   -- ---- quotient times E, and the remainder, is what was divided
@@ -217,11 +217,11 @@ module _ (p : ℕ) where
         ∙ mod-eq-of-lt (all-getD (λ c. c < p) r b 0 (omega arith) f)
 
     pub division-forth : (n : ℕ) (Q : List ℕ) → Residues p Q → length Q ≡ n + b
-        → addProduct p (division p i E n Q .1) (division p i E n Q .0) E ≡ Q
+        → addProduct p (longDivision p i E n Q .1) (longDivision p i E n Q .0) E ≡ Q
     division-forth zero Q f l = refl
     division-forth (suc n) [] f l = absurd (omega arith)
     division-forth (suc n) (c ∷ Q) f l =
-        let o = division p i E n Q in
+        let o = longDivision p i E n Q in
         let r : List ℕ = c ∷ o .1 in
         let h = leading p i E r in
         let top : length E - 1 ≡ b = omega arith in

@@ -11,7 +11,7 @@ use lib.Dec.{leb}
 use lib.ListN.{getD, take}
 use Rattle.field.specs.Arithmetic.{inv}
 use Rattle.trial.specs.Trial.{firstFitting}
-use Rattle.locator.specs.Quotient.{exactly}
+use Rattle.locator.specs.Quotient.{exactQuotient}
 
 -- Remainder zero alone does not make enough points agree.
 abbrev pub ifEnough : ℕ → ℕ → List ℕ → List ℕ → Option (List ℕ) → Option (List ℕ)
@@ -20,7 +20,7 @@ ifEnough p need xs ys (some f) = firstFitting p need xs ys (f ∷ [])
 
 -- The quotient of the numerator by the locator.
 abbrev pub quotientOf : ℕ → ℕ → ℕ → List ℕ → List ℕ → Option (List ℕ)
-quotientOf p t b q e = exactly p (inv p (getD e b 0)) (take (b + 1) e) (t + 1) (take (b + t + 1) q)
+quotientOf p t b q e = exactQuotient p (inv p (getD e b 0)) (take (b + 1) e) (t + 1) (take (b + t + 1) q)
 
 -- The answer, where at most `spare` of the points sent may be wrong.
 unfoldable pub locatedBy : ℕ → ℕ → ℕ → ℕ → List ℕ → List ℕ → ℕ → List ℕ → List ℕ → Option (List ℕ)

@@ -1,12 +1,12 @@
 -- Division by a polynomial E of degree b, whose top coefficient has the inverse i.
---   addTimes p R c E      R + c E, as long as E
---   addProduct p R F E    R + F E, coefficient by coefficient, for R with b coefficients
---   product p F E         F E
---   lessTimes p r h E     r − h E
---   leading p i E r       the coefficient h with which r − h E has no top
---   division p i E n Q    n coefficients of the quotient, and the remainder, of b
---   zeros r               whether r is nothing but zeros
---   exactly p i E n Q     the quotient where nothing remains
+--   addTimes p R c E          R + c E, as long as E
+--   addProduct p R F E        R + F E, coefficient by coefficient, for R with b coefficients
+--   product p F E             F E
+--   lessTimes p r h E         r − h E
+--   leading p i E r           the coefficient h with which r − h E has no top
+--   longDivision p i E n Q    n coefficients of the quotient, and the remainder, of b
+--   allZero r                 whether r is nothing but zeros
+--   exactQuotient p i E n Q   the quotient where nothing remains
 -- Laws: proofs/Products, proofs/Exact.
 use mathlib.Core.Bool.{Bool, true, _&&_, cond}
 use mathlib.Core.Option.{Option, none, some}
@@ -40,19 +40,19 @@ module _ (p : ℕ) where
   leading i E r = mul p i (getD r (length E - 1) 0)
 
   -- Quotient and remainder.
-  abbrev pub division : ℕ → List ℕ → ℕ → List ℕ → List ℕ × List ℕ
-  division i E zero Q = ([], Q)
-  division i E (suc n) [] = ([], [])
-  division i E (suc n) (c ∷ Q) =
-      let o = division i E n Q in
+  abbrev pub longDivision : ℕ → List ℕ → ℕ → List ℕ → List ℕ × List ℕ
+  longDivision i E zero Q = ([], Q)
+  longDivision i E (suc n) [] = ([], [])
+  longDivision i E (suc n) (c ∷ Q) =
+      let o = longDivision i E n Q in
       let h = leading i E (c ∷ o .1) in
       (h ∷ o .0, take (length E - 1) (lessTimes (c ∷ o .1) h E))
 
 -- Nothing but zeros.
-abbrev pub zeros : List ℕ → Bool
-zeros [] = true
-zeros (c ∷ r) = eqb c 0 && zeros r
+abbrev pub allZero : List ℕ → Bool
+allZero [] = true
+allZero (c ∷ r) = eqb c 0 && allZero r
 
 -- The quotient, if nothing remains.
-unfoldable pub exactly : ℕ → ℕ → List ℕ → ℕ → List ℕ → Option (List ℕ)
-exactly p i E n Q = cond (zeros (division p i E n Q .1)) (some (division p i E n Q .0)) none
+unfoldable pub exactQuotient : ℕ → ℕ → List ℕ → ℕ → List ℕ → Option (List ℕ)
+exactQuotient p i E n Q = cond (allZero (longDivision p i E n Q .1)) (some (longDivision p i E n Q .0)) none

@@ -1,5 +1,6 @@
 // Decoding by an error locator, after Berlekamp and Welch: a numerator Q and a locator E with Q(x) = y E(x) at each point solved for. Where
-// a polynomial f fits, E is 0 at every wrong one of these and Q is f E: Q divided by E is f. Nothing is tried.
+// a polynomial f fits, E is 0 at every wrong one of these and Q is f E: Q divided by E is f. No polynomials are tried
+// one after the other: of the first points sent one is looked at, and where it does not go through them, the rest is solved for.
 ghost use mathlib.Core.Path.{_≡_};
 ghost use Prim.Native.Nat.{_+_, _*_, _-_, _≤_, _<_};
 ghost use lib.ListN.{length, take};
@@ -11,7 +12,7 @@ ghost use Rattle.trial.specs.Results.{Bounded, resultOf};
 ghost use Rattle.fit.specs.Fit.{sent, fit};
 ghost use Rattle.fit.specs.Opening.{needed};
 ghost use Rattle.fit.specs.Admitted.{Admitted, fitIn};
-ghost use Rattle.locator.specs.Quotient.{lessTimes, leading, division, zeros, exactly};
+ghost use Rattle.locator.specs.Quotient.{lessTimes, leading, longDivision, allZero, exactQuotient};
 ghost use Rattle.locator.specs.Answer.{quotientOf, locatedBy};
 use answers::Admission;
 use answers::Decoding;
@@ -49,8 +50,8 @@ fn next_coefficient(w: Width, inverse: u32, e: &[u32], r: &mut [u32]) -> u32
 fn divide(w: Width, n: usize, inverse: u32, e: &[u32], q: &mut [u32]) -> [u32; 4]
     requires { ⌜ (n ≤ 4) × (0 < length (now e)) × (length (now q) + 1 ≡ n + length (now e)) ⌝ }
     requires { ⌜ Residues (primeOf w) (now e) × Residues (primeOf w) (now q) × (inverse < primeOf w) ⌝ }
-    ensures { λ f. ⌜ (f ≡ pad 4 (division (primeOf w) inverse (now (e .entry)) n (now (q .entry)) .0))
-        × (take (length (now (e .entry)) - 1) (now (q .exit)) ≡ division (primeOf w) inverse (now (e .entry)) n (now (q .entry)) .1)
+    ensures { λ f. ⌜ (f ≡ pad 4 (longDivision (primeOf w) inverse (now (e .entry)) n (now (q .entry)) .0))
+        × (take (length (now (e .entry)) - 1) (now (q .exit)) ≡ longDivision (primeOf w) inverse (now (e .entry)) n (now (q .entry)) .1)
         × Residues (primeOf w) (now (q .exit)) ⌝ }
 {
     let size = e.len();
@@ -64,8 +65,8 @@ fn divide(w: Width, n: usize, inverse: u32, e: &[u32], q: &mut [u32]) -> [u32; 4
 }
 
 // Whether every number is 0.
-fn zeros(list: &[u32]) -> bool
-    ensures { λ r. ⌜ r ≡ zeros (now (list .entry)) ⌝ }
+fn all_zero(list: &[u32]) -> bool
+    ensures { λ r. ⌜ r ≡ allZero (now (list .entry)) ⌝ }
 {
     let mut i = list.len();
     while 0 < i {
@@ -78,14 +79,14 @@ fn zeros(list: &[u32]) -> bool
 }
 
 // The n coefficients of q divided by e, if nothing remains.
-fn exactly(w: Width, n: usize, inverse: u32, e: &[u32], q: &mut [u32]) -> Tried
+fn exact_quotient(w: Width, n: usize, inverse: u32, e: &[u32], q: &mut [u32]) -> Tried
     requires { ⌜ (n ≤ 4) × (0 < length (now e)) × (length (now q) + 1 ≡ n + length (now e)) ⌝ }
     requires { ⌜ Residues (primeOf w) (now e) × Residues (primeOf w) (now q) × (inverse < primeOf w) ⌝ }
-    ensures { λ r. ⌜ r ≡ resultOf (exactly (primeOf w) inverse (now (e .entry)) n (now (q .entry))) ⌝ }
+    ensures { λ r. ⌜ r ≡ resultOf (exactQuotient (primeOf w) inverse (now (e .entry)) n (now (q .entry))) ⌝ }
 {
     let f = divide(w, n, inverse, e, q);
     let degree = e.len() - 1;
-    if zeros(&q[..degree]) {
+    if all_zero(&q[..degree]) {
         return Tried {
             found: true,
             coefficients: f,
@@ -102,7 +103,7 @@ fn quotient(w: Width, t: usize, degree: usize, numerator: [u32; 12], locator: [u
 {
     let inverse = field::inverse_of(w, locator[degree]);
     let mut rest = numerator;
-    exactly(
+    exact_quotient(
         w,
         t + 1,
         inverse,
@@ -180,7 +181,7 @@ fn admitted(w: Width, t: usize, least: usize, xs: &[u32], ys: &[u32]) -> Fitted
 }
 
 // What decoding by trial answers, by an error locator: for either prime, any distinct points, and whatever is missing.
-pub fn fit(w: Width, t: usize, least: usize, xs: &[u32], ys: &[u32]) -> Fitted
+pub fn located(w: Width, t: usize, least: usize, xs: &[u32], ys: &[u32]) -> Fitted
     requires { ⌜ Points (primeOf w) (now xs) ⌝ }
     ensures { λ r. ⌜ r ≡ fitIn (primeOf w) t least (now (xs .entry)) (now (ys .entry)) ⌝ }
 {

@@ -60,7 +60,7 @@ fn locate_parties(w: Width, n: u8, t: u8, table: [u32; 16], least: usize, values
         (take n table) (now (values .entry))) ⌝ }
 {
     let count = n as usize;
-    locator::fit(w, t as usize, least, &table[..count], values)
+    locator::located(w, t as usize, least, &table[..count], values)
 }
 
 // Whether the set has none but the first n parties.

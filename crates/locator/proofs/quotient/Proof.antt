@@ -8,7 +8,7 @@ use lib.Seq.{length-take-le, getD-take}
 use Rattle.lists.proofs.All.{all-getD}
 use Rattle.field.specs.Modulus.{primeOf}
 use Rattle.trial.specs.Results.{resultOf}
-use Rattle.locator.specs.Quotient.{exactly}
+use Rattle.locator.specs.Quotient.{exactQuotient}
 use borrow.Author.Needs.{needs}
 use Rattle.locator.proofs.quotient.Statement.{statement}
 use Rattle.locator.proofs.quotient.Tie as tie
@@ -28,8 +28,8 @@ inverse-of-requires c κs =
     subst (λ z. z < p) (getD-take (d + 1) e d 0 (omega arith))
     (all-getD (λ c. c < p) (take (d + 1) e) d 0 (omega (arith, length-take-le (d + 1) e (omega arith))) (s .pre .1 .1))
 
-add-exactly : tie.Need-add-exactly
-add-exactly c = search needs
+add-exact-quotient : tie.Need-add-exact-quotient
+add-exact-quotient c = search needs
 
 add-locator : tie.Need-add-locator
 add-locator c = search needs
@@ -37,8 +37,8 @@ add-locator c = search needs
 array-share-prefix-locator : tie.Need-array-share-prefix-locator
 array-share-prefix-locator c = search needs
 
-slice-aggregate-exactly : tie.Need-slice-aggregate-exactly
-slice-aggregate-exactly c = sym (length-take-le _ (c .before .before .args .t5) (omega arith))
+slice-aggregate-exact-quotient : tie.Need-slice-aggregate-exact-quotient
+slice-aggregate-exact-quotient c = sym (length-take-le _ (c .before .before .args .t5) (omega arith))
 
 add-rest : tie.Need-add-rest
 add-rest c = search needs
@@ -49,11 +49,11 @@ add-rest-2 c = search needs
 array-borrow-prefix-rest : tie.Need-array-borrow-prefix-rest
 array-borrow-prefix-rest c = search needs
 
-slice-aggregate-exactly-2 : tie.Need-slice-aggregate-exactly-2
-slice-aggregate-exactly-2 c = sym (length-take-le _ (c .before .before .before .args .numerator) (omega arith))
+slice-aggregate-exact-quotient-2 : tie.Need-slice-aggregate-exact-quotient-2
+slice-aggregate-exact-quotient-2 c = sym (length-take-le _ (c .before .before .before .args .numerator) (omega arith))
 
-exactly-requires : tie.Need-exactly-requires
-exactly-requires c κs =
+exact-quotient-requires : tie.Need-exact-quotient-requires
+exact-quotient-requires c κs =
     let s = c .before .before .before in
     let d = s .args .degree in
     let t = s .args .t in
@@ -64,8 +64,9 @@ exactly-requires c κs =
 returns : tie.Need-returns
 returns c =
     let s = c .before .before .before .before .before .args in
-    c .before .exactly .ensures
-    ∙ ap (λ i. resultOf (exactly (primeOf (s .w)) i (take (s .degree + 1) (s .t5)) (s .t + 1) (take (s .degree + s .t + 1) (s .numerator))))
+    c .before .exact-quotient .ensures
+    ∙ ap
+    (λ i. resultOf (exactQuotient (primeOf (s .w)) i (take (s .degree + 1) (s .t5)) (s .t + 1) (take (s .degree + s .t + 1) (s .numerator))))
     (c .before .before .before .before .inverse-of .ensures .0)
 
 pub quotient-spec : {M : Type 1} → statement M
@@ -75,13 +76,13 @@ quotient-spec =
     mul-inverse-of
     array-read-inverse-of
     inverse-of-requires
-    add-exactly
+    add-exact-quotient
     add-locator
     array-share-prefix-locator
-    slice-aggregate-exactly
+    slice-aggregate-exact-quotient
     add-rest
     add-rest-2
     array-borrow-prefix-rest
-    slice-aggregate-exactly-2
-    exactly-requires
+    slice-aggregate-exact-quotient-2
+    exact-quotient-requires
     returns)

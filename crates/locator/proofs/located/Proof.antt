@@ -1,11 +1,11 @@
--- `locator::fit` meets its contract, that of `fit::fit`.
+-- `locator::located` meets its contract, that of `fit::fit`.
 use borrow.Author.Needs.{needs}
 use mathlib.Core.Path.{sym, _∙_}
 use Rattle.fit.proofs.Admitted.{tests-pass, fit-refused, fit-admitted}
 use Rattle.fit.specs.Admitted.{Admitted}
 use borrow.Author.Needs.{needs}
-use Rattle.locator.proofs.fit.Statement.{statement}
-use Rattle.locator.proofs.fit.Tie as tie
+use Rattle.locator.proofs.located.Statement.{statement}
+use Rattle.locator.proofs.located.Tie as tie
 
 -- What passes the tests is admitted.
 admits : (c : tie.After-enum-told) → let a = c .before .before .before .before .before .args in
@@ -38,8 +38,8 @@ returns c =
 returns-2 : tie.Need-returns-2
 returns-2 c = c .admitted .ensures ∙ sym (fit-admitted _ _ _ _ _ (admits (c .before)))
 
-pub fit-spec : {M : Type 1} → statement M
-fit-spec =
+pub located-spec : {M : Type 1} → statement M
+located-spec =
     tie.close
     (tie.spec
     admission-requires
