@@ -160,8 +160,9 @@ uint8_t doumbaht_open_wide_with(uint8_t n, uint8_t t, const uint32_t *table, siz
 
 /*
  * Opening by an error locator, after Berlekamp and Welch, where the four functions above try one polynomial after the other.
- * Parameters, answers and refusals are those of the function without `_by_locator`, for every list. On nearly every list
- * that one takes less time; docs/PERFORMANCE.md has both.
+ * Parameters, answers and refusals are those of the function without `_by_locator`, for every list. On most lists that one
+ * takes less time; this one takes less stack, tells sooner that too few are lit, and can be quicker where points stand in
+ * a table and lamps are dark. docs/PERFORMANCE.md has both.
  */
 uint8_t doumbaht_open_by_locator(uint8_t n, uint8_t t, const uint16_t *shares, size_t shares_count, uint16_t *opened);
 

@@ -131,29 +131,32 @@ const PAIRS: &[usize] = &[0, 2, 4];
 /// Openings with other lamps dark in each input: the word in the key, n and t, how many are dark, how many of those sent
 /// lie, and that in words. Nine dark of sixteen are the most with which a cubic opens.
 type Unsent = (&'static str, (u8, u8), usize, usize, &'static str);
-const UNSENT: [Unsent; 5] = [
-    ("dark2", (5, 1), 2, 0, "2 dark"),
-    ("dark3", (16, 3), 3, 0, "3 dark"),
-    ("dark9", (16, 3), 9, 0, "9 dark"),
-    FEWEST,
-    ("dark10", (16, 3), 10, 0, "10 dark, refused"),
-];
+const UNSENT: [Unsent; 5] = [("dark2", (5, 1), 2, 0, "2 dark"), ("dark3", (16, 3), 3, 0, "3 dark"), NINE, FEWEST, TEN];
+
+/// As many dark as can be, and one more.
+const NINE: Unsent = ("dark9", (16, 3), 9, 0, "9 dark");
+const TEN: Unsent = ("dark10", (16, 3), 10, 0, "10 dark, refused");
 
 /// As few shares for three lies as can be.
 const FEWEST: Unsent = ("dark6-lies", (16, 3), 6, 3, "6 dark, lies at 3 of those sent");
 
 /// What is opened by locator too, with the inputs of the openings by trial: the word in the key, n and t, the lies.
-const LOCATED: [(&str, (u8, u8), Lies); 9] = [
+const LOCATED: [(&str, (u8, u8), Lies); 10] = [
     ("first", (5, 1), Lies::At(&[0])),
     ("first", (9, 2), Lies::At(&[0, 1])),
     ("none", (16, 3), Lies::At(&[])),
     ("first", (16, 3), Lies::At(&[0, 1, 2])),
     ("apart", (16, 3), Lies::At(&[0, 4, 8])),
+    ("second", (16, 3), Lies::At(&[4, 5, 6])),
     ("pairs", (13, 3), Lies::At(PAIRS)),
     ("random", (13, 3), Lies::Any(3)),
     ("random", (16, 3), Lies::Any(3)),
     ("refused", (16, 3), Lies::At(&[0, 4, 8, 12])),
 ];
+
+/// And with lamps dark.
+const LOCATED_UNSENT: [Unsent; 4] =
+    [("dark2-lies", (9, 2), 2, 2, "2 dark, lies at 2 of those sent"), NINE, FEWEST, TEN];
 
 /// Whether a row of this key has dark lamps.
 pub fn has_unsent(key: &str) -> bool {
@@ -265,10 +268,10 @@ fn locate_rows<N: Library>(count: usize) -> Vec<Box<dyn Bench>> {
     };
     let lying =
         |(key, (n, t), lies)| row(key, (n, t), &lies_named(t, lies), made(count, |rng| shares(rng, n, t, lies)));
-    let mut rows: Vec<_> = LOCATED.map(lying).into();
-    let (key, (n, t), unsent, lies, title) = FEWEST;
-    rows.push(row(key, (n, t), title, made(count, |rng| unsent_shares(rng, n, t, unsent, lies))));
-    rows
+    let dark = |(key, (n, t), unsent, lies, title): Unsent| {
+        row(key, (n, t), title, made(count, |rng| unsent_shares(rng, n, t, unsent, lies)))
+    };
+    LOCATED.into_iter().map(lying).chain(LOCATED_UNSENT.into_iter().map(dark)).collect()
 }
 
 /// The same with the points in a table, each input with another.
@@ -280,10 +283,10 @@ fn tabled_locate_rows<N: Library>(count: usize) -> Vec<Box<dyn Bench>> {
     };
     let lying =
         |(key, (n, t), lies)| row(key, (n, t), &lies_named(t, lies), made(count, |rng| tabled_shares(rng, n, t, lies)));
-    let mut rows: Vec<_> = LOCATED.map(lying).into();
-    let (key, (n, t), unsent, lies, title) = FEWEST;
-    rows.push(row(key, (n, t), title, made(count, |rng| tabled_unsent_shares(rng, n, t, unsent, lies))));
-    rows
+    let dark = |(key, (n, t), unsent, lies, title): Unsent| {
+        row(key, (n, t), title, made(count, |rng| tabled_unsent_shares(rng, n, t, unsent, lies)))
+    };
+    LOCATED.into_iter().map(lying).chain(LOCATED_UNSENT.into_iter().map(dark)).collect()
 }
 
 fn text_rows(count: usize) -> Vec<Box<dyn Bench>> {

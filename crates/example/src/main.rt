@@ -4,6 +4,7 @@
 use dealer::Dealing;
 use lamp::Lamp;
 use lamp::Reply;
+use recovery::Decoder;
 
 fn line(step: &[u8], reply: Reply) {
     let answer = reply.answer;
@@ -58,6 +59,10 @@ fn plain() {
     line(b"open ", without_two);
     let without_three = without_two.lamp.open(&[10, 13, 65535, 65535, 65535]);
     line(b"open ", without_three);
+
+    // An error locator answers the same as trial, for every list.
+    let by_locator = without_three.lamp.open_by(Decoder::Locator, &[10, 13, 999, 19, 22]);
+    line(b"open ", by_locator);
 }
 
 // At the station numbers of a harbour, which the desk and every lamp load: another deal, the same secret.
