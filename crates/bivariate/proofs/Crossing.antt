@@ -22,7 +22,7 @@ module _ (p : ℕ) where
   length-plusTimes : (f : List ℕ) (x : ℕ) (g : List ℕ) → length f ≡ length g → length (plusTimes p f x g) ≡ length f
   length-plusTimes f x g e = length-zipWith (λ c d. add p c (mul p x d)) f g e ∙ sym e
 
-  pub plusTimes-residues : (f : List ℕ) (x : ℕ) (g : List ℕ) → 0 < p → Residues p (plusTimes p f x g)
+  plusTimes-residues : (f : List ℕ) (x : ℕ) (g : List ℕ) → 0 < p → Residues p (plusTimes p f x g)
   unfolding zipWith
   plusTimes-residues [] x g positive = tt
   plusTimes-residues (c ∷ f) x [] positive = tt

@@ -1,6 +1,6 @@
 -- The numbers of a column one by one: each is the value of coefficients that stand n apart.
 --   spaced n F at k   k coefficients of F that stand n apart, the first at place `at`
---   column-two, column-three, column-four   the numbers of a column of so many
+--   column-one, column-two, column-three, column-four   the numbers of a column of so many
 use mathlib.Core.Path.{_≡_, refl, sym, ap, ap₂, _∙_}
 use mathlib.Core.List.{List, [], _∷_, zipWith}
 use Prim.Native.Nat.{ℕ, zero, suc, _+_, _*_, _<_}
@@ -41,6 +41,9 @@ module _ (p : ℕ) (x : ℕ) where
       (omega (arith, front p k n F l)) (omega (arith, length-column p k n (drop n F) x (back p k n F l)))
       ∙ ap₂ (λ c z. add p c (mul p x z)) (getD-take n F v 0 h)
       (entry k n (drop n F) v (back p k n F l) h ∙ ap (λ f. value p f x) (spaced-drop n F v k))
+
+  pub column-one : (F : List ℕ) (v : ℕ) → length F ≡ 1 → v < 1 → value p (getD F v 0 ∷ []) x ≡ getD (column p 1 1 F x) v 0
+  column-one F v l h = sym (entry 1 1 F v l h)
 
   pub column-two : (F : List ℕ) (v : ℕ) → length F ≡ 4 → v < 2
       → value p (getD F v 0 ∷ getD F (v + 2) 0 ∷ []) x ≡ getD (column p 2 2 F x) v 0

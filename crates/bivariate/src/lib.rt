@@ -5,7 +5,7 @@ ghost use lib.ListN.{length, getD};
 ghost use Prim.Native.Nat.{_*_, _≤_, _<_};
 ghost use Rattle.field.specs.Modulus.{primeOf};
 ghost use Rattle.polynomial.specs.Polynomial.{Residues};
-ghost use Rattle.bivariate.specs.Bivariate.{plusTimes, column, rowIn, columnIn};
+ghost use Rattle.bivariate.specs.Bivariate.{column, rowIn, columnIn};
 use field::Width;
 
 // Whether a list of len numbers is n by n: of larger n tested by division, since the product might not fit.
@@ -40,50 +40,9 @@ pub fn row(w: Width, f: &[u32], y: u32, out: &mut [u32])
     }
 }
 
-// part + x out, in the place of out.
-fn plus_times(w: Width, part: &[u32], x: u32, out: &mut [u32])
-    requires { ⌜ (length (now part) ≡ length (now out)) × Residues (primeOf w) (now part) × Residues (primeOf w) (now out) ⌝ }
-    requires { ⌜ x < primeOf w ⌝ }
-    ensures { λ r. ⌜ now (out .exit) ≡ plusTimes (primeOf w) (now (part .entry)) x (now (out .entry)) ⌝ }
-{
-    let mut i = 0;
-    while i < part.len() {
-        out[i] = field::mul_add(w, x, out[i], part[i]);
-        i += 1;
-    }
-}
-
-// The numbers of the part, in the place of out.
-fn copy(part: &[u32], out: &mut [u32])
-    requires { ⌜ length (now part) ≡ length (now out) ⌝ }
-    ensures { λ r. ⌜ now (out .exit) ≡ now (part .entry) ⌝ }
-{
-    let mut i = 0;
-    while i < part.len() {
-        out[i] = part[i];
-        i += 1;
-    }
-}
-
-// The coefficients of F(x, Y), by Horner's rule in X for all of them at once. The top part comes first.
-fn by_parts(w: Width, f: &[u32], x: u32, out: &mut [u32])
-    requires { ⌜ length (now f) ≡ length (now out) * length (now out) ⌝ }
-    requires { ⌜ Residues (primeOf w) (now f) × (x < primeOf w) ⌝ }
-    ensures { λ r. ⌜ now (out .exit) ≡ column (primeOf w) (length (now (out .entry))) (length (now (out .entry))) (now (f .entry)) x ⌝ }
-{
-    let n = out.len();
-    let mut end = f.len() - n;
-    copy(&f[end..], out);
-    while 0 < end {
-        let start = end - n;
-        plus_times(w, &f[start..end], x, out);
-        end = start;
-    }
-}
-
 // The coefficient of Y^v in F(x, Y) of few by few: the value at x of those that stand n apart from place v on.
 fn column_value(w: Width, f: &[u32], n: usize, v: usize, x: u32) -> u32
-    requires { ⌜ (1 < n) × (n ≤ 4) × (length (now f) ≡ n * n) × (v < n) ⌝ }
+    requires { ⌜ (n ≤ 4) × (length (now f) ≡ n * n) × (v < n) ⌝ }
     requires { ⌜ Residues (primeOf w) (now f) × (x < primeOf w) ⌝ }
     ensures { λ r. ⌜ r ≡ getD (column (primeOf w) n n (now (f .entry)) x) v 0 ⌝ }
 {
@@ -95,13 +54,17 @@ fn column_value(w: Width, f: &[u32], n: usize, v: usize, x: u32) -> u32
         let two = polynomial::divided_at_once(w, &[f[v], f[v + 2]], x);
         return two.value;
     }
-    let three = polynomial::divided_at_once(w, &[f[v], f[v + 3], f[v + 6]], x);
-    three.value
+    if n == 3 {
+        let three = polynomial::divided_at_once(w, &[f[v], f[v + 3], f[v + 6]], x);
+        return three.value;
+    }
+    let one = polynomial::divided_at_once(w, &[f[v]], x);
+    one.value
 }
 
 // The coefficients of F(x, Y) of few by few, value by value.
 fn by_values(w: Width, f: &[u32], x: u32, out: &mut [u32])
-    requires { ⌜ (1 < length (now out)) × (length (now out) ≤ 4) × (length (now f) ≡ length (now out) * length (now out)) ⌝ }
+    requires { ⌜ (length (now out) ≤ 4) × (length (now f) ≡ length (now out) * length (now out)) ⌝ }
     requires { ⌜ Residues (primeOf w) (now f) × (x < primeOf w) ⌝ }
     ensures { λ r. ⌜ now (out .exit) ≡ column (primeOf w) (length (now (out .entry))) (length (now (out .entry))) (now (f .entry)) x ⌝ }
 {
@@ -115,16 +78,11 @@ fn by_values(w: Width, f: &[u32], x: u32, out: &mut [u32])
 
 // The coefficients of F(x, Y), written into a lent part as long as the column. F of another size leaves it alone.
 pub fn column(w: Width, f: &[u32], x: u32, out: &mut [u32])
-    requires { ⌜ Residues (primeOf w) (now f) × (x < primeOf w) ⌝ }
+    requires { ⌜ Residues (primeOf w) (now f) × (x < primeOf w) × (length (now out) ≤ 4) ⌝ }
     ensures { λ r. ⌜ now (out .exit) ≡ columnIn (primeOf w) (now (f .entry)) x (now (out .entry)) ⌝ }
 {
-    let n = out.len();
-    if !is_square(f.len(), n) {
+    if !is_square(f.len(), out.len()) {
         return;
     }
-    if 1 < n && n <= 4 {
-        by_values(w, f, x, out);
-        return;
-    }
-    by_parts(w, f, x, out);
+    by_values(w, f, x, out);
 }

@@ -30,26 +30,37 @@ module _ (list part rest : List ℕ) (e : part ≡ list) where
 module _ (p : ℕ) where
   module _ (w : ℕ) (T F : List ℕ) where
     -- ---- `write_deal`: f into the first w numbers, then g into those behind them
-    pub both-written : (i x : ℕ) (out f g : List ℕ) → x ≡ pointAt T i → length F ≡ w * w → length out ≡ 2 * w
-        → f ≡ rowIn p F x (take w out)
-        → g ≡ columnIn p F x (take (length (f ++ drop w out) - w) (drop w (f ++ drop w out)))
-        → putMid w (length (f ++ drop w out) - w) (f ++ drop w out) g ≡ deal p w T F i
-    unfolding deal
-    both-written i x out f g at square size ef eg =
-        let front : length (take w out) ≡ w = length-take-le w out (omega arith) in
-        let behind : length (drop w out) ≡ w = length-drop w out ∙ omega arith in
-        let first : f ≡ row p w w F x =
-        ef ∙ row-in p F x (take w out) (square ∙ ap₂ _*_ (sym front) (sym front)) ∙ ap₂ (λ a b. row p a b F x) front front in
-        let wide : length f ≡ w = ap length first ∙ length-row p w w F x in
-        let part : take (length (f ++ drop w out) - w) (drop w (f ++ drop w out)) ≡ drop w out =
-        lent-rest w (f ++ drop w out) ∙ drop-at f (drop w out) w wide in
-        let second : g ≡ column p w w F x =
-        eg ∙ ap (columnIn p F x) part
-        ∙ column-in p F x (drop w out) (square ∙ ap₂ _*_ (sym behind) (sym behind))
-        ∙ ap₂ (λ a b. column p a b F x) behind behind in
-        put-rest w (f ++ drop w out) g
-        ∙ ap₂ _++_ (take-at f (drop w out) w wide ∙ first) second
-        ∙ ap (λ z. row p w w F z ++ column p w w F z) at
+    module _ (x : ℕ) (out f : List ℕ) (square : length F ≡ w * w) (size : length out ≡ 2 * w) (ef : f ≡ rowIn p F x (take w out)) where
+      row-written : f ≡ row p w w F x
+      row-written =
+          let front : length (take w out) ≡ w = length-take-le w out (omega arith) in
+          ef ∙ row-in p F x (take w out) (square ∙ ap₂ _*_ (sym front) (sym front)) ∙ ap₂ (λ a b. row p a b F x) front front
+
+      row-wide : length f ≡ w
+      row-wide = ap length row-written ∙ length-row p w w F x
+
+      -- What is lent for the column: what stood behind the row's part, w numbers.
+      behind : take (length (f ++ drop w out) - w) (drop w (f ++ drop w out)) ≡ drop w out
+      behind = lent-rest w (f ++ drop w out) ∙ drop-at f (drop w out) w row-wide
+
+      behind-wide : length (drop w out) ≡ w
+      behind-wide = length-drop w out ∙ omega arith
+
+      pub column-room : length (take (length (f ++ drop w out) - w) (drop w (f ++ drop w out))) ≡ w
+      column-room = ap length behind ∙ behind-wide
+
+      pub both-written : (i : ℕ) (g : List ℕ) → x ≡ pointAt T i
+          → g ≡ columnIn p F x (take (length (f ++ drop w out) - w) (drop w (f ++ drop w out)))
+          → putMid w (length (f ++ drop w out) - w) (f ++ drop w out) g ≡ deal p w T F i
+      unfolding deal
+      both-written i g at eg =
+          let second : g ≡ column p w w F x =
+          eg ∙ ap (columnIn p F x) behind
+          ∙ column-in p F x (drop w out) (square ∙ ap₂ _*_ (sym behind-wide) (sym behind-wide))
+          ∙ ap₂ (λ a b. column p a b F x) behind-wide behind-wide in
+          put-rest w (f ++ drop w out) g
+          ∙ ap₂ _++_ (take-at f (drop w out) w row-wide ∙ row-written) second
+          ∙ ap (λ z. row p w w F z ++ column p w w F z) at
 
     -- ---- `write_narrow_deal`: a deal in the front of an array
     module _ (i : ℕ) (part rest : List ℕ) (square : length F ≡ w * w) (e : part ≡ deal p w T F i) where

@@ -61,7 +61,9 @@ fn plain() {
     line(b"open ", without_three);
 
     // An error locator answers the same as trial, for every list.
-    let by_locator = without_three.lamp.open_by(Decoder::Locator, &[10, 13, 999, 19, 22]);
+    let by_locator = without_three
+        .lamp
+        .open_by(Decoder::Locator, &[10, 13, 999, 19, 22]);
     line(b"open ", by_locator);
 }
 

@@ -23,12 +23,12 @@ loop-holds : tie.Need-loop-holds Inv-loop μ-loop
 loop-holds c =
     let s = c .before .before in
     let n = length (s .args .out .now) in
-    zip-start _ _ _ (length-column (primeOf (s .args .w)) n n (s .args .f .now) (s .args .x) (s .pre .0 .2))
+    zip-start _ _ _ (length-column (primeOf (s .args .w)) n n (s .args .f .now) (s .args .x) (s .pre .0 .1))
 
 column-value-requires : tie.Need-column-value-requires Inv-loop μ-loop
 column-value-requires c κs =
     let s = c .before .before .before .before in
-    ((s .pre .0 .0, s .pre .0 .1, s .pre .0 .2, omega arith), s .pre .1)
+    ((s .pre .0 .0, s .pre .0 .1, omega arith), (s .pre .1 .0, omega (arith, s .pre .1 .1)))
 
 mul-out : tie.Need-mul-out Inv-loop μ-loop
 mul-out c = search needs

@@ -1,8 +1,8 @@
--- `bivariate::column` meets its contract: both ways give the column.
+-- `bivariate::column` meets its contract: F of another size leaves the lent part alone, and n by n gives the column.
 use mathlib.Core.Path.{_≡_, sym, _∙_}
 use Prim.Native.Nat.{_*_}
 use lib.ListN.{length}
-use borrow.Author.Tests.{eqb-true, eqb-false, leb-true, not-true, not-false}
+use borrow.Author.Tests.{eqb-true, eqb-false, not-true, not-false}
 use borrow.Author.Needs.{needs}
 use Rattle.bivariate.proofs.Lent.{column-in, column-out}
 use Rattle.bivariate.proofs.column.Statement.{statement}
@@ -21,34 +21,15 @@ square c = eqb-true _ _ (sym (c .before .is-square .ensures) ∙ not-false _ (c 
 
 by-values-requires : tie.Need-by-values-requires
 by-values-requires c κs =
-    let t = c .before .before .before in
-    ((c .before .before .if2 .taken, leb-true _ _ (c .before .if3 .taken), square t), t .before .before .before .before .pre)
+    let t = c .before in
+    let h = t .before .before .before .before .pre in
+    ((h .2, square t), (h .0, h .1))
 
 same-length : tie.Need-same-length
 same-length c = search needs
 
 returns-2 : tie.Need-returns-2
-returns-2 c =
-    c .before .before .by-values .ensures ∙ sym (column-in _ _ _ _ (square (c .before .before .before .before .before .before)))
-
-by-parts-requires : tie.Need-by-parts-requires
-by-parts-requires c κs = let e = c .before .before in (square e, e .before .before .before .before .pre)
-
-same-length-2 : tie.Need-same-length-2
-same-length-2 c = search needs
-
-returns-3 : tie.Need-returns-3
-returns-3 c = c .before .before .by-parts .ensures ∙ sym (column-in _ _ _ _ (square (c .before .before .before .before .before)))
+returns-2 c = c .before .before .by-values .ensures ∙ sym (column-in _ _ _ _ (square (c .before .before .before .before)))
 
 pub column-spec : {M : Type 1} → statement M
-column-spec =
-    tie.close
-    (tie.spec
-    is-square-requires
-    returns
-    by-values-requires
-    same-length
-    returns-2
-    by-parts-requires
-    same-length-2
-    returns-3)
+column-spec = tie.close (tie.spec is-square-requires returns by-values-requires same-length returns-2)

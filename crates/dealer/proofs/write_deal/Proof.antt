@@ -7,7 +7,7 @@ use Rattle.field.specs.Modulus.{primeOf}
 use Rattle.field.proofs.Primes.{positive}
 use Rattle.polynomial.specs.Polynomial.{Residues}
 use Rattle.tables.proofs.Tables.{point-below}
-use Rattle.dealer.proofs.Writing.{both-written}
+use Rattle.dealer.proofs.Writing.{column-room, both-written}
 use borrow.Author.Needs.{needs}
 use Rattle.dealer.proofs.write_deal.Statement.{statement}
 use Rattle.dealer.proofs.write_deal.Tie as tie
@@ -51,7 +51,13 @@ part-column-end : tie.Need-part-column-end
 part-column-end c = search needs
 
 column-requires : tie.Need-column-requires
-column-requires c κs = point (c .before .before .before .before .before)
+column-requires c κs =
+    let r = c .before .before .before in
+    let s = r .before .before .before .before .before .before in
+    let a = s .args in
+    let q = point (r .before .before) in
+    let room = column-room _ (a .terms) (a .table .now) (a .list .now) _ (a .out .now) _ (s .pre .0 .1) (s .pre .0 .2) (r .row .ensures) in
+    (q .0, q .1, omega (arith, s .pre .0 .0, room))
 
 same-length : tie.Need-same-length
 same-length c = search needs
@@ -61,10 +67,8 @@ returns c =
     let r = c .before .before .before .before .before .before in
     let s = r .before .before .before .before .before .before in
     let a = s .args in
-    both-written _ (a .terms) (a .table .now) (a .list .now) (a .i) _ (a .out .now) _ _ (r .before .before .point-at .ensures)
-    (s .pre .0 .1)
-    (s .pre .0 .2)
-    (r .row .ensures)
+    both-written _ (a .terms) (a .table .now) (a .list .now) _ (a .out .now) _ (s .pre .0 .1) (s .pre .0 .2) (r .row .ensures) (a .i) _
+    (r .before .before .point-at .ensures)
     (c .before .before .column .ensures)
 
 pub write-deal-spec : {M : Type 1} → statement M
