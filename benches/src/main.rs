@@ -78,7 +78,7 @@ fn run(plan: &Plan) -> Result<(), String> {
     let misses = measured(&rows, &wide, plan.pace)?;
     let samples = plan.pace.samples;
     say(&format!("\nNanoseconds per call: the median of {samples} samples (tenth to ninetieth percentile)."))?;
-    say(&format!("Misses: {}", if misses.is_empty() { "none" } else { "" }))?;
+    say(if misses.is_empty() { "Misses: none" } else { "Misses:" })?;
     misses.iter().try_for_each(|miss| say(&format!("- {miss}")))?;
     say(&format!("Taken in {} s.", start.elapsed().as_secs()))
 }
