@@ -67,14 +67,14 @@ module _ (p : ℕ) where
       ap₂ _∷_ (sym (ap (add p y) (mul-comm p c (neg p a)) ∙ add-mul-neg p y a c positive))
       (raise-is a c q positive (r .1) ∙ ap (λ z. addProduct p (z ∷ []) q (neg p a ∷ 1 ∷ [])) (sym kept))
 
-  residue-at : (f : List ℕ) → 0 < p → Residues p f → (getD f 0 0 < p) × Residues p (tail f)
-  residue-at [] positive r = (positive, tt)
-  residue-at (c ∷ f) positive r = r
+  residues-apart : (f : List ℕ) → 0 < p → Residues p f → (getD f 0 0 < p) × Residues p (tail f)
+  residues-apart [] positive r = (positive, tt)
+  residues-apart (c ∷ f) positive r = r
 
   pub addProduct-residues : (R F E : List ℕ) → 0 < p → Residues p R → Residues p (addProduct p R F E)
   addProduct-residues R [] E positive r = r
   addProduct-residues R (c ∷ F) E positive r =
-      let (a, b) = residue-at (addTimes p R c E) positive (plus-residues R c E positive) in
+      let (a, b) = residues-apart (addTimes p R c E) positive (plus-residues R c E positive) in
       (a, addProduct-residues (tail (addTimes p R c E)) F E positive b)
 
   product-step : (u x v f E : ℕ) → add p u (mul p x (add p v (mul p f E))) ≡ add p (add p u (mul p x v)) (mul p (mul p x f) E)
@@ -141,7 +141,7 @@ module _ (p : ℕ) where
     division-back R [] r f l = refl
     division-back R (c ∷ F) r f l =
         let S = addTimes p R c E in
-        let (a, s) = residue-at S positive (plus-residues R c E positive) in
+        let (a, s) = residues-apart S positive (plus-residues R c E positive) in
         let short : length (tail S) ≡ b = length-tail S ∙ omega (arith, length-plus R c E) in
         let whole : getD S 0 0 ∷ tail S ≡ S = cons-split S (omega (arith, length-plus R c E)) in
         let rest = division-back (tail S) F s (f .1) short in

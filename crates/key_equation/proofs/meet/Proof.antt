@@ -7,7 +7,6 @@ use lib.ListN.{length, drop}
 use Rattle.field.specs.Modulus.{primeOf}
 use Rattle.key_equation.specs.Solving.{front, off, mixed}
 use Rattle.key_equation.proofs.Loops.{front-size, roomy-short}
-use borrow.Author.Needs.{needs}
 use Rattle.key_equation.proofs.meet.Statement.{statement}
 use Rattle.key_equation.proofs.meet.Tie as tie
 

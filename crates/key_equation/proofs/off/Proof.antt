@@ -4,7 +4,6 @@ use mathlib.Core.Path.{ap₂, _∙_}
 use Prim.Native.Nat.{ℕ}
 use Rattle.field.specs.Arithmetic.{sub, mul}
 use Rattle.field.specs.Modulus.{primeOf}
-use borrow.Author.Needs.{needs}
 use Rattle.key_equation.proofs.off.Statement.{statement}
 use Rattle.key_equation.proofs.off.Tie as tie
 

@@ -13,7 +13,6 @@ use Rattle.field.specs.Modulus.{primeOf}
 use Rattle.key_equation.specs.Solving.{Roomy, Met, Solving}
 use Rattle.field.proofs.Primes.{prime-of}
 use Rattle.key_equation.proofs.Stepping.{bounds, lent-all, first-lower, second-lower}
-use borrow.Author.Needs.{needs}
 use Rattle.key_equation.proofs.step.Statement.{statement}
 use Rattle.key_equation.proofs.step.Tie as tie
 

@@ -3,7 +3,6 @@ use borrow.Author.Needs.{needs}
 use mathlib.Core.Path.{ap, _∙_}
 use Rattle.field.specs.Modulus.{primeOf}
 use Rattle.key_equation.specs.Solving.{mixed}
-use borrow.Author.Needs.{needs}
 use Rattle.key_equation.proofs.take_away.Statement.{statement}
 use Rattle.key_equation.proofs.take_away.Tie as tie
 

@@ -9,7 +9,6 @@ use Rattle.answers.specs.Fits.{decoded}
 use Rattle.fit.specs.Fit.{sent, fit}
 use Rattle.fit.specs.Opening.{needed}
 use Rattle.fit.proofs.Decoding.{fit-too-few}
-use borrow.Author.Needs.{needs}
 use Rattle.locator.proofs.admitted.Statement.{statement}
 use Rattle.locator.proofs.admitted.Tie as tie
 

@@ -21,7 +21,6 @@ use Rattle.fit.proofs.Decoding.{points-sent-all}
 use Rattle.key_equation.specs.Solved.{Solved}
 use Rattle.locator.proofs.Gathered.{gathered-points, gathered-values, array-size, front-all, front-some, tried-through}
 use Rattle.locator.proofs.Answer.{located-fit}
-use borrow.Author.Needs.{needs}
 use Rattle.locator.proofs.by_locator.Statement.{statement}
 use Rattle.locator.proofs.by_locator.Tie as tie
 

@@ -5,7 +5,6 @@ use native.Mathlib.Omega.{arith}
 use lib.ListN.{length}
 use lib.Seq.{length-take-le}
 use Rattle.locator.proofs.Judging.{exactly-not, exactly-found}
-use borrow.Author.Needs.{needs}
 use Rattle.locator.proofs.exact_quotient.Statement.{statement}
 use Rattle.locator.proofs.exact_quotient.Tie as tie
 

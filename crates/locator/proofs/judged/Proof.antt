@@ -9,7 +9,6 @@ use Rattle.lists.proofs.All.{all-getD}
 use Rattle.field.specs.Modulus.{primeOf}
 use Rattle.field.proofs.Primes.{positive}
 use Rattle.locator.proofs.Judging.{judged-high, judged-rest, quotient-fine, judged-few, judged-right}
-use borrow.Author.Needs.{needs}
 use Rattle.locator.proofs.judged.Statement.{statement}
 use Rattle.locator.proofs.judged.Tie as tie
 

@@ -3,7 +3,6 @@ use borrow.Author.Needs.{needs}
 use mathlib.Core.Path.{sym, _∙_}
 use Rattle.fit.proofs.Admitted.{tests-pass, fit-refused, fit-admitted}
 use Rattle.fit.specs.Admitted.{Admitted}
-use borrow.Author.Needs.{needs}
 use Rattle.locator.proofs.located.Statement.{statement}
 use Rattle.locator.proofs.located.Tie as tie
 

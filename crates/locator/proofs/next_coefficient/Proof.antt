@@ -8,7 +8,6 @@ use Rattle.lists.proofs.All.{all-getD}
 use Rattle.field.specs.Modulus.{primeOf}
 use Rattle.field.proofs.Primes.{positive}
 use Rattle.field.proofs.Ring.{add-nothing}
-use borrow.Author.Needs.{needs}
 use Rattle.locator.proofs.next_coefficient.Statement.{statement}
 use Rattle.locator.proofs.next_coefficient.Tie as tie
 

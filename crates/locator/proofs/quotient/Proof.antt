@@ -9,7 +9,6 @@ use Rattle.lists.proofs.All.{all-getD}
 use Rattle.field.specs.Modulus.{primeOf}
 use Rattle.trial.specs.Results.{resultOf}
 use Rattle.locator.specs.Quotient.{exactQuotient}
-use borrow.Author.Needs.{needs}
 use Rattle.locator.proofs.quotient.Statement.{statement}
 use Rattle.locator.proofs.quotient.Tie as tie
 

@@ -4,7 +4,6 @@ use mathlib.Core.Path.{sym, _∙_}
 use native.Mathlib.Omega.{arith}
 use Rattle.parties.proofs.Parties.{sizes-facts}
 use Rattle.recovery.proofs.Fitting.{published-admitted}
-use borrow.Author.Needs.{needs}
 use Rattle.recovery.proofs.located.Statement.{statement}
 use Rattle.recovery.proofs.located.Tie as tie
 
