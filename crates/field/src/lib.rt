@@ -1,6 +1,6 @@
 // Arithmetic modulo either of two primes, on residues of 32 bits, which a processor handles best. Which prime is meant stands in front of
-// the numbers. Five functions choose, `modulus`, `reduced`, `mul_add`, `sum_of_products` and `cubic_sum`; all others are
-// written once. That the numbers are residues is the caller's to show: nothing reduces what is reduced already.
+// the numbers. Beside `width_number` five functions choose, `modulus`, `reduced`, `mul_add`, `sum_of_products` and `cubic_sum`;
+// all others are written once. That the numbers are residues is the caller's to show: nothing reduces what is reduced already.
 ghost use mathlib.Core.Path.{_≡_};
 ghost use mathlib.Core.List.{[], _∷_};
 ghost use Prim.Native.Nat.{_%_, _≤_, _<_, _/_, _+_, _*_};

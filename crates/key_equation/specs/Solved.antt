@@ -1,6 +1,6 @@
 -- What solving gives: the second solution for all points, beside a first one.
 --   Solved p t xs ys r   r holds, in front of its arrays, the numerator and the locator of such a second solution, and the locator's degree
--- Laws: proofs/Locating.
+-- Laws: locator/proofs/Locating.
 use mathlib.Core.List.{List}
 use Prim.Native.Nat.{ℕ, suc, _+_}
 use lib.ListN.{length, take}

@@ -13,7 +13,7 @@
 --   Solutions p t xs ys k a b ..   both
 --   Solving p t xs ys k a ..       both in front of four lists
 --   Roots p xs k l                 l is a multiple of X − x for the first k points
--- Laws: proofs/Mixing, proofs/Solving, proofs/Locating.
+-- Laws: proofs/Mixing, proofs/Solving, locator/proofs/Locating.
 use mathlib.Core.Path.{_≡_}
 use mathlib.Core.Bool.{Bool, true, false}
 use mathlib.Core.List.{List, [], _∷_, _++_, tail}

@@ -1,5 +1,5 @@
 // The key equation of Berlekamp and Welch, Q(x) = y E(x) at each of some points: a numerator Q, and a locator E that is 0 at the wrong
-// ones. Two solutions are brought up point by point, by products alone: nothing is divided.
+// ones. Two solutions are brought up point by point, by products alone: no inverse is taken.
 ghost use mathlib.Core.Path.{_≡_};
 ghost use Prim.Native.Nat.{_+_, _-_, _≤_, _<_};
 ghost use lib.ListN.{length, take};
@@ -77,8 +77,8 @@ fn raise_both(w: Width, x: u32, q: &mut [u32], e: &mut [u32])
     raise(w, x, e);
 }
 
-// As much of the solution (q, e), which is off by d at the point, is taken from (r, f) that this holds there. Nothing is divided: (r, f) is
-// multiplied by d first.
+// As much of the solution (q, e), which is off by d at the point, is taken from (r, f) that this holds there. No inverse is taken: (r, f)
+// is multiplied by d first.
 fn take_away(w: Width, x: u32, y: u32, d: u32, q: &[u32], e: &[u32], r: &mut [u32], f: &mut [u32])
     requires { ⌜ Short (primeOf w) (now q) × Short (primeOf w) (now e) × Short (primeOf w) (now r) × Short (primeOf w) (now f) ⌝ }
     requires { ⌜ (x < primeOf w) × (y < primeOf w) × (d < primeOf w) ⌝ }

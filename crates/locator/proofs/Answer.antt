@@ -28,7 +28,7 @@ use Rattle.locator.specs.Quotient.{product, longDivision, exactQuotient}
 use Rattle.locator.specs.Answer.{ifEnough, quotientOf, locatedBy}
 use Rattle.locator.proofs.Products.{division-size, division-residues}
 use Rattle.locator.proofs.Exact.{answered-exactly, none-not-some, test-passed, enough-sound, enough-found}
-use Rattle.locator.proofs.Exact.{exactly-sound, inverse-top, product-exactly}
+use Rattle.locator.proofs.Exact.{exact-sound, inverse-top, product-exact}
 use Rattle.locator.proofs.Locating.{few-wrong, numerator-is}
 
 -- The code's numbers, and those of the laws.
@@ -72,7 +72,7 @@ module _ (p : ℕ) (P : Prime p) (t need spare : ℕ) (xs ys : List ℕ) (length
       let (low, given) = test-passed (leb b spare) (ifEnough p need xs ys (quotientOf p t b (r .numerator) (r .locator))) f e in
       let (found, enough) = enough-sound p need xs ys (quotientOf p t b (r .numerator) (r .locator)) f given in
       let is : f ≡ longDivision p i E (suc t) Q .0 =
-      exactly-sound p i E (suc t) Q f (sym (quotient-is p t b (r .numerator) (r .locator)) ∙ found) in
+      exact-sound p i E (suc t) Q f (sym (quotient-is p t b (r .numerator) (r .locator)) ∙ found) in
       record {
         poly = subst (Poly p (suc t)) (sym is) (record {
           residues = division-residues p i E some-E (suc t) Q positive;
@@ -129,7 +129,7 @@ module _ (p : ℕ) (P : Prime p) (t need spare : ℕ) (xs ys : List ℕ) (length
         rw (le-leb b spare low)
         (ap (ifEnough p need xs ys)
         (quotient-is p t b (r .numerator) (r .locator)
-        ∙ product-exactly p i E b size-E inverse positive (suc t) Q F (fits .poly) is-product)
+        ∙ product-exact p i E b size-E inverse positive (suc t) Q F (fits .poly) is-product)
         ∙ enough-found p need xs ys F (fits .enough))
 
   pub located-fit : locatedBy p t need spare xs ys b (r .numerator) (r .locator) ≡ fit p t need xs ys
@@ -145,5 +145,6 @@ pub as-by-trial : (p : ℕ) → Prime p → (t spare : ℕ) (xs ys : List ℕ) �
     → (r : Located) → Solved p t px py r
     → locatedBy p t (needed t (2 * t + 1) (sent p ys)) spare xs ys (r .degree) (r .numerator) (r .locator) ≡ openingOf p t xs ys
 as-by-trial p P t spare xs ys lengths points few all px py gathered size-x size-y fine r s =
-    located-fit p P t (needed t (2 * t + 1) (sent p ys)) spare xs ys lengths points all (omega arith) few px py gathered size-x size-y fine r
+    located-fit p P t (needed t (2 * t + 1) (sent p ys)) spare xs ys lengths points all (omega arith) few px py gathered size-x size-y fine
+    r
     s

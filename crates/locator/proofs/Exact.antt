@@ -1,8 +1,8 @@
 -- What is accepted leaves nothing.
 --   none-not-some, test-passed     what is given, and what is given under a test
---   exactly-sound                  what is given is the quotient
---   exactly-product                and times E it is what was divided
---   product-exactly                where F E was divided, F is given
+--   exact-sound                    what is given is the quotient
+--   exact-product                  and times E it is what was divided
+--   product-exact                  where F E was divided, F is given
 --   inverse-top                    the top of a locator has its inverse
 --   enough-sound, enough-found     what is given under the count of the points that agree
 --   answered-exactly               of an answer: times the locator it is the numerator, the locator's degree is at most `spare`, and at
@@ -34,15 +34,15 @@ use Rattle.locator.proofs.Products.{division-back, division-forth, rema
 pub none-not-some : {A : Type 0} (o : Option (List ℕ)) (f : List ℕ) → o ≡ none → o ≡ some f → A
 none-not-some o f e i = absurd (Option·none-ne-some f (sym e ∙ i))
 
-zeros-true : (n : ℕ) → allZero (replicate n 0) ≡ true
-zeros-true zero = refl
-zeros-true (suc n) = zeros-true n
+all-zero-true : (n : ℕ) → allZero (replicate n 0) ≡ true
+all-zero-true zero = refl
+all-zero-true (suc n) = all-zero-true n
 
-zeros-all : (r : List ℕ) → allZero r ≡ true → r ≡ replicate (length r) 0
-zeros-all [] e = refl
-zeros-all (c ∷ r) e =
+all-zero-is : (r : List ℕ) → allZero r ≡ true → r ≡ replicate (length r) 0
+all-zero-is [] e = refl
+all-zero-is (c ∷ r) e =
     let (first, rest) = and-eq-true-iff (eqb c 0) (allZero r) .0 e in
-    ap₂ _∷_ (eqb-true c 0 first) (zeros-all r rest)
+    ap₂ _∷_ (eqb-true c 0 first) (all-zero-is r rest)
 
 -- What is given under a test passed it.
 pub test-passed : (c : Bool) (o : Option (List ℕ)) (f : List ℕ) → cond c o none ≡ some f → (c ≡ true) × (o ≡ some f)
@@ -54,29 +54,29 @@ module _ (p i : ℕ) (E : List ℕ) (n : ℕ) (Q f : List ℕ) (e : exactQuotien
   unfolding exactQuotient
   nothing-remains = test-passed (allZero (longDivision p i E n Q .1)) (some (longDivision p i E n Q .0)) f e .0
 
-  pub exactly-sound : f ≡ longDivision p i E n Q .0
+  pub exact-sound : f ≡ longDivision p i E n Q .0
   unfolding exactQuotient
-  exactly-sound = let same = test-passed (allZero (longDivision p i E n Q .1)) (some (longDivision p i E n Q .0)) f e .1 in cc
+  exact-sound = let same = test-passed (allZero (longDivision p i E n Q .1)) (some (longDivision p i E n Q .0)) f e .1 in cc
 
 module _ (p i : ℕ) (E : List ℕ) (b : ℕ) (size : length E ≡ suc b) (inverse : mul p i (getD E b 0) ≡ 1) (positive : 0 < p) (n : ℕ)
     (Q F : List ℕ) where
-  pub exactly-product : Residues p Q → length Q ≡ n + b → exactQuotient p i E n Q ≡ some F → Q ≡ product p F E
-  exactly-product f l e =
+  pub exact-product : Residues p Q → length Q ≡ n + b → exactQuotient p i E n Q ≡ some F → Q ≡ product p F E
+  exact-product f l e =
       let left : length (longDivision p i E n Q .1) ≡ length E - 1 = remainder-size p i E (omega arith) n Q (omega arith) in
       sym (division-forth p i E b size inverse positive n Q f l)
       ∙ ap₂ (λ r z. addProduct p r z E)
-      (zeros-all (longDivision p i E n Q .1) (nothing-remains p i E n Q F e) ∙ ap (λ m. replicate m 0) left)
-      (sym (exactly-sound p i E n Q F e))
+      (all-zero-is (longDivision p i E n Q .1) (nothing-remains p i E n Q F e) ∙ ap (λ m. replicate m 0) left)
+      (sym (exact-sound p i E n Q F e))
 
-  pub product-exactly : Poly p n F → Q ≡ product p F E → exactQuotient p i E n Q ≡ some F
+  pub product-exact : Poly p n F → Q ≡ product p F E → exactQuotient p i E n Q ≡ some F
   unfolding exactQuotient
-  product-exactly poly e =
+  product-exact poly e =
       let left : length E - 1 ≡ b = omega arith in
       let divided : longDivision p i E n Q ≡ (F, replicate b 0) =
       ap₂ (λ (m : ℕ) (z : List ℕ). longDivision p i E m z) (sym (poly .size)) (e ∙ ap (λ m. addProduct p (replicate m 0) F E) left)
       ∙ division-back p i E b size inverse positive (replicate b 0) F (zeros-residues p b positive)
       (poly .residues) (length-replicate b 0) in
-      ap (λ (o : List ℕ × List ℕ). cond (allZero (o .1)) (some (o .0)) none) divided ∙ ap (λ c. cond c (some F) none) (zeros-true b)
+      ap (λ (o : List ℕ × List ℕ). cond (allZero (o .1)) (some (o .0)) none) divided ∙ ap (λ c. cond c (some F) none) (all-zero-true b)
 
 pub inverse-top : (p : ℕ) → Prime p → (b : ℕ) (e : List ℕ) → Residues p (take (suc b) e) → length (take (suc b) e) ≡ suc b
     → (getD (take (suc b) e) b 0 ≡ 0 → ⊥) → mul p (inv p (getD e b 0)) (getD (take (suc b) e) b 0) ≡ 1
@@ -113,7 +113,7 @@ module _ (p : ℕ) (P : Prime p) (t need spare : ℕ) (xs ys : List ℕ) (b : �
       ap (λ m. mul p i (getD (take m e) b 0)) next
       ∙ inverse-top p P b e (subst (λ m. Residues p (take m e)) next fine-e) (length-take-le (suc b) e (omega arith))
       (λ z. top (sym (getD-take (suc b) e b 0 (omega arith)) ∙ z)) in (
-        exactly-product p i (take (b + 1) e) b (length-take-le (b + 1) e size-e ∙ next) inverse (omega (arith, P .two)) (t + 1)
+        exact-product p i (take (b + 1) e) b (length-take-le (b + 1) e size-e ∙ next) inverse (omega (arith, P .two)) (t + 1)
             (take (b + t + 1) q) f fine-q (length-take-le (b + t + 1) q size-q ∙ omega arith) found,
         leb-true b spare low,
         enough,

@@ -1,7 +1,8 @@
 -- The examples of specs/Examples hold for either prime, by computation, and so by trial.
 --   computed    the numbers given are solutions, and what is made of the second is what opens
---   opened-is   of any such example: its second solution is as solving gives it, and the opening is what opens; opened: so of each
---   quotients   what each division gives: of M4 something remains; of the list before it nothing, but not enough agree, and nothing opens
+--   opened-is   of any such example: its second solution meets what solving promises, and the opening is what opens; opened: so of each
+--   quotients   what each division gives: of M4 something remains; of the list before it nothing, but not enough agree; of the values on
+--               X² nothing, but the locator's degree is too high; none of the three opens
 --   too-few     where fewer are sent than must agree, nothing is solved and nothing opens
 use mathlib.Core.Path.{_≡_, refl, sym, ap, _∙_}
 use mathlib.Core.Bool.{true, false, and-eq-true-iff, false≢true}
@@ -96,15 +97,15 @@ opened-is p P e c =
 -- ---- computed
 pub computed : (w : Width) → All (Computed (primeOf w)) (examples w)
 unfolding tabulate sent pointsSent hits locatedBy exactQuotient zipWith add sub neg mul inv invWithin
-computed Narrow = (refl, (refl, (refl, (refl, (refl, (refl, (refl, tt)))))))
-computed Wide = (refl, (refl, (refl, (refl, (refl, (refl, (refl, tt)))))))
+computed Narrow = (refl, (refl, (refl, (refl, (refl, (refl, (refl, (refl, tt))))))))
+computed Wide = (refl, (refl, (refl, (refl, (refl, (refl, (refl, (refl, tt))))))))
 
 pub opened : (w : Width) → All (Opened (primeOf w)) (examples w)
 opened w = all-of (examples w) (λ e m. opened-is (primeOf w) (prime-of w) e (all-at (Computed (primeOf w)) (examples w) (computed w) e m))
 
 pub quotients : (w : Width) → let line : Option (List ℕ) = some (7 ∷ 3 ∷ []) in
     map (λ e. let r = e .second in quotientOf (primeOf w) (e .t) (r .degree) (r .numerator) (r .locator)) (examples w)
-    ≡ line ∷ line ∷ none ∷ some (0 ∷ 0 ∷ []) ∷ line ∷ line ∷ some (7 ∷ 3 ∷ 2 ∷ 1 ∷ []) ∷ []
+    ≡ line ∷ line ∷ none ∷ some (0 ∷ 0 ∷ []) ∷ line ∷ line ∷ some (neg (primeOf w) 2 ∷ 3 ∷ []) ∷ some (7 ∷ 3 ∷ 2 ∷ 1 ∷ []) ∷ []
 unfolding exactQuotient zipWith add sub neg mul inv invWithin
 quotients Narrow = refl
 quotients Wide = refl

@@ -1,5 +1,5 @@
 -- What is answered for a solution, answer by answer.
---   exactly-..   the quotient, if nothing remains
+--   exact-..     the quotient, if nothing remains
 --   judged-..    a locator of too high a degree, something that remains, too few that agree, and f
 use mathlib.Core.Path.{_≡_, refl, sym, ap, subst, _∙_}
 use mathlib.Core.Bool.{Bool, true, false, cond}
@@ -28,17 +28,17 @@ use Rattle.trial.proofs.Results.{result-found, result-not-found}
 use Rattle.locator.specs.Quotient.{longDivision, allZero, exactQuotient}
 use Rattle.locator.specs.Answer.{ifEnough, quotientOf, locatedBy}
 use Rattle.locator.proofs.Products.{division-size, division-residues}
-use Rattle.locator.proofs.Exact.{exactly-sound}
+use Rattle.locator.proofs.Exact.{exact-sound}
 
 module _ (p i : ℕ) (E : List ℕ) (n : ℕ) (Q : List ℕ) (l : List ℕ) (rest : l ≡ longDivision p i E n Q .1) where
-  pub exactly-not : allZero l ≡ false → resultOf none ≡ resultOf (exactQuotient p i E n Q)
+  pub exact-not : allZero l ≡ false → resultOf none ≡ resultOf (exactQuotient p i E n Q)
   unfolding exactQuotient
-  exactly-not e = ap (λ c. resultOf (cond c (some (longDivision p i E n Q .0)) none)) (sym e ∙ ap allZero rest)
+  exact-not e = ap (λ c. resultOf (cond c (some (longDivision p i E n Q .0)) none)) (sym e ∙ ap allZero rest)
 
-  pub exactly-found : allZero l ≡ true → (f : List ℕ) → f ≡ pad 4 (longDivision p i E n Q .0)
+  pub exact-found : allZero l ≡ true → (f : List ℕ) → f ≡ pad 4 (longDivision p i E n Q .0)
       → _≡_ {A = Tried} (record { found = true; coefficients = f }) (resultOf (exactQuotient p i E n Q))
   unfolding exactQuotient
-  exactly-found e f is =
+  exact-found e f is =
       let struct : List ℕ → Tried = λ g. record { found = true; coefficients = g } in
       ap struct is ∙ ap (λ c. resultOf (cond c (some (longDivision p i E n Q .0)) none)) (sym e ∙ ap allZero rest)
 
@@ -71,7 +71,7 @@ module _ (p t need spare : ℕ) (xs ys : List ℕ) (b : ℕ) (q e : List ℕ) wh
       coefficients-are = ap (λ w. w .coefficients) (is ∙ ap resultOf (quotient .1))
 
       divided : g ≡ longDivision p (inv p (getD e b 0)) (take (b + 1) e) (t + 1) (take (b + t + 1) q) .0
-      divided = exactly-sound p (inv p (getD e b 0)) (take (b + 1) e) (t + 1) (take (b + t + 1) q) g (quotient .1)
+      divided = exact-sound p (inv p (getD e b 0)) (take (b + 1) e) (t + 1) (take (b + t + 1) q) g (quotient .1)
 
       some-e : 0 < length (take (b + 1) e)
       some-e = omega (arith, length-take-le (b + 1) e (omega (arith, room-e)))

@@ -1,10 +1,10 @@
--- Openings by an error locator, to be computed for either prime: the marked lists, those with lamps dark, and others. The values lie on
--- 7 + 3X (t = 1) or on 7 + 3X + 2X² + X³ (t = 3), but for some that are wrong, and some that were not sent, for which the prime stands.
+-- Openings by an error locator, to be computed for either prime: the marked lists, those with lamps dark, and others. Most values lie on
+-- 7 + 3X (t = 1) or on 7 + 3X + 2X² + X³ (t = 3), those of M6 on 0; some are wrong, and for some that were not sent the prime stands.
 --   Example                  a list of values, two solutions, and what opens; example .. makes one
 --   points, need, window     of an example: 1 to n, how many must agree, and the points that are solved for
 --   solves, tests            the tests for `Solves`, and for `Solution` and a number that is not 0
 --   made p e, Computed p e   what is computed of an example; its numbers are solutions, and what is made of the second is what opens
---   Opened p e               the second is as solving gives it, and the opening, by trial, is what opens
+--   Opened p e               the second meets what solving promises, and the opening, by trial, is what opens
 --   examples w, tooFew w     lists that are solved, and lists of which fewer are sent than must agree
 -- Shown true in proofs/Examples.
 use mathlib.Core.Path.{_≡_}
@@ -40,7 +40,7 @@ pub record Example : Type 0 where
 abbrev inArrays : ℕ → List ℕ → List ℕ → Located
 inArrays d Q E = record { numerator = pad 12 Q; locator = pad 8 E; degree = d }
 
--- The same of its numbers.
+-- An example of its numbers: t, spare, the values; a, Q and E of the first solution; b, Q and E of the second; what opens.
 abbrev example : ℕ → ℕ → List ℕ → ℕ → List ℕ → List ℕ → ℕ → List ℕ → List ℕ → Option (List ℕ) → Example
 example t s ys a Q1 E1 b Q2 E2 o = record { t = t; spare = s; ys = ys; first = inArrays a Q1 E1; second = inArrays b Q2 E2; opens = o }
 
@@ -86,7 +86,7 @@ module _ (p : ℕ) where
   abbrev pub Computed : Example → Type 0
   Computed e = made e ≡ (replicate 4 true, replicate 6 true, replicate 6 true, e .opens)
 
-  -- The second solution is as solving gives it, and the opening, which is defined by trial, is what opens.
+  -- The second solution meets what solving promises (`Solved`), and the opening, which is defined by trial, is what opens.
   abbrev pub Opened : Example → Type 0
   Opened e =
       Solved p (e .t) (xsOf (window e)) (ysOf (window e)) (e .second) × (openingOf p (e .t) (points e) (e .ys) ≡ e .opens)
@@ -95,7 +95,7 @@ module _ (p : ℕ) where
 abbrev cubic : List ℕ
 cubic = 999 ∷ 29 ∷ 61 ∷ 115 ∷ 999 ∷ 313 ∷ 469 ∷ 671 ∷ 999 ∷ 1237 ∷ 1613 ∷ 2059 ∷ 2581 ∷ 3185 ∷ 3877 ∷ 4663 ∷ []
 
--- These are located by 61292 (X − 1)(X − 5)(X − 9), or else by 80176359 times that.
+-- These are located by c (X − 1)(X − 5)(X − 9), where c is 61292 for the narrow prime and 80176359 for the wide one.
 abbrev threeWrong : Width → Example
 threeWrong Narrow =
     example 3 3 cubic 7 (35291 ∷ 59120 ∷ 61412 ∷ 65509 ∷ 21658 ∷ 14517 ∷ 547 ∷ 14453 ∷ []) (42821 ∷ 22841 ∷ 49194 ∷ 54499 ∷ []) 3
@@ -116,7 +116,7 @@ module _ (w : Width) where
   thirdWrong ys = example 1 1 (10 ∷ 13 ∷ 999 ∷ ys) 3 (7920 ∷ neg p 13752 ∷ 6875 ∷ neg p 983 ∷ []) (8 ∷ neg p 2 ∷ []) 1
 
   -- M3, located by − 5898 (X − 3); the same, but the last is wrong too; M4; M6; two lamps dark; one dark and one wrong, located by
-  -- − 11760 (X − 4); three wrong.
+  -- − 11760 (X − 4); values on X², whose locator (X − 3)(X − 4) is of too high a degree; three wrong.
   abbrev pub examples : List Example
   examples =
       thirdWrong (19 ∷ 22 ∷ []) (123858 % p ∷ 11796 ∷ neg p 17694 ∷ []) (17694 ∷ neg p 5898 ∷ []) (some (7 ∷ 3 ∷ []))
@@ -126,6 +126,8 @@ module _ (w : Width) where
       ∷ example 1 0 (10 ∷ 13 ∷ p ∷ p ∷ 22 ∷ []) 2 (2 ∷ neg p 3 ∷ 1 ∷ []) (0 ∷ []) 0 (7 ∷ 3 ∷ []) (1 ∷ []) (some (7 ∷ 3 ∷ []))
       ∷ example 1 1 (10 ∷ 13 ∷ p ∷ 999 ∷ 22 ∷ []) 3 (10010 ∷ neg p 16612 ∷ 7822 ∷ neg p 980 ∷ []) (30 ∷ neg p 6 ∷ []) 1
       (329280 % p ∷ 58800 ∷ neg p 35280 ∷ []) (47040 ∷ neg p 11760 ∷ []) (some (7 ∷ 3 ∷ []))
+      ∷ example 1 1 (1 ∷ 4 ∷ 9 ∷ 16 ∷ 25 ∷ []) 2 (0 ∷ 0 ∷ neg p 2 ∷ []) (neg p 2 ∷ []) 2 (neg p 24 ∷ 50 ∷ neg p 23 ∷ 3 ∷ [])
+      (12 ∷ neg p 7 ∷ 1 ∷ []) none
       ∷ threeWrong w
       ∷ []
 

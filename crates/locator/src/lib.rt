@@ -1,6 +1,7 @@
 // Decoding by an error locator, after Berlekamp and Welch: a numerator Q and a locator E with Q(x) = y E(x) at each point solved for. Where
 // a polynomial f fits, E is 0 at every wrong one of these and Q is f E: Q divided by E is f. No polynomials are tried
-// one after the other: of the first points sent one is looked at, and where it does not go through them, the rest is solved for.
+// one after the other: only the one through the first t + 1 points sent is looked at, and where it misses a point, solving goes on from
+// there.
 ghost use mathlib.Core.Path.{_≡_};
 ghost use Prim.Native.Nat.{_+_, _*_, _-_, _≤_, _<_};
 ghost use lib.ListN.{length, take};

@@ -4,7 +4,7 @@ use mathlib.Core.Path.{sym, _∙_}
 use native.Mathlib.Omega.{arith}
 use lib.ListN.{length}
 use lib.Seq.{length-take-le}
-use Rattle.locator.proofs.Judging.{exactly-not, exactly-found}
+use Rattle.locator.proofs.Judging.{exact-not, exact-found}
 use Rattle.locator.proofs.exact_quotient.Statement.{statement}
 use Rattle.locator.proofs.exact_quotient.Tie as tie
 
@@ -29,7 +29,7 @@ same-length c = search needs
 returns : tie.Need-returns
 returns c =
     let e = c .before .before .before .before .before .divide .ensures in
-    exactly-found _ _ _ _ _ _ (e .1) (sym (c .before .all-zero .ensures) ∙ c .if1 .taken) _ (e .0)
+    exact-found _ _ _ _ _ _ (e .1) (sym (c .before .all-zero .ensures) ∙ c .if1 .taken) _ (e .0)
 
 nothing-requires : tie.Need-nothing-requires
 nothing-requires c κs = search needs
@@ -40,7 +40,7 @@ same-length-2 c = search needs
 returns-2 : tie.Need-returns-2
 returns-2 c =
     let e = c .before .before .before .before .before .before .divide .ensures in
-    c .nothing .ensures ∙ exactly-not _ _ _ _ _ _ (e .1) (sym (c .before .before .all-zero .ensures) ∙ c .before .if1 .left)
+    c .nothing .ensures ∙ exact-not _ _ _ _ _ _ (e .1) (sym (c .before .before .all-zero .ensures) ∙ c .before .if1 .left)
 
 pub exact-quotient-spec : {M : Type 1} → statement M
 exact-quotient-spec =

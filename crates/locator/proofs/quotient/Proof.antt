@@ -65,7 +65,8 @@ returns c =
     let s = c .before .before .before .before .before .args in
     c .before .exact-quotient .ensures
     ∙ ap
-    (λ i. resultOf (exactQuotient (primeOf (s .w)) i (take (s .degree + 1) (s .t5)) (s .t + 1) (take (s .degree + s .t + 1) (s .numerator))))
+    (λ i.
+    resultOf (exactQuotient (primeOf (s .w)) i (take (s .degree + 1) (s .t5)) (s .t + 1) (take (s .degree + s .t + 1) (s .numerator))))
     (c .before .before .before .before .inverse-of .ensures .0)
 
 pub quotient-spec : {M : Type 1} → statement M
