@@ -1,1 +1,2 @@
 // The demands on the whole protocol, and their proofs: no code.
+#![tactic(auto)]

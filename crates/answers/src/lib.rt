@@ -1,4 +1,6 @@
 // What the calls answer: why one is refused, what a lamp's call gives, what decoding found, and the stages of a lamp.
+#![tactic(auto)]
+
 ghost use Rattle.std.specs.Prelude.{◌≡◌};
 ghost use Rattle.lists.specs.Options.{or_zero};
 ghost use Rattle.answers.specs.Refusals.{refusal_number, also};
@@ -6,7 +8,7 @@ ghost use Rattle.answers.specs.Answers.{number_of, stage_number};
 ghost use Rattle.answers.specs.Fits.{refused_fit};
 
 // Why a call is refused; the protocol's number of each is `refusal_number` in the definitions.
-#[derive(Drop)]
+#[derive(Clone, Copy)]
 pub enum Refusal {
     WrongSize,
     WrongNumber,
@@ -23,13 +25,13 @@ pub enum Refusal {
 }
 
 // Whether a call is admitted.
-#[derive(Drop)]
+#[derive(Clone, Copy)]
 pub enum Admission {
     Pass,
     Fail(Refusal),
 }
 
-#[derive(Drop)]
+#[derive(Clone, Copy)]
 pub enum Stage {
     Waiting,
     Dealt,
@@ -39,7 +41,7 @@ pub enum Stage {
 }
 
 // What a lamp's call answers.
-#[derive(Drop)]
+#[derive(Clone, Copy)]
 pub enum Answer {
     Done,
     Pair(u32, u32),
@@ -50,14 +52,14 @@ pub enum Answer {
 }
 
 // What a call that writes into a lent buffer answers: how many bytes it wrote, or why none.
-#[derive(Drop)]
+#[derive(Clone, Copy)]
 pub enum Writing {
     Written(usize),
     Refused(Refusal),
 }
 
 // Whether a polynomial that fits was found, none fits, or there was nothing to decode.
-#[derive(Drop)]
+#[derive(Clone, Copy)]
 pub enum Decoding {
     Found,
     Nothing,
@@ -66,7 +68,7 @@ pub enum Decoding {
 
 // What a fit answers, with the coefficients found, the constant first, and 0 behind them. These stand in front: then the struct is copied
 // in parts as they were written, and the processor does not wait.
-#[derive(Drop)]
+#[derive(Clone, Copy)]
 pub struct Fitted {
     pub coefficients: [u32; 4],
     pub outcome: Decoding,

@@ -1,5 +1,7 @@
 // Lent lists copied into arrays of 32-bit numbers, in which all is computed: numbers of 16 bits become wide on the way, and a list of
 // residues below 65,536 is written back as numbers of 16 bits.
+#![tactic(auto)]
+
 ghost use Rattle.std.specs.Prelude.{◌≡◌, ◌≤◌, ◌<◌, length};
 ghost use Rattle.lists.specs.All.{All};
 ghost use Rattle.lists.specs.Tabulate.{pad};

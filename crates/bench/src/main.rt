@@ -1,4 +1,6 @@
 // Reads a record from standard input, runs each lamp on it, and writes its text to standard output.
+#![tactic(auto)]
+
 use libc::{STDIN_FILENO, STDOUT_FILENO};
 
 // The longest record has 2,674 bytes. Of longer input more than that is read, so that a legal record never stands for it.

@@ -1,4 +1,6 @@
 // Polynomials in two variables: rows and columns, written into a lent part.
+#![tactic(auto)]
+
 ghost use Rattle.std.specs.Prelude.{◌≡◌, eqb, length, get_or, ◌*◌, ◌≤◌, ◌<◌};
 ghost use Rattle.field.specs.Modulus.{prime_of};
 ghost use Rattle.polynomial.specs.Polynomial.{Residues};

@@ -6,6 +6,8 @@
 // the desk with a table: behind the room stand how many numbers the table has, these, and the dealer's list. 9 opens by an error locator.
 // A wide call, of those that are lent numbers of the field, has 128 added to its kind, and its numbers have 32 bits. An unknown kind, a
 // count that its kind does not take, more than 200 numbers or as much room, and a call cut short end the input.
+#![tactic(auto)]
+
 mod wide;
 
 ghost use Rattle.std.specs.Prelude.{◌≤◌};
@@ -15,7 +17,7 @@ use libc::STDIN_FILENO;
 use recovery::Decoder;
 
 // The lamp after a call, and whether there was one whose line is written.
-#[derive(Drop)]
+#[derive(Clone, Copy)]
 pub struct Turn {
     lamp: Lamp,
     called: bool,

@@ -1,4 +1,6 @@
 // Writes the text of each record whose file its arguments name, under a line with the name.
+#![tactic(auto)]
+
 use libc::STDOUT_FILENO;
 
 fn put(text: &[u8]) -> bool {

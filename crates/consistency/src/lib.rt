@@ -1,4 +1,6 @@
 // What a party makes of its deal and of the pairs that it hears: whether the deal is sound, its pair for another party, its report.
+#![tactic(auto)]
+
 ghost use Rattle.std.specs.Prelude.{◌≡◌, true, ◌≤◌, ◌<◌, length};
 ghost use Rattle.field.specs.Modulus.{prime_of};
 ghost use Rattle.polynomial.specs.Polynomial.{Residues, value};
@@ -10,7 +12,7 @@ use field::Width;
 pub const NO_REPORT: u16 = 65535;
 
 // What a party says to another: the row and the column at the other's point.
-#[derive(Drop)]
+#[derive(Clone, Copy)]
 pub struct Pair {
     pub first: u32,
     pub second: u32,

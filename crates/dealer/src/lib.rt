@@ -1,5 +1,7 @@
 // The dealing desk: checks the dealer's list and writes each party's deal into its own part of the lent list. It deals numbers of 16 bits
 // or of 32: lent lists of the former are copied into arrays of the latter, in which all is computed.
+#![tactic(auto)]
+
 ghost use Rattle.std.specs.Prelude.{◌≡◌, ◌*◌, ◌≤◌, length};
 ghost use Rattle.field.specs.Modulus.{modulus, wide_modulus, prime_of};
 ghost use Rattle.polynomial.specs.Polynomial.{Residues};
@@ -11,7 +13,7 @@ use answers::{Admission, Refusal, also};
 use field::Width;
 
 // What the desk answers.
-#[derive(Drop)]
+#[derive(Clone, Copy)]
 pub enum Dealing {
     Written,
     Refused(Refusal),

@@ -1,6 +1,8 @@
 // Five lamps of which one may be faulty: the desk deals 7 + 3X + 2Y + 4XY, and lamp 1 goes from its making to an opening in which
 // lamp 3 publishes a wrong share, and to others with lamps dark; first at the points 1 to 5, then at the station numbers of a harbour,
 // then with another secret and numbers of 32 bits. Each step writes a line: what it answered.
+#![tactic(auto)]
+
 use dealer::Dealing;
 use lamp::{Lamp, Reply};
 use recovery::Decoder;

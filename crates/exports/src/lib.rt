@@ -1,6 +1,8 @@
 // The library for other languages: functions on numbers and lists, marked for C. Every argument is taken. Dealing, repair and opening
 // answer 0, or the protocol's number of the refusal, and write where they answer 0 alone. Each has a form for numbers of 16 bits and one
 // for numbers of 32, `_wide`; lists of the former are copied into arrays once their lengths are known.
+#![tactic(auto)]
+
 mod columns;
 mod locating;
 mod openings;

@@ -1,6 +1,8 @@
 // Arithmetic modulo either of two primes, on residues of 32 bits, which a processor handles best. Which prime is meant stands in front of
 // the numbers. Beside `width_number` six functions choose, `modulus`, `reduced`, `mul_add`, `sum_of_products`, `cubic_sum` and `next_sum`;
 // all others are written once. That the numbers are residues is the caller's to show: nothing reduces what is reduced already.
+#![tactic(auto)]
+
 ghost use Rattle.std.specs.Prelude.{◌≡◌, [], ◌∷◌, ℕ, suc, ◌%◌, ◌≤◌, ◌<◌, ◌/◌, ◌+◌, ◌*◌, eqb};
 ghost use Rattle.lists.specs.All.{All};
 ghost use Rattle.field.specs.Arithmetic.{add, sub, mul, inv, cubic_value, cubic_scheme};
@@ -9,7 +11,7 @@ ghost use Rattle.field.specs.Modulus.{prime_of, wide_modulus, width_number, same
 ghost use Rattle.field.specs.Sums.{sum_below};
 
 // Numbers of 16 bits modulo 65,521, or of 32 bits modulo 2,147,483,647.
-#[derive(Drop)]
+#[derive(Clone, Copy)]
 pub enum Width {
     Narrow,
     Wide,

@@ -1,4 +1,6 @@
 // Decoding: the polynomial of degree at most t that agrees with enough of the points.
+#![tactic(auto)]
+
 mod pairs;
 
 ghost use Rattle.std.specs.Prelude.{◌≡◌, ◌&&◌, ◌+◌, ◌*◌, ◌≤◌, ◌<◌, ltb, eqb, length, take};

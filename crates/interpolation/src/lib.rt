@@ -1,5 +1,7 @@
 // Interpolation after Newton, through at most four points, each way written out: no list is written and read again. All numbers are
 // residues.
+#![tactic(auto)]
+
 ghost use Rattle.std.specs.Prelude.{◌≡◌, [], ◌∷◌, ◌≤◌, ◌<◌, length, take};
 ghost use Rattle.lists.specs.Tabulate.{pad};
 ghost use Rattle.field.specs.Modulus.{prime_of};

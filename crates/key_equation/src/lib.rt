@@ -1,5 +1,7 @@
 // The key equation of Berlekamp and Welch, Q(x) = y E(x) at each of some points: a numerator Q, and a locator E that is 0 at the wrong
 // ones. Two solutions are brought up point by point, by products alone: no inverse is taken.
+#![tactic(auto)]
+
 ghost use Rattle.std.specs.Prelude.{◌≡◌, ◌+◌, ◌-◌, ◌≤◌, ◌<◌, length, take};
 ghost use Rattle.lists.specs.Tabulate.{pad};
 ghost use Rattle.field.specs.Modulus.{prime_of};
@@ -11,7 +13,7 @@ ghost use Rattle.key_equation.specs.Solved.{Solved};
 use field::Width;
 
 // The second solution: a numerator, and a locator of such a degree.
-#[derive(Drop)]
+#[derive(Clone, Copy)]
 pub struct Located {
     pub numerator: [u32; 12],
     pub locator: [u32; 8],

@@ -1,4 +1,6 @@
 // A lamp, one party's end of the protocol: its state goes into each call by value and comes back with the answer.
+#![tactic(auto)]
+
 mod admission;
 mod dealing;
 mod made;
@@ -22,7 +24,7 @@ use reporting::{heard, heard_wide};
 use settling::settled;
 
 // Who a lamp is: its numbers have 16 bits or 32, and the first n of the table are the parties' points.
-#[derive(Drop)]
+#[derive(Clone, Copy)]
 pub struct Party {
     pub table: [u32; 16],
     pub n: u8,
@@ -33,7 +35,7 @@ pub struct Party {
 
 // What it has of one sharing: row and column as dealt, with zeros behind them; the first number heard from each party; the report
 // given out.
-#[derive(Drop)]
+#[derive(Clone, Copy)]
 pub struct Sharing {
     pub row: [u32; 4],
     pub column: [u32; 4],
@@ -44,13 +46,13 @@ pub struct Sharing {
     pub stage: Stage,
 }
 
-#[derive(Drop)]
+#[derive(Clone, Copy)]
 pub struct Lamp {
     pub party: Party,
     pub sharing: Sharing,
 }
 
-#[derive(Drop)]
+#[derive(Clone, Copy)]
 pub struct Reply {
     pub lamp: Lamp,
     pub answer: Answer,

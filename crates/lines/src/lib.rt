@@ -1,6 +1,8 @@
 // The lines of a record's text, each from numbers alone, put into a buffer that the caller lends. A word that has no room is left out, as
 // in `text`.
 // Where a line may say a refusal, 0 stands for none.
+#![tactic(auto)]
+
 ghost use Rattle.std.specs.Prelude.{◌≡◌};
 ghost use Rattle.text.specs.Letters.{puts};
 ghost use Rattle.lines.specs.Lines.{size_words, name, names, happy_words, verdict_words};

@@ -2,6 +2,8 @@
 // a polynomial f fits, E is 0 at every wrong one of these and Q is f E: Q divided by E is f. No polynomials are tried
 // one after the other: only the one through the first t + 1 points sent is looked at, and where it misses a point, solving goes on from
 // there.
+#![tactic(auto)]
+
 ghost use Rattle.std.specs.Prelude.{◌≡◌, ◌+◌, ◌*◌, ◌-◌, ◌≤◌, ◌<◌, length, take};
 ghost use Rattle.lists.specs.Tabulate.{pad};
 ghost use Rattle.field.specs.Modulus.{prime_of};

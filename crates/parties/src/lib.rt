@@ -1,4 +1,6 @@
 // The parties of a sharing: how many there may be, and their numbers.
+#![tactic(auto)]
+
 ghost use Rattle.std.specs.Prelude.{◌≡◌};
 ghost use Rattle.field.specs.Modulus.{prime_of};
 ghost use Rattle.parties.specs.Parties.{sizes, is_party, not_sent};

@@ -1,4 +1,6 @@
 // Polynomials modulo either prime of the field: lists of coefficients, the constant first.
+#![tactic(auto)]
+
 ghost use Rattle.std.specs.Prelude.{◌≡◌, ℕ, ◌≤◌, ◌<◌, length, get_or};
 ghost use Rattle.lists.specs.Tabulate.{pad};
 ghost use Rattle.field.specs.Modulus.{prime_of};
@@ -7,14 +9,14 @@ ghost use Rattle.polynomial.specs.Polynomial.{Residues, residues, scheme_of, sch
 use field::Width;
 
 // Horner's scheme of a polynomial at a point x: its value there, and its quotient by X − x with 0 behind the coefficients.
-#[derive(Drop)]
+#[derive(Clone, Copy)]
 pub struct Scheme {
     pub value: u32,
     pub quotient: [u32; 11],
 }
 
 // The schemes of two polynomials at one point.
-#[derive(Drop)]
+#[derive(Clone, Copy)]
 pub struct SchemePair {
     pub first: Scheme,
     pub second: Scheme,

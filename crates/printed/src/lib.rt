@@ -1,1 +1,2 @@
 // What is printed of a record, by demand 3. It has no functions.
+#![tactic(auto)]

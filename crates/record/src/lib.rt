@@ -1,4 +1,6 @@
 // The record's reader: whether bytes are a record, its sections as parts of the caller's bytes, and their numbers of two bytes or of four.
+#![tactic(auto)]
+
 ghost use Rattle.std.specs.Prelude.{◌≡◌, true, ◌+◌, ◌*◌, ◌-◌, ◌≤◌, length, get_or};
 ghost use Rattle.parties.specs.Parties.{sizes};
 ghost use Rattle.record.specs.Bytes.{number_at, numbers, number_in, wide_number_at, wide_numbers, wide_number_in, number_bytes};
@@ -9,7 +11,7 @@ use answers::Refusal;
 use field::Width;
 
 // What the reader answers: the width of the record's numbers, its n and its t, or why it is refused.
-#[derive(Drop)]
+#[derive(Clone, Copy)]
 pub enum Reading {
     Fine(Width, u8, u8),
     Refused(Refusal),

@@ -1,4 +1,6 @@
 // What is fitted to the parties' points: the column repaired from what the happy parties said, and the opening of published shares.
+#![tactic(auto)]
+
 ghost use Rattle.std.specs.Prelude.{◌≡◌, true, ◌+◌, ◌*◌, ◌-◌, ◌≤◌, ◌<◌, ◌^◌, ltb, length, take, set};
 ghost use Rattle.lists.specs.Choices.{hide};
 ghost use Rattle.lists.specs.Masks.{bit};
@@ -15,7 +17,7 @@ use answers::{Fitted, Refusal};
 use field::Width;
 
 // How a polynomial is found: through some points after the other, or by an error locator. The answers are the same.
-#[derive(Drop)]
+#[derive(Clone, Copy)]
 pub enum Decoder {
     Trial,
     Locator,

@@ -1,4 +1,6 @@
 // What a call answers and what the lamp holds after it, as words on standard output.
+#![tactic(auto)]
+
 use answers::Answer;
 use dealer::Dealing;
 use lamp::Lamp;

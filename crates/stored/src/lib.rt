@@ -1,4 +1,6 @@
 // A share as it is stored between runs: six bytes, which carry the share's prime; and the two bytes of an old share, read as narrow.
+#![tactic(auto)]
+
 ghost use Rattle.std.specs.Prelude.{◌≡◌, ◌%◌};
 ghost use Rattle.stored.specs.Stored.{width_named, write_share, share_of, read_share, old_share};
 
@@ -6,7 +8,7 @@ use answers::{Refusal, Writing};
 use field::Width;
 
 // What stored bytes say: a share with its prime, or why they are none.
-#[derive(Drop)]
+#[derive(Clone, Copy)]
 pub enum Stored {
     Share(Width, u32),
     Refused(Refusal),

@@ -1,4 +1,6 @@
 // The parties' points: the table that is loaded, or 1 to n.
+#![tactic(auto)]
+
 ghost use Rattle.std.specs.Prelude.{◌≡◌, cond, suc, ◌<◌, ltb, length, get_or};
 ghost use Rattle.field.specs.Modulus.{prime_of};
 ghost use Rattle.tables.specs.Tables.{point_at, one_to, absent, is_table, in_array};

@@ -1,4 +1,6 @@
 // Text in a buffer that the caller lends: words, numbers and lines, each from a place on. A piece that has no room there is left out.
+#![tactic(auto)]
+
 ghost use Rattle.std.specs.Prelude.{◌≡◌, [], ◌∷◌, ◌≤◌};
 ghost use Rattle.text.specs.Letters.{five, ten, zeros, decimal, letters, putting, puts};
 

@@ -1,5 +1,7 @@
 // What a party says and reports, marked for C, for the benches alone: the library for other languages has both inside the text of a
 // record, and its header need not grow for them to be timed. Every argument is taken.
+#![tactic(auto)]
+
 ghost use Rattle.std.specs.Prelude.{◌≡◌};
 ghost use Rattle.field.specs.Modulus.{prime_of};
 ghost use Rattle.timing.specs.Timing.{width_for, admitted, pairing, reporting};

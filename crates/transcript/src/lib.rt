@@ -1,4 +1,6 @@
 // The text of a record: its verdict, what each lamp answers when it is run on the record, and what is opened.
+#![tactic(auto)]
+
 ghost use Rattle.std.specs.Prelude.{◌≡◌, [], ◌∷◌, ◌+◌, ◌≤◌, length, take, drop};
 ghost use Rattle.field.specs.Modulus.{prime_of};
 ghost use Rattle.answers.specs.Fits.{decoded};

@@ -1,5 +1,7 @@
 // Decoding by trial: polynomials through some of the points, one after the other, until one agrees with at least `need` of all points.
 // Points, and what is tried, are residues; a value may be any number, and one that is no residue was not sent.
+#![tactic(auto)]
+
 ghost use Rattle.std.specs.Prelude.{◌≡◌, [], ◌∷◌, ◌≤◌, ◌<◌, leb, length, take};
 ghost use Rattle.std.proofs.Math.Option.{none};
 ghost use Rattle.field.specs.Modulus.{prime_of};
@@ -11,7 +13,7 @@ ghost use Rattle.trial.specs.Search.{found, Searching};
 use field::Width;
 
 // Whether a polynomial was found, and its coefficients, the constant first, with 0 behind them; they stand in front, as in `Fitted`.
-#[derive(Drop)]
+#[derive(Clone, Copy)]
 pub struct Tried {
     pub coefficients: [u32; 4],
     pub found: bool,

@@ -1,5 +1,7 @@
 // The record's writer: a record from its sizes and its four lists, over the front of the caller's buffer, with numbers of two bytes or of
 // four.
+#![tactic(auto)]
+
 ghost use Rattle.std.specs.Prelude.{◌≡◌, true, ◌∷◌, ◌++◌, ◌+◌, ◌*◌, ◌/◌, ◌%◌, ◌≤◌, length, take, drop};
 ghost use Rattle.field.specs.declared.Width.TheVariants.{Narrow, Wide};
 ghost use Rattle.parties.specs.Parties.{sizes};

@@ -4,20 +4,25 @@ use borrow.Author.Rules.{rules}
 use Rattle.answers.proofs.also.Statement.{statement}
 use Rattle.answers.proofs.also.Tie as tie
 
-enum-known-earlier : tie.Need-enum-known-earlier
-enum-known-earlier c = search rules
+enum_known-earlier : tie.Need-enum_known-earlier
+enum_known-earlier c = search rules
 
-enum_told : tie.Need-enum-told
-enum_told c = search rules
+enum_told-1 : tie.Need-enum_told-1
+enum_told-1 c = search rules
 
-returns : tie.Need-returns
-returns c = search rules
+returns-then-pass : tie.Need-returns-then-pass
+returns-then-pass c = search rules
 
-returns-2 : tie.Need-returns-2
-returns-2 c = also-failed _ _ _ _ c.before.earlier.given.1
+returns-in-Fail : tie.Need-returns-in-Fail
+returns-in-Fail c = also-failed _ _ _ _ c.in-Fail.is
 
-returns-3 : tie.Need-returns-3
-returns-3 c = also-fails _ _ _ c.before.enum_told.given.1 c.if1.false
+returns-else-pass : tie.Need-returns-else-pass
+returns-else-pass c = also-fails _ _ _ c.in-Pass.is c.if-pass.false
 
-pub also-spec : {M : Type 1} → statement M
-also-spec = tie.close (tie.spec enum-known-earlier enum_told returns returns-2 returns-3)
+pub also_spec : {M : Type 1} → statement M
+also_spec = tie.close (tie.spec
+    enum_known-earlier
+    enum_told-1
+    returns-then-pass
+    returns-in-Fail
+    returns-else-pass)

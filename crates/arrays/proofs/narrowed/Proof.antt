@@ -9,62 +9,62 @@ use Rattle.arrays.proofs.Copied.{Copied, copied_next, copied-end}
 use Rattle.arrays.proofs.narrowed.Statement.{statement}
 use Rattle.arrays.proofs.narrowed.Tie as tie
 
-abbrev invariant-loop : tie.invariant-loop
-invariant-loop list out₀ k₀ out k = Copied list out₀ out k
+abbrev invariant-loop-k : tie.invariant-loop-k
+invariant-loop-k list out₀ k₀ out k = Copied list out₀ out k
 
-abbrev decreases-loop : tie.decreases-loop
-decreases-loop list out₀ k₀ out k = length list - k
+abbrev decreases-loop-k : tie.decreases-loop-k
+decreases-loop-k list out₀ k₀ out k = length list - k
 
-loop-holds : tie.Need-loop-init invariant-loop decreases-loop
-loop-holds c = record { within = omega arith; sizes = omega arith; kept = refl; whole = refl }
+loop-k-init : tie.Need-loop-k-init invariant-loop-k decreases-loop-k
+loop-k-init c = record { within = omega arith; sizes = omega arith; kept = refl; whole = refl }
 
-mul-narrow : tie.Need-overflow-mul-narrow invariant-loop decreases-loop
-mul-narrow c = search rules
+offset_bounds-list-k : tie.Need-offset_bounds-list-k invariant-loop-k decreases-loop-k
+offset_bounds-list-k c = search rules
 
-shared-slice-read-narrow : tie.Need-shared-slice-read-narrow invariant-loop decreases-loop
-shared-slice-read-narrow c = search rules
+bounds-list-k : tie.Need-bounds-list-k invariant-loop-k decreases-loop-k
+bounds-list-k c = search rules
 
-narrow-requires : tie.Need-narrow-requires invariant-loop decreases-loop
+narrow-requires : tie.Need-narrow-requires invariant-loop-k decreases-loop-k
 narrow-requires c κs =
     let s = c.before.before.before.before.before in
-    all-get_or (λ x. x < 65536) s.args.list.now c.before.before.loop.k 0 (omega arith) s.requires.1
+    all-get_or (λ x. x < 65536) s.args.list.now c.loop-k.k 0 (omega arith) s.requires.1
 
-mul-out : tie.Need-overflow-mul-out invariant-loop decreases-loop
-mul-out c = search rules
+offset_bounds-out-k : tie.Need-offset_bounds-out-k invariant-loop-k decreases-loop-k
+offset_bounds-out-k c = search rules
 
-slice-write-out : tie.Need-slice-write-out invariant-loop decreases-loop
-slice-write-out c = search rules
+bounds-out-k : tie.Need-bounds-out-k invariant-loop-k decreases-loop-k
+bounds-out-k c = search rules
 
-add-k : tie.Need-overflow-add-k invariant-loop decreases-loop
-add-k c = search rules
+overflow_add-k : tie.Need-overflow_add-k invariant-loop-k decreases-loop-k
+overflow_add-k c = search rules
 
-loop-less : tie.Need-loop-smaller invariant-loop decreases-loop
-loop-less c = search rules
+loop-k-smaller : tie.Need-loop-k-smaller invariant-loop-k decreases-loop-k
+loop-k-smaller c = search rules
 
-loop-again : tie.Need-loop-preserved invariant-loop decreases-loop
-loop-again c =
-    let k = c.before.before.before.loop in copied_next _ _ k.out k.k _ k.invariant (omega arith) c.narrow.ensures
+loop-k-preserved : tie.Need-loop-k-preserved invariant-loop-k decreases-loop-k
+loop-k-preserved c =
+    let k = c.loop-k in copied_next _ _ k.out k.k _ k.invariant (omega arith) c.narrow.ensures
 
-same_length : tie.Need-same-length invariant-loop decreases-loop
-same_length c = search rules
+shape_of-out : tie.Need-shape_of-out invariant-loop-k decreases-loop-k
+shape_of-out c = search rules
 
-returns : tie.Need-returns invariant-loop decreases-loop
-returns c = let k = c.before.loop in copied-end _ _ k.out k.k k.invariant (omega arith)
+returns : tie.Need-returns invariant-loop-k decreases-loop-k
+returns c = let k = c.loop-k in copied-end _ _ k.out k.k k.invariant (omega arith)
 
-pub narrowed-spec : {M : Type 1} → statement M
-narrowed-spec =
+pub narrowed_spec : {M : Type 1} → statement M
+narrowed_spec =
     tie.close
     (tie.spec
-    invariant-loop
-    decreases-loop
-    loop-holds
-    mul-narrow
-    shared-slice-read-narrow
+    invariant-loop-k
+    decreases-loop-k
+    loop-k-init
+    offset_bounds-list-k
+    bounds-list-k
     narrow-requires
-    mul-out
-    slice-write-out
-    add-k
-    loop-less
-    loop-again
-    same_length
+    offset_bounds-out-k
+    bounds-out-k
+    overflow_add-k
+    loop-k-smaller
+    loop-k-preserved
+    shape_of-out
     returns)

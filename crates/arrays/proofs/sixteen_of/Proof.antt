@@ -9,63 +9,63 @@ use Rattle.lists.proofs.Padded.{fill_start, fill-next, fill_end}
 use Rattle.arrays.proofs.sixteen_of.Statement.{statement}
 use Rattle.arrays.proofs.sixteen_of.Tie as tie
 
-abbrev invariant-loop : tie.invariant-loop
-invariant-loop list array₀ k₀ k-end array k = (k ≤ length list) × (array ≡ filled (λ i. get_or list i 0) 0 16 k)
+abbrev invariant-loop-k : tie.invariant-loop-k
+invariant-loop-k list array₀ k₀ k-end array k = (k ≤ length list) × (array ≡ filled (λ i. get_or list i 0) 0 16 k)
 
-abbrev decreases-loop : tie.decreases-loop
-decreases-loop list array₀ k₀ k-end array k = k-end - k
+abbrev decreases-loop-k : tie.decreases-loop-k
+decreases-loop-k list array₀ k₀ k-end array k = k-end - k
 
-loop-holds : tie.Need-loop-init invariant-loop decreases-loop
-loop-holds c = (search rules, fill_start (λ i. get_or c.before.args.list.now i 0) 16)
+loop-k-init : tie.Need-loop-k-init invariant-loop-k decreases-loop-k
+loop-k-init c = (search rules, fill_start (λ i. get_or c.args.list.now i 0) 16)
 
-mul_wide : tie.Need-overflow-mul-wide invariant-loop decreases-loop
-mul_wide c = search rules
+offset_bounds-list-k : tie.Need-offset_bounds-list-k invariant-loop-k decreases-loop-k
+offset_bounds-list-k c = search rules
 
-shared-slice-read-wide : tie.Need-shared-slice-read-wide invariant-loop decreases-loop
-shared-slice-read-wide c = search rules
+bounds-list-k : tie.Need-bounds-list-k invariant-loop-k decreases-loop-k
+bounds-list-k c = search rules
 
-wide-requires : tie.Need-wide-requires invariant-loop decreases-loop
+wide-requires : tie.Need-wide-requires invariant-loop-k decreases-loop-k
 wide-requires c κs = search rules
 
-mul-array : tie.Need-overflow-mul-array invariant-loop decreases-loop
-mul-array c = search rules
+offset_bounds-array-k : tie.Need-offset_bounds-array-k invariant-loop-k decreases-loop-k
+offset_bounds-array-k c = search rules
 
-array-write-array : tie.Need-array-write-array invariant-loop decreases-loop
-array-write-array c = search rules
+bounds-array-k : tie.Need-bounds-array-k invariant-loop-k decreases-loop-k
+bounds-array-k c = search rules
 
-add-k : tie.Need-overflow-add-k invariant-loop decreases-loop
-add-k c = search rules
+overflow_step-k : tie.Need-overflow_step-k invariant-loop-k decreases-loop-k
+overflow_step-k c = search rules
 
-loop-less : tie.Need-loop-smaller invariant-loop decreases-loop
-loop-less c = search rules
+loop-k-smaller : tie.Need-loop-k-smaller invariant-loop-k decreases-loop-k
+loop-k-smaller c = search rules
 
-loop-again : tie.Need-loop-preserved invariant-loop decreases-loop
-loop-again c =
+loop-k-preserved : tie.Need-loop-k-preserved invariant-loop-k decreases-loop-k
+loop-k-preserved c =
     let s = c.before.before.before in
-    let k = s.loop in (
+    let k = s.loop-k in (
       search rules,
-      fill-next (λ i. get_or s.before.before.args.list.now i 0) 16 k.array k.k _ k.invariant.1 (omega arith) c.wide.ensures,
+      fill-next (λ i. get_or s.args.list.now i 0) 16 k.array k.k _ k.invariant.1 (omega arith) c.wide.ensures,
     )
 
-returns : tie.Need-returns invariant-loop decreases-loop
+returns : tie.Need-returns invariant-loop-k decreases-loop-k
 returns c =
-    let k = c.before.loop in
-    let list = c.before.before.before.args.list.now in
+    let k = c.loop-k in
+    let list = c.args.list.now in
     fill_end (λ i. get_or list i 0) 16 k.array k.k (length list) list k.invariant.1 (omega arith) refl (λ i b. refl)
 
-pub sixteen-of-spec : {M : Type 1} → statement M
-sixteen-of-spec =
+pub sixteen_of_spec : {M : Type 1} → statement M
+sixteen_of_spec =
     tie.close
     (tie.spec
-    invariant-loop
-    decreases-loop
-    loop-holds
-    mul_wide
-    shared-slice-read-wide
+    invariant-loop-k
+    decreases-loop-k
+    loop-k-init
+    offset_bounds-list-k
+    bounds-list-k
     wide-requires
-    mul-array
-    array-write-array
-    add-k
-    loop-less
-    loop-again
+    offset_bounds-array-k
+    bounds-array-k
+    overflow_step-k
+    loop-k-smaller
+    loop-k-preserved
     returns)

@@ -8,60 +8,60 @@ use Rattle.arrays.proofs.Copied.{Copied, copied_next, copied-end}
 use Rattle.arrays.proofs.widened.Statement.{statement}
 use Rattle.arrays.proofs.widened.Tie as tie
 
-abbrev invariant-loop : tie.invariant-loop
-invariant-loop list out₀ i₀ out i = Copied list out₀ out i
+abbrev invariant-loop-i : tie.invariant-loop-i
+invariant-loop-i list out₀ i₀ out i = Copied list out₀ out i
 
-abbrev decreases-loop : tie.decreases-loop
-decreases-loop list out₀ i₀ out i = length list - i
+abbrev decreases-loop-i : tie.decreases-loop-i
+decreases-loop-i list out₀ i₀ out i = length list - i
 
-loop-holds : tie.Need-loop-init invariant-loop decreases-loop
-loop-holds c = record { within = omega arith; sizes = omega arith; kept = refl; whole = refl }
+loop-i-init : tie.Need-loop-i-init invariant-loop-i decreases-loop-i
+loop-i-init c = record { within = omega arith; sizes = omega arith; kept = refl; whole = refl }
 
-mul_wide : tie.Need-overflow-mul-wide invariant-loop decreases-loop
-mul_wide c = search rules
+offset_bounds-list-i : tie.Need-offset_bounds-list-i invariant-loop-i decreases-loop-i
+offset_bounds-list-i c = search rules
 
-shared-slice-read-wide : tie.Need-shared-slice-read-wide invariant-loop decreases-loop
-shared-slice-read-wide c = search rules
+bounds-list-i : tie.Need-bounds-list-i invariant-loop-i decreases-loop-i
+bounds-list-i c = search rules
 
-wide-requires : tie.Need-wide-requires invariant-loop decreases-loop
+wide-requires : tie.Need-wide-requires invariant-loop-i decreases-loop-i
 wide-requires c κs = search rules
 
-mul-out : tie.Need-overflow-mul-out invariant-loop decreases-loop
-mul-out c = search rules
+offset_bounds-out-i : tie.Need-offset_bounds-out-i invariant-loop-i decreases-loop-i
+offset_bounds-out-i c = search rules
 
-slice-write-out : tie.Need-slice-write-out invariant-loop decreases-loop
-slice-write-out c = search rules
+bounds-out-i : tie.Need-bounds-out-i invariant-loop-i decreases-loop-i
+bounds-out-i c = search rules
 
-add-i : tie.Need-overflow-add-i invariant-loop decreases-loop
-add-i c = search rules
+overflow_add-i : tie.Need-overflow_add-i invariant-loop-i decreases-loop-i
+overflow_add-i c = search rules
 
-loop-less : tie.Need-loop-smaller invariant-loop decreases-loop
-loop-less c = search rules
+loop-i-smaller : tie.Need-loop-i-smaller invariant-loop-i decreases-loop-i
+loop-i-smaller c = search rules
 
-loop-again : tie.Need-loop-preserved invariant-loop decreases-loop
-loop-again c =
-    let k = c.before.before.before.loop in copied_next _ _ k.out k.i _ k.invariant (omega arith) c.wide.ensures
+loop-i-preserved : tie.Need-loop-i-preserved invariant-loop-i decreases-loop-i
+loop-i-preserved c =
+    let k = c.loop-i in copied_next _ _ k.out k.i _ k.invariant (omega arith) c.wide.ensures
 
-same_length : tie.Need-same-length invariant-loop decreases-loop
-same_length c = search rules
+shape_of-out : tie.Need-shape_of-out invariant-loop-i decreases-loop-i
+shape_of-out c = search rules
 
-returns : tie.Need-returns invariant-loop decreases-loop
-returns c = let k = c.before.loop in copied-end _ _ k.out k.i k.invariant (omega arith)
+returns : tie.Need-returns invariant-loop-i decreases-loop-i
+returns c = let k = c.loop-i in copied-end _ _ k.out k.i k.invariant (omega arith)
 
-pub widened-spec : {M : Type 1} → statement M
-widened-spec =
+pub widened_spec : {M : Type 1} → statement M
+widened_spec =
     tie.close
     (tie.spec
-    invariant-loop
-    decreases-loop
-    loop-holds
-    mul_wide
-    shared-slice-read-wide
+    invariant-loop-i
+    decreases-loop-i
+    loop-i-init
+    offset_bounds-list-i
+    bounds-list-i
     wide-requires
-    mul-out
-    slice-write-out
-    add-i
-    loop-less
-    loop-again
-    same_length
+    offset_bounds-out-i
+    bounds-out-i
+    overflow_add-i
+    loop-i-smaller
+    loop-i-preserved
+    shape_of-out
     returns)
