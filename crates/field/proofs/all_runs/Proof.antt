@@ -15,64 +15,64 @@ gathered : (p x₀ x₁ x₂ x₃ r₂ second low r₃ third high all : ℕ)
     → all ≡ mul p low high → all ≡ runs p x₀ x₁ x₂ x₃
 gathered p x₀ x₁ x₂ x₃ r₂ second low r₃ third high all e₁ e₂ e₃ e₄ e₅ e₆ e₇ = rw e₇ (rw e₃ (rw e₂ (rw e₁ (rw e₆ (rw e₅ (rw e₄))))))
 
-difference-requires : tie.Need-difference-requires
-difference-requires c κs = search rules
+difference-far-requires : tie.Need-difference-far-requires
+difference-far-requires c κs = search rules
 
-returns : tie.Need-returns
-returns c = search rules
+returns-then-far-lt-NEAR : tie.Need-returns-then-far-lt-NEAR
+returns-then-far-lt-NEAR c = search rules
 
 modulus-requires : tie.Need-modulus-requires
 modulus-requires c κs = search rules
 
-sub-if2 : tie.Need-overflow-sub-if2
-sub-if2 c = search rules
+overflow_sub-modulus : tie.Need-overflow_sub-modulus
+overflow_sub-modulus c = search rules
 
-returns-2 : tie.Need-returns-2
-returns-2 c = search rules
+returns-then-modulus-far-lt-NEAR : tie.Need-returns-then-modulus-far-lt-NEAR
+returns-then-modulus-far-lt-NEAR c = search rules
 
-difference-requires-2 : tie.Need-difference-requires-2
-difference-requires-2 c κs = search rules
+difference-requires : tie.Need-difference-requires
+difference-requires c κs = search rules
 
-times-run-requires : tie.Need-times-run-requires
-times-run-requires c κs = search rules
+times_run-requires : tie.Need-times_run-requires
+times_run-requires c κs = search rules
 
-times-run-requires-2 : tie.Need-times-run-requires-2
-times-run-requires-2 c κs = search rules
+times_run-low-requires : tie.Need-times_run-low-requires
+times_run-low-requires c κs = search rules
 
-times-run-requires-3 : tie.Need-times-run-requires-3
-times-run-requires-3 c κs = search rules
+times_run-requires-2 : tie.Need-times_run-requires-2
+times_run-requires-2 c κs = search rules
 
-times-run-requires-4 : tie.Need-times-run-requires-4
-times-run-requires-4 c κs = search rules
+times_run-requires-3 : tie.Need-times_run-requires-3
+times_run-requires-3 c κs = search rules
 
 product-requires : tie.Need-product-requires
 product-requires c κs = search rules
 
-returns-3 : tie.Need-returns-3
-returns-3 c =
+returns : tie.Need-returns
+returns c =
     let third = c.before.before in
     let low = third.before in
     let run = low.before.before in
     let far = run.before.before.before.before in (
-      (λ _. gathered (prime_of far.before.args.w) _ _ _ _ _ _ _ _ _ _ _ run.difference2.ensures.0
-          low.before.times-run.ensures.0 low.times-run2.ensures.0 far.difference.ensures.0 third.times-run3.ensures.0
-          c.before.times-run4.ensures.0 c.product.ensures.0),
+      (λ _. gathered (prime_of far.args.w) _ _ _ _ _ _ _ _ _ _ _ run.difference.ensures.0
+          low.times_run.ensures.0 low.times_run-low.ensures.0 far.difference-far.ensures.0 third.times_run-2.ensures.0
+          c.times_run-3.ensures.0 c.product.ensures.0),
       c.product.ensures.1,
     )
 
-pub all-runs-spec : {M : Type 1} → statement M
-all-runs-spec =
+pub all_runs_spec : {M : Type 1} → statement M
+all_runs_spec =
     tie.close
     (tie.spec
-    difference-requires
-    returns
+    difference-far-requires
+    returns-then-far-lt-NEAR
     modulus-requires
-    sub-if2
-    returns-2
-    difference-requires-2
-    times-run-requires
-    times-run-requires-2
-    times-run-requires-3
-    times-run-requires-4
+    overflow_sub-modulus
+    returns-then-modulus-far-lt-NEAR
+    difference-requires
+    times_run-requires
+    times_run-low-requires
+    times_run-requires-2
+    times_run-requires-3
     product-requires
-    returns-3)
+    returns)

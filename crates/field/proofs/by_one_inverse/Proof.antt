@@ -24,52 +24,52 @@ module _ (p y x₀ x₁ x₂ x₃ e₁ e₂ e₃ : ℕ) where
       rw qb (rw qc (rw qd (rw qm (rw qj (rw qh (rw qi (rw qn (rw qa₃ (rw qa₂ (rw qt (rw qs (rw q₃ (rw q₂ (rw q₁ (rw q
       (by-quotients p y x₀ x₁ x₂ x₃ e₁ e₂ e₃ P h₁ h₂ h₃ (subst (λ (z : ℕ). 0 < z) q some)))))))))))))))))
 
-difference-requires : tie.Need-difference-requires
-difference-requires c κs = search rules
+difference-r1-requires : tie.Need-difference-r1-requires
+difference-r1-requires c κs = search rules
 
-difference-requires-2 : tie.Need-difference-requires-2
-difference-requires-2 c κs = search rules
+difference-r2-requires : tie.Need-difference-r2-requires
+difference-r2-requires c κs = search rules
 
-difference-requires-3 : tie.Need-difference-requires-3
-difference-requires-3 c κs = search rules
+difference-r3-requires : tie.Need-difference-r3-requires
+difference-r3-requires c κs = search rules
 
-times-run-requires : tie.Need-times-run-requires
-times-run-requires c κs = search rules
+times_run-second-requires : tie.Need-times_run-second-requires
+times_run-second-requires c κs = search rules
 
-times-run-requires-2 : tie.Need-times-run-requires-2
-times-run-requires-2 c κs = search rules
+times_run-third-requires : tie.Need-times_run-third-requires
+times_run-third-requires c κs = search rules
 
-determinant-requires : tie.Need-determinant-requires
-determinant-requires c κs = search rules
+determinant-c-requires : tie.Need-determinant-c-requires
+determinant-c-requires c κs = search rules
 
-determinant-requires-2 : tie.Need-determinant-requires-2
-determinant-requires-2 c κs = search rules
+determinant-e-requires : tie.Need-determinant-e-requires
+determinant-e-requires c κs = search rules
 
-determinant-requires-3 : tie.Need-determinant-requires-3
-determinant-requires-3 c κs = search rules
+determinant-d-requires : tie.Need-determinant-d-requires
+determinant-d-requires c κs = search rules
 
-inverse-of-requires : tie.Need-inverse-of-requires
-inverse-of-requires c κs = search rules
+inverse_of-over_all-requires : tie.Need-inverse_of-over_all-requires
+inverse_of-over_all-requires c κs = search rules
 
-times-run-requires-3 : tie.Need-times-run-requires-3
-times-run-requires-3 c κs = search rules
+times_run-requires : tie.Need-times_run-requires
+times_run-requires c κs = search rules
+
+product-over_low-requires : tie.Need-product-over_low-requires
+product-over_low-requires c κs = search rules
 
 product-requires : tie.Need-product-requires
-product-requires c κs = search rules
+product-requires c κs =
+    let second = c.before.before.before.before.before.before.before in
+    (second.requires.1.0.0, second.times_run-second.ensures.1)
 
 product-requires-2 : tie.Need-product-requires-2
-product-requires-2 c κs =
-    let second = c.before.before.before.before.before.before.before in
-    (second.before.before.before.before.requires.1.0.0, second.times-run.ensures.1)
+product-requires-2 c κs = search rules
 
 product-requires-3 : tie.Need-product-requires-3
 product-requires-3 c κs = search rules
 
 product-requires-4 : tie.Need-product-requires-4
 product-requires-4 c κs = search rules
-
-product-requires-5 : tie.Need-product-requires-5
-product-requires-5 c κs = search rules
 
 returns : tie.Need-returns
 returns c =
@@ -84,29 +84,29 @@ returns c =
     let rises = s.requires.1.0 in
     let all = s.requires.1.1 in
     gathered (prime_of w) _ _ _ _ _ _ _ _ _ _ _ _ _ _ _ _ _ _ _ _ _ _ _ _ (prime-of w) rises.0 rises.1 rises.2 all.1 all.0
-    r₃.before.before.difference.ensures.0 r₃.before.difference2.ensures.0 r₃.difference3.ensures.0
-    t.before.times-run.ensures.0 t.times-run2.ensures.0
-    a₂.determinant.ensures.0 i.before.before.determinant2.ensures.0 i.before.determinant3.ensures.0
-    i.inverse-of.ensures.0 j.before.times-run3.ensures.0 j.product.ensures.0
-    b.before.product2.ensures.0 b.product3.ensures.0 c.before.product4.ensures.0 c.product5.ensures.0
+    r₃.difference-r1.ensures.0 r₃.difference-r2.ensures.0 r₃.difference-r3.ensures.0
+    t.times_run-second.ensures.0 t.times_run-third.ensures.0
+    a₂.determinant-c.ensures.0 i.determinant-e.ensures.0 i.determinant-d.ensures.0
+    i.inverse_of-over_all.ensures.0 j.times_run.ensures.0 j.product-over_low.ensures.0
+    b.product.ensures.0 b.product-2.ensures.0 c.product-3.ensures.0 c.product-4.ensures.0
 
-pub by-one-inverse-spec : {M : Type 1} → statement M
-by-one-inverse-spec =
+pub by_one_inverse_spec : {M : Type 1} → statement M
+by_one_inverse_spec =
     tie.close
     (tie.spec
-    difference-requires
-    difference-requires-2
-    difference-requires-3
-    times-run-requires
-    times-run-requires-2
-    determinant-requires
-    determinant-requires-2
-    determinant-requires-3
-    inverse-of-requires
-    times-run-requires-3
+    difference-r1-requires
+    difference-r2-requires
+    difference-r3-requires
+    times_run-second-requires
+    times_run-third-requires
+    determinant-c-requires
+    determinant-e-requires
+    determinant-d-requires
+    inverse_of-over_all-requires
+    times_run-requires
+    product-over_low-requires
     product-requires
     product-requires-2
     product-requires-3
     product-requires-4
-    product-requires-5
     returns)

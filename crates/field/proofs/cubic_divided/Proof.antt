@@ -17,55 +17,55 @@ gathered : (p a b c d x v low middle : ℕ) → middle ≡ add p c (mul p x d) �
     → v ∷ low ∷ middle ∷ d ∷ [] ≡ cubic_scheme p a b c d x
 gathered p a b c d x v low middle em el ev = rw ev (rw el (rw em))
 
-mul-reduced : tie.Need-overflow-mul-reduced
-mul-reduced c = let q = within c.args.w in product-fits _ _ (omega (arith, q)) (omega (arith, q))
+overflow_mul-by : tie.Need-overflow_mul-by
+overflow_mul-by c = let q = within c.args.w in product-fits _ _ (omega (arith, q)) (omega (arith, q))
 
-add-reduced : tie.Need-overflow-add-reduced
-add-reduced c = let q = within c.args.w in step_fits _ _ _ (omega (arith, q)) (omega (arith, q)) (omega (arith, q))
+overflow_add-by : tie.Need-overflow_add-by
+overflow_add-by c = let q = within c.args.w in step_fits _ _ _ (omega (arith, q)) (omega (arith, q)) (omega (arith, q))
+
+reduced-middle-requires : tie.Need-reduced-middle-requires
+reduced-middle-requires c κs = search rules
+
+overflow_cast-middle : tie.Need-overflow_cast-middle
+overflow_cast-middle c = search rules
+
+overflow_mul-by-2 : tie.Need-overflow_mul-by-2
+overflow_mul-by-2 c = let q = within c.args.w in product-fits _ _ (omega (arith, q)) (omega (arith, q))
+
+overflow_add-by-2 : tie.Need-overflow_add-by-2
+overflow_add-by-2 c = let q = within c.args.w in step_fits _ _ _ (omega (arith, q)) (omega (arith, q)) (omega (arith, q))
+
+reduced-low-requires : tie.Need-reduced-low-requires
+reduced-low-requires c κs = search rules
+
+cubic_sum-requires : tie.Need-cubic_sum-requires
+cubic_sum-requires c κs = search rules
 
 reduced-requires : tie.Need-reduced-requires
 reduced-requires c κs = search rules
-
-cast-reduced : tie.Need-overflow-cast-reduced
-cast-reduced c = search rules
-
-mul-reduced-2 : tie.Need-overflow-mul-reduced-2
-mul-reduced-2 c = let q = within c.before.args.w in product-fits _ _ (omega (arith, q)) (omega (arith, q))
-
-add-reduced-2 : tie.Need-overflow-add-reduced-2
-add-reduced-2 c = let q = within c.before.args.w in step_fits _ _ _ (omega (arith, q)) (omega (arith, q)) (omega (arith, q))
-
-reduced-requires-2 : tie.Need-reduced-requires-2
-reduced-requires-2 c κs = search rules
-
-cubic-sum-requires : tie.Need-cubic-sum-requires
-cubic-sum-requires c κs = search rules
-
-reduced-requires-3 : tie.Need-reduced-requires-3
-reduced-requires-3 c κs = search rules
 
 returns : tie.Need-returns
 returns c =
     let low = c.before.before in
     let middle = low.before in
-    let s = middle.before.args in
+    let s = middle.args in
     let p = prime_of s.w in
     gathered p s.a s.b s.c s.d s.x _ _ _
-    (middle.reduced.ensures.0 ∙ one-reduction p s.x s.d s.c)
-    (low.reduced2.ensures.0 ∙ one-reduction p s.x middle.reduced.result s.b)
-    (c.reduced3.ensures.0 ∙ c.before.cubic-sum.ensures)
+    (middle.reduced-middle.ensures.0 ∙ one-reduction p s.x s.d s.c)
+    (low.reduced-low.ensures.0 ∙ one-reduction p s.x middle.reduced-middle.result s.b)
+    (c.reduced.ensures.0 ∙ c.cubic_sum.ensures)
 
-pub cubic-divided-spec : {M : Type 1} → statement M
-cubic-divided-spec =
+pub cubic_divided_spec : {M : Type 1} → statement M
+cubic_divided_spec =
     tie.close
     (tie.spec
-    mul-reduced
-    add-reduced
+    overflow_mul-by
+    overflow_add-by
+    reduced-middle-requires
+    overflow_cast-middle
+    overflow_mul-by-2
+    overflow_add-by-2
+    reduced-low-requires
+    cubic_sum-requires
     reduced-requires
-    cast-reduced
-    mul-reduced-2
-    add-reduced-2
-    reduced-requires-2
-    cubic-sum-requires
-    reduced-requires-3
     returns)

@@ -43,86 +43,86 @@ module _ (s : tie.Start) (h : ℕ) (eh : h ≤ (s.args.x * s.args.d + s.args.c) 
       let q = within s.args.w in
       next_le _ _ _ 2147483646 2147483646 6442450936 (omega (arith, q)) (omega (arith, q)) (omega (arith, folded-le, em))
 
-mul-high : tie.Need-overflow-mul-high
-mul-high c = omega (arith, high_le c)
+overflow_mul-high : tie.Need-overflow_mul-high
+overflow_mul-high c = omega (arith, high_le c)
 
-add-high : tie.Need-overflow-add-high
-add-high c = omega (arith, high_le c)
+overflow_add-high : tie.Need-overflow_add-high
+overflow_add-high c = omega (arith, high_le c)
 
-enum_told : tie.Need-enum-told
-enum_told c = search rules
+enum_told-1 : tie.Need-enum_told-1
+enum_told-1 c = search rules
 
-mul-middle : tie.Need-overflow-mul-middle
-mul-middle c = omega (arith, middle-le c.before.before c.enum_told.given.1)
+overflow_mul-middle : tie.Need-overflow_mul-middle
+overflow_mul-middle c = omega (arith, middle-le c.before c.in-Narrow.is)
 
-add-middle : tie.Need-overflow-add-middle
-add-middle c = omega (arith, middle-le c.before.before c.enum_told.given.1)
+overflow_add-middle : tie.Need-overflow_add-middle
+overflow_add-middle c = omega (arith, middle-le c.before c.in-Narrow.is)
 
-mul-result : tie.Need-overflow-mul-result
-mul-result c = omega (arith, all-le c.before.before c.enum_told.given.1)
+overflow_mul-result : tie.Need-overflow_mul-result
+overflow_mul-result c = omega (arith, all-le c.before c.in-Narrow.is)
 
-add-result : tie.Need-overflow-add-result
-add-result c = omega (arith, all-le c.before.before c.enum_told.given.1)
+overflow_add-result : tie.Need-overflow_add-result
+overflow_add-result c = omega (arith, all-le c.before c.in-Narrow.is)
 
-enum-told-2 : tie.Need-enum-told-2
-enum-told-2 c = search rules
+enum_told-in-Wide : tie.Need-enum_told-in-Wide
+enum_told-in-Wide c = search rules
 
 folded-requires : tie.Need-folded-requires
 folded-requires c κs = search rules
 
-mul-middle-2 : tie.Need-overflow-mul-middle-2
-mul-middle-2 c = omega (arith, folded-le c.before.before.before c.folded.result c.folded.ensures.1)
+overflow_mul-middle-in-Wide : tie.Need-overflow_mul-middle-in-Wide
+overflow_mul-middle-in-Wide c = omega (arith, folded-le c.before.before c.folded.result c.folded.ensures.1)
 
-add-middle-2 : tie.Need-overflow-add-middle-2
-add-middle-2 c = omega (arith, folded-le c.before.before.before c.folded.result c.folded.ensures.1)
+overflow_add-middle-in-Wide : tie.Need-overflow_add-middle-in-Wide
+overflow_add-middle-in-Wide c = omega (arith, folded-le c.before.before c.folded.result c.folded.ensures.1)
 
-folded-requires-2 : tie.Need-folded-requires-2
-folded-requires-2 c κs = search rules
+folded-requires-in-Wide : tie.Need-folded-requires-in-Wide
+folded-requires-in-Wide c κs = search rules
 
-mul-result-2 : tie.Need-overflow-mul-result-2
-mul-result-2 c =
-    let first = c.before.folded in
-    let second = c.folded2 in
-    omega (arith, last-le c.before.before.before.before first.result first.ensures.1 second.result second.ensures.1)
+overflow_mul-result-in-Wide : tie.Need-overflow_mul-result-in-Wide
+overflow_mul-result-in-Wide c =
+    let first = c.folded in
+    let second = c.folded-in-Wide in
+    omega (arith, last-le c.before.before.before first.result first.ensures.1 second.result second.ensures.1)
 
-add-result-2 : tie.Need-overflow-add-result-2
-add-result-2 c =
-    let first = c.before.folded in
-    let second = c.folded2 in
-    omega (arith, last-le c.before.before.before.before first.result first.ensures.1 second.result second.ensures.1)
+overflow_add-result-in-Wide : tie.Need-overflow_add-result-in-Wide
+overflow_add-result-in-Wide c =
+    let first = c.folded in
+    let second = c.folded-in-Wide in
+    omega (arith, last-le c.before.before.before first.result first.ensures.1 second.result second.ensures.1)
 
-returns : tie.Need-returns
-returns c =
-    let a = c.before.before.args in
+returns-in-Narrow : tie.Need-returns-in-Narrow
+returns-in-Narrow c =
+    let a = c.args in
     cubic-by (prime_of a.w) a.a a.b a.c a.d a.x _ _ refl refl
 
-returns-2 : tie.Need-returns-2
-returns-2 c =
-    let a = c.before.before.before.before.args in
-    let first = c.before.folded in
-    let second = c.folded2 in
-    let wide : prime_of a.w ≡ wide_modulus = ap prime_of c.before.before.enum-told2.given.1 in
+returns-in-Wide : tie.Need-returns-in-Wide
+returns-in-Wide c =
+    let a = c.args in
+    let first = c.folded in
+    let second = c.folded-in-Wide in
+    let wide : prime_of a.w ≡ wide_modulus = ap prime_of c.in-Wide.is in
     cubic-by (prime_of a.w) a.a a.b a.c a.d a.x first.result second.result
     (subst (λ (q : ℕ). first.result % q ≡ (a.x * a.d + a.c) % q) (sym wide) first.ensures.0)
     (subst (λ (q : ℕ). second.result % q ≡ (a.x * first.result + a.b) % q) (sym wide) second.ensures.0)
 
-pub cubic-sum-spec : {M : Type 1} → statement M
-cubic-sum-spec =
+pub cubic_sum_spec : {M : Type 1} → statement M
+cubic_sum_spec =
     tie.close
     (tie.spec
-    mul-high
-    add-high
-    enum_told
-    mul-middle
-    add-middle
-    mul-result
-    add-result
-    enum-told-2
+    overflow_mul-high
+    overflow_add-high
+    enum_told-1
+    overflow_mul-middle
+    overflow_add-middle
+    overflow_mul-result
+    overflow_add-result
+    enum_told-in-Wide
     folded-requires
-    mul-middle-2
-    add-middle-2
-    folded-requires-2
-    mul-result-2
-    add-result-2
-    returns
-    returns-2)
+    overflow_mul-middle-in-Wide
+    overflow_add-middle-in-Wide
+    folded-requires-in-Wide
+    overflow_mul-result-in-Wide
+    overflow_add-result-in-Wide
+    returns-in-Narrow
+    returns-in-Wide)

@@ -12,25 +12,30 @@ use Rattle.field.proofs.determinant.Tie as tie
 modulus-requires : tie.Need-modulus-requires
 modulus-requires c κs = search rules
 
-sub-rest : tie.Need-overflow-sub-rest
-sub-rest c = search rules
+overflow_sub-rest : tie.Need-overflow_sub-rest
+overflow_sub-rest c = search rules
 
-sum-of-products-requires : tie.Need-sum-of-products-requires
-sum-of-products-requires c κs = search rules
+sum_of_products-requires : tie.Need-sum_of_products-requires
+sum_of_products-requires c κs = search rules
 
 reduced-requires : tie.Need-reduced-requires
 reduced-requires c κs = search rules
 
 returns : tie.Need-returns
 returns c =
-    let s = c.before.before.before.args in
+    let s = c.args in
     let p : ℕ = prime_of s.w in (
       c.reduced.ensures.0
-          ∙ ap (λ (z : ℕ). z % p) c.before.sum-of-products.ensures
-          ∙ ap (λ (z : ℕ). (s.a * s.b + (z - s.c) * s.d) % p) c.before.before.modulus.ensures
+          ∙ ap (λ (z : ℕ). z % p) c.sum_of_products.ensures
+          ∙ ap (λ (z : ℕ). (s.a * s.b + (z - s.c) * s.d) % p) c.modulus.ensures
           ∙ one-difference p s.a s.b s.c s.d (positive s.w) (omega arith),
       c.reduced.ensures.1,
     )
 
-pub determinant-spec : {M : Type 1} → statement M
-determinant-spec = tie.close (tie.spec modulus-requires sub-rest sum-of-products-requires reduced-requires returns)
+pub determinant_spec : {M : Type 1} → statement M
+determinant_spec = tie.close (tie.spec
+    modulus-requires
+    overflow_sub-rest
+    sum_of_products-requires
+    reduced-requires
+    returns)

@@ -7,22 +7,27 @@ use borrow.Author.Rules.{rules}
 use Rattle.field.proofs.difference.Statement.{statement}
 use Rattle.field.proofs.difference.Tie as tie
 
-returns : tie.Need-returns
-returns c = let s = c.before.args in less (prime_of s.w) s.a s.b (omega arith) (omega arith) (omega arith)
+returns-then-b-a : tie.Need-returns-then-b-a
+returns-then-b-a c = let s = c.args in less (prime_of s.w) s.a s.b (omega arith) (omega arith) (omega arith)
 
 modulus-requires : tie.Need-modulus-requires
 modulus-requires c κs = search rules
 
-sub-result : tie.Need-overflow-sub-result
-sub-result c = search rules
+overflow_sub-result-2 : tie.Need-overflow_sub-result-2
+overflow_sub-result-2 c = search rules
 
-add-result : tie.Need-overflow-add-result
-add-result c = omega (arith, within c.before.before.args.w)
+overflow_add-result : tie.Need-overflow_add-result
+overflow_add-result c = omega (arith, within c.args.w)
 
-returns-2 : tie.Need-returns-2
-returns-2 c =
-    let s = c.before.before.args in
+returns : tie.Need-returns
+returns c =
+    let s = c.args in
     more (prime_of s.w) s.a s.b (omega arith) (omega arith) _ c.modulus.ensures (omega arith)
 
-pub difference-spec : {M : Type 1} → statement M
-difference-spec = tie.close (tie.spec returns modulus-requires sub-result add-result returns-2)
+pub difference_spec : {M : Type 1} → statement M
+difference_spec = tie.close (tie.spec
+    returns-then-b-a
+    modulus-requires
+    overflow_sub-result-2
+    overflow_add-result
+    returns)

@@ -38,8 +38,8 @@ difference-requires-2 c κs = search rules
 difference-requires-3 : tie.Need-difference-requires-3
 difference-requires-3 c κs = search rules
 
-from-rises-requires : tie.Need-from-rises-requires
-from-rises-requires c κs = search rules
+from_rises-requires : tie.Need-from_rises-requires
+from_rises-requires c κs = search rules
 
 returns : tie.Need-returns
 returns c =
@@ -47,16 +47,16 @@ returns c =
     let s = e₂.before.before in
     let w = s.args.w in
     let y = s.requires.1 in
-    let found = gathered (prime_of w) _ _ _ _ _ _ _ _ _ _ _ _ e₂.before.difference.ensures.0 e₂.difference2.ensures.0
-    c.before.difference3.ensures.0 c.from-rises.ensures in
+    let found = gathered (prime_of w) _ _ _ _ _ _ _ _ _ _ _ _ e₂.difference.ensures.0 e₂.difference-2.ensures.0
+    c.difference-3.ensures.0 c.from_rises.ensures in
     (found, small (prime_of w) _ _ _ _ _ _ _ _ _ (positive w) y.0 y.1 y.2 y.3 found)
 
-pub divided-differences-spec : {M : Type 1} → statement M
-divided-differences-spec =
+pub divided_differences_spec : {M : Type 1} → statement M
+divided_differences_spec =
     tie.close
     (tie.spec
     difference-requires
     difference-requires-2
     difference-requires-3
-    from-rises-requires
+    from_rises-requires
     returns)

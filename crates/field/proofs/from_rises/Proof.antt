@@ -5,20 +5,26 @@ use borrow.Author.Rules.{rules}
 use Rattle.field.proofs.from_rises.Statement.{statement}
 use Rattle.field.proofs.from_rises.Tie as tie
 
-all-runs-requires : tie.Need-all-runs-requires
-all-runs-requires c κs = search rules
+all_runs-all-requires : tie.Need-all_runs-all-requires
+all_runs-all-requires c κs = search rules
 
-by-one-inverse-requires : tie.Need-by-one-inverse-requires
-by-one-inverse-requires c κs =
-    let all = c.before.all_runs.ensures in
+by_one_inverse-requires : tie.Need-by_one_inverse-requires
+by_one_inverse-requires c κs =
+    let all = c.all_runs-all.ensures in
     let s = c.before.before in
-    (s.requires.0, (s.requires.1, (all.0 c.if1.true, c.if1.true, all.1)))
+    (s.requires.0, (s.requires.1, (all.0 c.if-all-gt0.true, c.if-all-gt0.true, all.1)))
 
-returns : tie.Need-returns
-returns c = search rules
+returns-then-all-gt0 : tie.Need-returns-then-all-gt0
+returns-then-all-gt0 c = search rules
+
+slope-b-requires : tie.Need-slope-b-requires
+slope-b-requires c κs = search rules
 
 slope-requires : tie.Need-slope-requires
 slope-requires c κs = search rules
+
+slope-c-requires : tie.Need-slope-c-requires
+slope-c-requires c κs = search rules
 
 slope-requires-2 : tie.Need-slope-requires-2
 slope-requires-2 c κs = search rules
@@ -26,37 +32,31 @@ slope-requires-2 c κs = search rules
 slope-requires-3 : tie.Need-slope-requires-3
 slope-requires-3 c κs = search rules
 
-slope-requires-4 : tie.Need-slope-requires-4
-slope-requires-4 c κs = search rules
+slope-d-requires : tie.Need-slope-d-requires
+slope-d-requires c κs = search rules
 
-slope-requires-5 : tie.Need-slope-requires-5
-slope-requires-5 c κs = search rules
-
-slope-requires-6 : tie.Need-slope-requires-6
-slope-requires-6 c κs = search rules
-
-returns-2 : tie.Need-returns-2
-returns-2 c =
+returns : tie.Need-returns
+returns c =
     let d₂ = c.before in
     let d₁ = d₂.before in
     let c₀ = d₁.before in
     let c₁ = c₀.before in
     let b = c₁.before in
-    let p = prime_of b.before.before.before.args.w in
-    by-slopes p _ _ _ _ _ _ _ _ _ _ _ _ _ _ b.slope.ensures.0 c₁.slope2.ensures.0 c₀.slope3.ensures.0
-    d₁.slope4.ensures.0 d₂.slope5.ensures.0 c.slope6.ensures.0
+    let p = prime_of b.args.w in
+    by-slopes p _ _ _ _ _ _ _ _ _ _ _ _ _ _ b.slope-b.ensures.0 c₁.slope.ensures.0 c₀.slope-c.ensures.0
+    d₁.slope-2.ensures.0 d₂.slope-3.ensures.0 c.slope-d.ensures.0
 
-pub from-rises-spec : {M : Type 1} → statement M
-from-rises-spec =
+pub from_rises_spec : {M : Type 1} → statement M
+from_rises_spec =
     tie.close
     (tie.spec
-    all-runs-requires
-    by-one-inverse-requires
-    returns
+    all_runs-all-requires
+    by_one_inverse-requires
+    returns-then-all-gt0
+    slope-b-requires
     slope-requires
+    slope-c-requires
     slope-requires-2
     slope-requires-3
-    slope-requires-4
-    slope-requires-5
-    slope-requires-6
-    returns-2)
+    slope-d-requires
+    returns)

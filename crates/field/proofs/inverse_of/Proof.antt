@@ -16,42 +16,42 @@ at_once p q a P e more high one =
     let found = inv-at-once p P a more high (subst (λ (n : ℕ). n % a ≡ 1) e one) in
     subst (λ (n : ℕ). (n - n / a ≡ inv p a) × (n - n / a < p)) (sym e) (found, subst (λ (r : ℕ). r < p) (sym found) (inv-lt p P a))
 
-returns : tie.Need-returns
-returns c = let s = c.before.args in (inv-own (prime_of s.w) _ (prime-of s.w).two c.if1.true, c.before.requires)
+returns-then-a-le1 : tie.Need-returns-then-a-le1
+returns-then-a-le1 c = let s = c.args in (inv-own (prime_of s.w) _ (prime-of s.w).two c.if-a-le1.true, c.requires)
 
-modulus-requires : tie.Need-modulus-requires
-modulus-requires c κs = search rules
+modulus-p-requires : tie.Need-modulus-p-requires
+modulus-p-requires c κs = search rules
 
-rem-if2 : tie.Need-nonzero-rem-if2
-rem-if2 c = search rules
+nonzero_rem-p : tie.Need-nonzero_rem-p
+nonzero_rem-p c = search rules
 
-div-result : tie.Need-nonzero-div-result
-div-result c = search rules
+nonzero_div-result : tie.Need-nonzero_div-result
+nonzero_div-result c = search rules
 
-sub-result : tie.Need-overflow-sub-result
-sub-result c = div-le_self c.before.modulus.result _
+overflow_sub-result : tie.Need-overflow_sub-result
+overflow_sub-result c = div-le_self c.modulus-p.result _
 
-returns-2 : tie.Need-returns-2
-returns-2 c =
+returns-then-p-a-eq1 : tie.Need-returns-then-p-a-eq1
+returns-then-p-a-eq1 c =
     let start = c.before.before.before in
     let w = start.args.w in
-    at_once (prime_of w) _ _ (prime-of w) c.before.modulus.ensures c.before.before.if1.false start.requires c.if2.true
+    at_once (prime_of w) _ _ (prime-of w) c.modulus-p.ensures c.if-a-le1.false start.requires c.if-p-a-eq1.true
 
-inverse-by-turns-requires : tie.Need-inverse-by-turns-requires
-inverse-by-turns-requires c κs = search rules
+inverse_by_turns-requires : tie.Need-inverse_by_turns-requires
+inverse_by_turns-requires c κs = search rules
 
-returns-3 : tie.Need-returns-3
-returns-3 c = search rules
+returns : tie.Need-returns
+returns c = search rules
 
-pub inverse-of-spec : {M : Type 1} → statement M
-inverse-of-spec =
+pub inverse_of_spec : {M : Type 1} → statement M
+inverse_of_spec =
     tie.close
     (tie.spec
-    returns
-    modulus-requires
-    rem-if2
-    div-result
-    sub-result
-    returns-2
-    inverse-by-turns-requires
-    returns-3)
+    returns-then-a-le1
+    modulus-p-requires
+    nonzero_rem-p
+    nonzero_div-result
+    overflow_sub-result
+    returns-then-p-a-eq1
+    inverse_by_turns-requires
+    returns)

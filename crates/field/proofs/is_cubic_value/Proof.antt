@@ -5,14 +5,17 @@ use borrow.Author.Rules.{rules}
 use Rattle.field.proofs.is_cubic_value.Statement.{statement}
 use Rattle.field.proofs.is_cubic_value.Tie as tie
 
-cubic-sum-requires : tie.Need-cubic-sum-requires
-cubic-sum-requires c κs = search rules
+cubic_sum-requires : tie.Need-cubic_sum-requires
+cubic_sum-requires c κs = search rules
 
-reduces-to-requires : tie.Need-reduces-to-requires
-reduces-to-requires c κs = search rules
+reduces_to-requires : tie.Need-reduces_to-requires
+reduces_to-requires c κs = search rules
 
 returns : tie.Need-returns
-returns c = c.reduces-to.ensures ∙ ap (λ v. eqb v c.before.before.args.y) c.before.cubic-sum.ensures
+returns c = c.reduces_to.ensures ∙ ap (λ v. eqb v c.args.y) c.cubic_sum.ensures
 
-pub is-cubic-value-spec : {M : Type 1} → statement M
-is-cubic-value-spec = tie.close (tie.spec cubic-sum-requires reduces-to-requires returns)
+pub is_cubic_value_spec : {M : Type 1} → statement M
+is_cubic_value_spec = tie.close (tie.spec
+    cubic_sum-requires
+    reduces_to-requires
+    returns)

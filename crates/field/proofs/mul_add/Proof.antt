@@ -25,57 +25,57 @@ wide-le s =
     let q = within s.args.w in
     next_le _ _ _ 2147483647 2147483646 2147483646 (omega (arith, q)) (omega (arith, q)) (omega (arith, q))
 
-enum_told : tie.Need-enum-told
-enum_told c = search rules
+enum_told-1 : tie.Need-enum_told-1
+enum_told-1 c = search rules
 
-mul-result : tie.Need-overflow-mul-result
-mul-result c = omega (arith, narrow-le c.before.before c.enum_told.given.1)
+overflow_mul-result : tie.Need-overflow_mul-result
+overflow_mul-result c = omega (arith, narrow-le c.before c.in-Narrow.is)
 
-add-result : tie.Need-overflow-add-result
-add-result c = omega (arith, narrow-le c.before.before c.enum_told.given.1)
+overflow_add-result : tie.Need-overflow_add-result
+overflow_add-result c = omega (arith, narrow-le c.before c.in-Narrow.is)
 
-enum-told-2 : tie.Need-enum-told-2
-enum-told-2 c = search rules
+enum_told-in-Wide : tie.Need-enum_told-in-Wide
+enum_told-in-Wide c = search rules
 
-mul-folded : tie.Need-overflow-mul-folded
-mul-folded c = omega (arith, wide-le c.before.before)
+overflow_mul-a : tie.Need-overflow_mul-a
+overflow_mul-a c = omega (arith, wide-le c.before)
 
-add-folded : tie.Need-overflow-add-folded
-add-folded c = omega (arith, wide-le c.before.before)
+overflow_add-a : tie.Need-overflow_add-a
+overflow_add-a c = omega (arith, wide-le c.before)
 
 folded-requires : tie.Need-folded-requires
 folded-requires c κs = search rules
 
-less-once-requires : tie.Need-less-once-requires
-less-once-requires c κs = omega (arith, c.folded.ensures.1, wide-le c.before.before.before)
+less_once-requires : tie.Need-less_once-requires
+less_once-requires c κs = omega (arith, c.folded.ensures.1, wide-le c.before.before)
 
-returns : tie.Need-returns
-returns c =
-    let a = c.before.before.args in
-    let k = chosen (prime_of a.w) 65521 (a.a * a.b + a.c) (ap prime_of c.enum_told.given.1) (lit< tt) in
+returns-in-Narrow : tie.Need-returns-in-Narrow
+returns-in-Narrow c =
+    let a = c.args in
+    let k = chosen (prime_of a.w) 65521 (a.a * a.b + a.c) (ap prime_of c.in-Narrow.is) (lit< tt) in
     (k.0 ∙ one-reduction (prime_of a.w) a.a a.b a.c, k.1)
 
-returns-2 : tie.Need-returns-2
-returns-2 c =
-    let a = c.before.before.before.before.args in
+returns-in-Wide : tie.Need-returns-in-Wide
+returns-in-Wide c =
+    let a = c.args in
     let p = prime_of a.w in
-    let wide = ap prime_of c.before.before.enum-told2.given.1 in
+    let wide = ap prime_of c.in-Wide.is in
     let k = chosen p 2147483647 (a.a * a.b + a.c) wide (lit< tt) in (
-      c.less-once.ensures.0 ∙ c.before.folded.ensures.0 ∙ k.0 ∙ one-reduction p a.a a.b a.c,
-      omega (arith, wide, c.less-once.ensures.1),
+      c.less_once.ensures.0 ∙ c.folded.ensures.0 ∙ k.0 ∙ one-reduction p a.a a.b a.c,
+      omega (arith, wide, c.less_once.ensures.1),
     )
 
-pub mul-add-spec : {M : Type 1} → statement M
-mul-add-spec =
+pub mul_add_spec : {M : Type 1} → statement M
+mul_add_spec =
     tie.close
     (tie.spec
-    enum_told
-    mul-result
-    add-result
-    enum-told-2
-    mul-folded
-    add-folded
+    enum_told-1
+    overflow_mul-result
+    overflow_add-result
+    enum_told-in-Wide
+    overflow_mul-a
+    overflow_add-a
     folded-requires
-    less-once-requires
-    returns
-    returns-2)
+    less_once-requires
+    returns-in-Narrow
+    returns-in-Wide)

@@ -14,22 +14,26 @@ use Rattle.field.proofs.mul_sub.Tie as tie
 modulus-requires : tie.Need-modulus-requires
 modulus-requires c κs = search rules
 
-sub-mul-add : tie.Need-overflow-sub-mul-add
-sub-mul-add c = search rules
+overflow_sub-modulus : tie.Need-overflow_sub-modulus
+overflow_sub-modulus c = search rules
 
-mul-add-requires : tie.Need-mul-add-requires
-mul-add-requires c κs = search rules
+mul_add-requires : tie.Need-mul_add-requires
+mul_add-requires c κs = search rules
 
 returns : tie.Need-returns
 returns c =
-    let s = c.before.before.args in
+    let s = c.args in
     let p : ℕ = prime_of s.w in
     let own : s.a % p ≡ s.a = mod-eq_of_lt (omega arith) in (
-      c.mul-add.ensures.0
-          ∙ ap (λ (z : ℕ). add p s.c (mul p z s.b)) (ap₂ (λ (x y : ℕ). x - y) c.before.modulus.ensures (sym own))
+      c.mul_add.ensures.0
+          ∙ ap (λ (z : ℕ). add p s.c (mul p z s.b)) (ap₂ (λ (x y : ℕ). x - y) c.modulus.ensures (sym own))
           ∙ add-mul-rest p s.c s.a s.b (positive s.w),
-      c.mul-add.ensures.1,
+      c.mul_add.ensures.1,
     )
 
-pub mul-sub-spec : {M : Type 1} → statement M
-mul-sub-spec = tie.close (tie.spec modulus-requires sub-mul-add mul-add-requires returns)
+pub mul_sub_spec : {M : Type 1} → statement M
+mul_sub_spec = tie.close (tie.spec
+    modulus-requires
+    overflow_sub-modulus
+    mul_add-requires
+    returns)

@@ -19,10 +19,10 @@ module _ (s : tie.Start) (w : Width) (told : s.args.w ≡ w) where
   point-below = subst (λ (w : Width). s.args.x < prime_of w) told s.requires.0
 
   term-below : s.args.c < prime_of w
-  term-below = subst (λ (w : Width). s.args.c < prime_of w) told s.pre.1
+  term-below = subst (λ (w : Width). s.args.c < prime_of w) told s.requires.1
 
-  sum_below : (k : ℕ) → s.args.v < sum_below s.args.w k → s.args.v < sum_below w k
-  sum_below k h = subst (λ (w : Width). s.args.v < sum_below w k) told h
+  below-sum : (k : ℕ) → s.args.v < sum_below s.args.w k → s.args.v < sum_below w k
+  below-sum k h = subst (λ (w : Width). s.args.v < sum_below w k) told h
 
   sum-above : (r k : ℕ) → r < sum_below w (suc k) → r < sum_below s.args.w (suc k)
   sum-above r k h = subst (λ (w : Width). r < sum_below w (suc k)) (sym told) h
@@ -33,71 +33,71 @@ narrow s e k h =
     let a = s.args in
     let x = point-below s Narrow e in
     let c = term-below s Narrow e in
-    narrow_next a.x a.v a.c k (omega arith) (omega arith) (sum_below s Narrow e k h)
+    narrow_next a.x a.v a.c k (omega arith) (omega arith) (below-sum s Narrow e k h)
 
 wide-le : (s : tie.Start) → s.args.w ≡ Wide → s.args.x * s.args.v + s.args.c < 18446744073709551616
 wide-le s e =
     let a = s.args in
     let x = point-below s Wide e in
     let c = term-below s Wide e in
-    let v = sum_below s Wide e 3 s.requires.2 in
+    let v = below-sum s Wide e 3 s.requires.2 in
     omega (arith, mul-le-mul {n₁ = a.x} {m₁ = a.v} {n₂ = 2147483646} {m₂ = 6442450944} (omega arith) (omega arith))
 
-enum_told : tie.Need-enum-told
-enum_told c = search rules
+enum_told-1 : tie.Need-enum_told-1
+enum_told-1 c = search rules
 
-mul-result : tie.Need-overflow-mul-result
-mul-result c = let s = c.before.before in omega (arith, narrow s c.enum_told.given.1 3 s.requires.2)
+overflow_mul-result : tie.Need-overflow_mul-result
+overflow_mul-result c = let s = c.before in omega (arith, narrow s c.in-Narrow.is 3 s.requires.2)
 
-add-result : tie.Need-overflow-add-result
-add-result c = let s = c.before.before in omega (arith, narrow s c.enum_told.given.1 3 s.requires.2)
+overflow_add-result : tie.Need-overflow_add-result
+overflow_add-result c = let s = c.before in omega (arith, narrow s c.in-Narrow.is 3 s.requires.2)
 
-enum-told-2 : tie.Need-enum-told-2
-enum-told-2 c = search rules
+enum_told-in-Wide : tie.Need-enum_told-in-Wide
+enum_told-in-Wide c = search rules
 
-mul-folded : tie.Need-overflow-mul-folded
-mul-folded c = omega (arith, wide-le c.before.before c.enum-told2.given.1)
+overflow_mul-x : tie.Need-overflow_mul-x
+overflow_mul-x c = omega (arith, wide-le c.before c.in-Wide.is)
 
-add-folded : tie.Need-overflow-add-folded
-add-folded c = omega (arith, wide-le c.before.before c.enum-told2.given.1)
+overflow_add-x : tie.Need-overflow_add-x
+overflow_add-x c = omega (arith, wide-le c.before c.in-Wide.is)
 
 folded-requires : tie.Need-folded-requires
 folded-requires c κs = search rules
 
-returns : tie.Need-returns
-returns c =
-    let s = c.before.before in
+returns-in-Narrow : tie.Need-returns-in-Narrow
+returns-in-Narrow c =
+    let s = c.before in
     let a = s.args in
-    let told = c.enum_told.given.1 in (
+    let told = c.in-Narrow.is in (
       one-reduction (prime_of a.w) a.x a.v a.c,
       λ k h. sum-above s Narrow told _ k (narrow s told k h),
     )
 
-returns-2 : tie.Need-returns-2
-returns-2 c =
-    let s = c.before.before.before in
+returns-in-Wide : tie.Need-returns-in-Wide
+returns-in-Wide c =
+    let s = c.before.before in
     let a = s.args in
-    let told = c.before.enum-told2.given.1 in
+    let told = c.in-Wide.is in
     let x = point-below s Wide told in
     let b = term-below s Wide told in
     let same : c.folded.result % prime_of a.w ≡ (a.x * a.v + a.c) % prime_of a.w =
     subst (λ (w : Width). c.folded.result % prime_of w ≡ (a.x * a.v + a.c) % prime_of w) (sym told) c.folded.ensures.0 in (
       same ∙ one-reduction (prime_of a.w) a.x a.v a.c,
       λ k h. sum-above s Wide told _ k
-          (wide-next a.x a.v a.c k c.folded.result (omega arith) (omega arith) (sum_below s Wide told k h)
+          (wide-next a.x a.v a.c k c.folded.result (omega arith) (omega arith) (below-sum s Wide told k h)
           c.folded.ensures.1),
     )
 
-pub next-sum-spec : {M : Type 1} → statement M
-next-sum-spec =
+pub next_sum_spec : {M : Type 1} → statement M
+next_sum_spec =
     tie.close
     (tie.spec
-    enum_told
-    mul-result
-    add-result
-    enum-told-2
-    mul-folded
-    add-folded
+    enum_told-1
+    overflow_mul-result
+    overflow_add-result
+    enum_told-in-Wide
+    overflow_mul-x
+    overflow_add-x
     folded-requires
-    returns
-    returns-2)
+    returns-in-Narrow
+    returns-in-Wide)

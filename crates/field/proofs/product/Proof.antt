@@ -7,11 +7,13 @@ use Rattle.field.proofs.Ring.{add_nothing}
 use Rattle.field.proofs.product.Statement.{statement}
 use Rattle.field.proofs.product.Tie as tie
 
-mul-add-requires : tie.Need-mul-add-requires
-mul-add-requires c κs = let s = c.requires in (omega arith, s.1, positive c.args.w)
+mul_add-requires : tie.Need-mul_add-requires
+mul_add-requires c κs = let s = c.requires in (omega arith, s.1, positive c.args.w)
 
 returns : tie.Need-returns
-returns c = let s = c.before.args in (c.mul-add.ensures.0 ∙ add_nothing (prime_of s.w) s.a s.b, c.mul-add.ensures.1)
+returns c = let s = c.args in (c.mul_add.ensures.0 ∙ add_nothing (prime_of s.w) s.a s.b, c.mul_add.ensures.1)
 
-pub product-spec : {M : Type 1} → statement M
-product-spec = tie.close (tie.spec mul-add-requires returns)
+pub product_spec : {M : Type 1} → statement M
+product_spec = tie.close (tie.spec
+    mul_add-requires
+    returns)

@@ -7,24 +7,30 @@ use borrow.Author.Rules.{rules}
 use Rattle.field.proofs.reduced.Statement.{statement}
 use Rattle.field.proofs.reduced.Tie as tie
 
-enum_told : tie.Need-enum-told
-enum_told c = search rules
+enum_told-1 : tie.Need-enum_told-1
+enum_told-1 c = search rules
 
-cast-result : tie.Need-overflow-cast-result
-cast-result c = search rules
+overflow_cast-result : tie.Need-overflow_cast-result
+overflow_cast-result c = search rules
 
-enum-told-2 : tie.Need-enum-told-2
-enum-told-2 c = search rules
+enum_told-in-Wide : tie.Need-enum_told-in-Wide
+enum_told-in-Wide c = search rules
 
-cast-result-2 : tie.Need-overflow-cast-result-2
-cast-result-2 c = search rules
+overflow_cast-result-in-Wide : tie.Need-overflow_cast-result-in-Wide
+overflow_cast-result-in-Wide c = search rules
 
-returns : tie.Need-returns
-returns c = chosen _ 65521 _ (ap prime_of c.enum_told.given.1) (lit< tt)
+returns-in-Narrow : tie.Need-returns-in-Narrow
+returns-in-Narrow c = chosen _ 65521 _ (ap prime_of c.in-Narrow.is) (lit< tt)
 
-returns-2 : tie.Need-returns-2
-returns-2 c = chosen _ 2147483647 _ (ap prime_of c.enum-told2.given.1) (lit< tt)
+returns-in-Wide : tie.Need-returns-in-Wide
+returns-in-Wide c = chosen _ 2147483647 _ (ap prime_of c.in-Wide.is) (lit< tt)
 
-pub reduced-spec : {M : Type 1} → statement M
-reduced-spec =
-    tie.close (tie.spec enum_told cast-result enum-told-2 cast-result-2 returns returns-2)
+pub reduced_spec : {M : Type 1} → statement M
+reduced_spec =
+    tie.close (tie.spec
+    enum_told-1
+    overflow_cast-result
+    enum_told-in-Wide
+    overflow_cast-result-in-Wide
+    returns-in-Narrow
+    returns-in-Wide)

@@ -10,26 +10,32 @@ use borrow.Author.Rules.{rules}
 use Rattle.field.proofs.reduces_to.Statement.{statement}
 use Rattle.field.proofs.reduces_to.Tie as tie
 
-modulus-requires : tie.Need-modulus-requires
-modulus-requires c κs = search rules
+modulus-p-requires : tie.Need-modulus-p-requires
+modulus-p-requires c κs = search rules
 
-returns : tie.Need-returns
-returns c = let s = c.before.before.args in no-residue (prime_of s.w) s.v s.y (positive s.w) (omega arith)
+returns-then-p-y : tie.Need-returns-then-p-y
+returns-then-p-y c = let s = c.args in no-residue (prime_of s.w) s.v s.y (positive s.w) (omega arith)
 
-returns-2 : tie.Need-returns-2
-returns-2 c = let s = c.before.before.before.args in too_small (prime_of s.w) s.v s.y (omega arith)
+returns-then-v-y : tie.Need-returns-then-v-y
+returns-then-v-y c = let s = c.args in too_small (prime_of s.w) s.v s.y (omega arith)
 
-sub-reduced : tie.Need-overflow-sub-reduced
-sub-reduced c = search rules
+overflow_sub-v : tie.Need-overflow_sub-v
+overflow_sub-v c = search rules
 
 reduced-requires : tie.Need-reduced-requires
 reduced-requires c κs = search rules
 
-returns-3 : tie.Need-returns-3
-returns-3 c =
-    let s = c.before.before.before.before.args in
+returns : tie.Need-returns
+returns c =
+    let s = c.args in
     ap (λ (z : ℕ). eqb z 0) c.reduced.ensures.0 ∙ without-remainder (prime_of s.w) s.v s.y (omega arith) (omega arith)
 
-pub reduces-to-spec : {M : Type 1} → statement M
-reduces-to-spec =
-    tie.close (tie.spec modulus-requires returns returns-2 sub-reduced reduced-requires returns-3)
+pub reduces_to_spec : {M : Type 1} → statement M
+reduces_to_spec =
+    tie.close (tie.spec
+    modulus-p-requires
+    returns-then-p-y
+    returns-then-v-y
+    overflow_sub-v
+    reduced-requires
+    returns)

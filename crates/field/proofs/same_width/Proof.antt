@@ -5,14 +5,17 @@ use borrow.Author.Rules.{rules}
 use Rattle.field.proofs.same_width.Statement.{statement}
 use Rattle.field.proofs.same_width.Tie as tie
 
-width-number-requires : tie.Need-width-number-requires
-width-number-requires c κs = search rules
+width_number-requires : tie.Need-width_number-requires
+width_number-requires c κs = search rules
 
-width-number-requires-2 : tie.Need-width-number-requires-2
-width-number-requires-2 c κs = search rules
+width_number-requires-2 : tie.Need-width_number-requires-2
+width_number-requires-2 c κs = search rules
 
 returns : tie.Need-returns
-returns c = ap₂ eqb c.before.width-number.ensures c.width-number2.ensures
+returns c = ap₂ eqb c.width_number.ensures c.width_number-2.ensures
 
-pub same-width-spec : {M : Type 1} → statement M
-same-width-spec = tie.close (tie.spec width-number-requires width-number-requires-2 returns)
+pub same_width_spec : {M : Type 1} → statement M
+same_width_spec = tie.close (tie.spec
+    width_number-requires
+    width_number-requires-2
+    returns)

@@ -19,57 +19,57 @@ narrow-le s narrow =
       omega (arith, mul-le-mul {n₁ = s.args.c} {m₁ = s.args.d} {n₂ = 65521} {m₂ = 65520} (omega (arith, q)) (omega (arith, q))),
     )
 
-enum_told : tie.Need-enum-told
-enum_told c = search rules
+enum_told-1 : tie.Need-enum_told-1
+enum_told-1 c = search rules
 
-mul-result : tie.Need-overflow-mul-result
-mul-result c = omega (arith, narrow-le c.before.before c.enum_told.given.1)
+overflow_mul-result : tie.Need-overflow_mul-result
+overflow_mul-result c = omega (arith, narrow-le c.before c.in-Narrow.is)
 
-cast-result : tie.Need-overflow-cast-result
-cast-result c = omega (arith, narrow-le c.before.before c.enum_told.given.1)
+overflow_cast-result : tie.Need-overflow_cast-result
+overflow_cast-result c = omega (arith, narrow-le c.before c.in-Narrow.is)
 
-mul-result-2 : tie.Need-overflow-mul-result-2
-mul-result-2 c = omega (arith, narrow-le c.before.before c.enum_told.given.1)
+overflow_mul-result-in-Narrow : tie.Need-overflow_mul-result-in-Narrow
+overflow_mul-result-in-Narrow c = omega (arith, narrow-le c.before c.in-Narrow.is)
 
-cast-result-2 : tie.Need-overflow-cast-result-2
-cast-result-2 c = omega (arith, narrow-le c.before.before c.enum_told.given.1)
+overflow_cast-result-in-Narrow : tie.Need-overflow_cast-result-in-Narrow
+overflow_cast-result-in-Narrow c = omega (arith, narrow-le c.before c.in-Narrow.is)
 
-add-result : tie.Need-overflow-add-result
-add-result c = omega (arith, narrow-le c.before.before c.enum_told.given.1)
+overflow_add-result : tie.Need-overflow_add-result
+overflow_add-result c = omega (arith, narrow-le c.before c.in-Narrow.is)
 
-enum-told-2 : tie.Need-enum-told-2
-enum-told-2 c = search rules
+enum_told-in-Wide : tie.Need-enum_told-in-Wide
+enum_told-in-Wide c = search rules
 
-mul-result-3 : tie.Need-overflow-mul-result-3
-mul-result-3 c = let q = within c.before.before.args.w in product-fits _ _ (omega (arith, q)) (omega (arith, q))
+overflow_mul-result-in-Wide : tie.Need-overflow_mul-result-in-Wide
+overflow_mul-result-in-Wide c = let q = within c.args.w in product-fits _ _ (omega (arith, q)) (omega (arith, q))
 
-mul-result-4 : tie.Need-overflow-mul-result-4
-mul-result-4 c = let q = within c.before.before.args.w in product-fits _ _ (omega (arith, q)) (omega (arith, q))
+overflow_mul-result-in-Wide-2 : tie.Need-overflow_mul-result-in-Wide-2
+overflow_mul-result-in-Wide-2 c = let q = within c.args.w in product-fits _ _ (omega (arith, q)) (omega (arith, q))
 
-add-result-2 : tie.Need-overflow-add-result-2
-add-result-2 c =
-    let q = within c.before.before.args.w in
+overflow_add-result-in-Wide : tie.Need-overflow_add-result-in-Wide
+overflow_add-result-in-Wide c =
+    let q = within c.args.w in
     both-fits _ _ _ _ (omega (arith, q)) (omega (arith, q)) (omega (arith, q)) (omega (arith, q))
 
-returns : tie.Need-returns
-returns c = search rules
+returns-in-Narrow : tie.Need-returns-in-Narrow
+returns-in-Narrow c = search rules
 
-returns-2 : tie.Need-returns-2
-returns-2 c = search rules
+returns-in-Wide : tie.Need-returns-in-Wide
+returns-in-Wide c = search rules
 
-pub sum-of-products-spec : {M : Type 1} → statement M
-sum-of-products-spec =
+pub sum_of_products_spec : {M : Type 1} → statement M
+sum_of_products_spec =
     tie.close
     (tie.spec
-    enum_told
-    mul-result
-    cast-result
-    mul-result-2
-    cast-result-2
-    add-result
-    enum-told-2
-    mul-result-3
-    mul-result-4
-    add-result-2
-    returns
-    returns-2)
+    enum_told-1
+    overflow_mul-result
+    overflow_cast-result
+    overflow_mul-result-in-Narrow
+    overflow_cast-result-in-Narrow
+    overflow_add-result
+    enum_told-in-Wide
+    overflow_mul-result-in-Wide
+    overflow_mul-result-in-Wide-2
+    overflow_add-result-in-Wide
+    returns-in-Narrow
+    returns-in-Wide)

@@ -14,8 +14,11 @@ product-requires c κs = search rules
 
 returns : tie.Need-returns
 returns c =
-    let p = prime_of c.before.before.args.w in
-    (c.product.ensures.0 ∙ ap (mul p _) c.before.difference.ensures.0, c.product.ensures.1)
+    let p = prime_of c.args.w in
+    (c.product.ensures.0 ∙ ap (mul p _) c.difference.ensures.0, c.product.ensures.1)
 
-pub times-run-spec : {M : Type 1} → statement M
-times-run-spec = tie.close (tie.spec difference-requires product-requires returns)
+pub times_run_spec : {M : Type 1} → statement M
+times_run_spec = tie.close (tie.spec
+    difference-requires
+    product-requires
+    returns)
