@@ -6,19 +6,23 @@ use Rattle.parties.specs.Parties.{not_sent}
 use Rattle.parties.proofs.not_sent.Statement.{statement}
 use Rattle.parties.proofs.not_sent.Tie as tie
 
-enum_told : tie.Need-enum-told
-enum_told c = search rules
+enum_told-1 : tie.Need-enum_told-1
+enum_told-1 c = search rules
 
-enum-told-2 : tie.Need-enum-told-2
-enum-told-2 c = search rules
+enum_told-in-Wide : tie.Need-enum_told-in-Wide
+enum_told-in-Wide c = search rules
 
-returns : tie.Need-returns
+returns-in-Narrow : tie.Need-returns-in-Narrow
 unfolding not_sent
-returns c = ap (λ v. not_sent (prime_of v)) (sym c.enum_told.given.1)
+returns-in-Narrow c = ap (λ v. not_sent (prime_of v)) (sym c.in-Narrow.is)
 
-returns-2 : tie.Need-returns-2
+returns-in-Wide : tie.Need-returns-in-Wide
 unfolding not_sent
-returns-2 c = ap (λ v. not_sent (prime_of v)) (sym c.enum-told2.given.1)
+returns-in-Wide c = ap (λ v. not_sent (prime_of v)) (sym c.in-Wide.is)
 
-pub not-sent-spec : {M : Type 1} → statement M
-not-sent-spec = tie.close (tie.spec enum_told enum-told-2 returns returns-2)
+pub not_sent_spec : {M : Type 1} → statement M
+not_sent_spec = tie.close (tie.spec
+    enum_told-1
+    enum_told-in-Wide
+    returns-in-Narrow
+    returns-in-Wide)

@@ -16,58 +16,58 @@ use Rattle.polynomial.proofs.all_below.Tie as tie
 abbrev fine : ℕ → ℕ → List ℕ → Bool
 fine p a rest = ltb a p
 
-abbrev invariant-loop : tie.invariant-loop
-invariant-loop p list i₀ i = Passed (residues p) list i
+abbrev invariant-loop-i : tie.invariant-loop-i
+invariant-loop-i p list i₀ i = Passed (residues p) list i
 
-abbrev decreases-loop : tie.decreases-loop
-decreases-loop p list i₀ i = i
+abbrev decreases-loop-i : tie.decreases-loop-i
+decreases-loop-i p list i₀ i = i
 
-loop-holds : tie.Need-loop-init invariant-loop decreases-loop
-loop-holds c = passed_start (fine c.args.p) (residues c.args.p) refl (λ a xs. refl) c.args.list.now
+loop-i-init : tie.Need-loop-i-init invariant-loop-i decreases-loop-i
+loop-i-init c = passed_start (fine c.args.p) (residues c.args.p) refl (λ a xs. refl) c.args.list.now
 
-sub-i : tie.Need-overflow-sub-i invariant-loop decreases-loop
-sub-i c = search rules
+overflow_sub-i : tie.Need-overflow_sub-i invariant-loop-i decreases-loop-i
+overflow_sub-i c = search rules
 
-mul-if1 : tie.Need-overflow-mul-if1 invariant-loop decreases-loop
-mul-if1 c = search rules
+offset_bounds-list-i : tie.Need-offset_bounds-list-i invariant-loop-i decreases-loop-i
+offset_bounds-list-i c = search rules
 
-shared-slice-read-if1 : tie.Need-shared-slice-read-if1 invariant-loop decreases-loop
-shared-slice-read-if1 c = search rules
+bounds-list-i : tie.Need-bounds-list-i invariant-loop-i decreases-loop-i
+bounds-list-i c = search rules
 
-returns : tie.Need-returns invariant-loop decreases-loop
-returns c =
-    let k = c.before.before.before.loop in
-    let s = c.before.before.before.before.args in
+returns-then-p-list : tie.Need-returns-then-p-list invariant-loop-i decreases-loop-i
+returns-then-p-list c =
+    let k = c.loop-i in
+    let s = c.args in
     passed-not (fine s.p) (residues s.p) refl (λ a xs. refl) s.list.now k.i (omega arith) k.invariant.within
-    (le-ltb _ _ c.if1.true)
+    (le-ltb _ _ c.if-p-list.true)
 
-loop-less : tie.Need-loop-smaller invariant-loop decreases-loop
-loop-less c = search rules
+loop-i-smaller : tie.Need-loop-i-smaller invariant-loop-i decreases-loop-i
+loop-i-smaller c = search rules
 
-loop-again : tie.Need-loop-preserved invariant-loop decreases-loop
-loop-again c =
-    let k = c.before.before.before.loop in
-    let p = c.before.before.before.before.args.p in
+loop-i-preserved : tie.Need-loop-i-preserved invariant-loop-i decreases-loop-i
+loop-i-preserved c =
+    let k = c.loop-i in
+    let p = c.args.p in
     passed-next (fine p) (residues p) refl (λ a xs. refl) _ k.i (omega arith) k.invariant.within k.invariant.rest
-    (lt-ltb _ _ c.if1.false)
+    (lt-ltb _ _ c.if-p-list.false)
 
-returns-2 : tie.Need-returns-2 invariant-loop decreases-loop
-returns-2 c =
-    let k = c.before.loop in
-    let p = c.before.before.args.p in
+returns : tie.Need-returns invariant-loop-i decreases-loop-i
+returns c =
+    let k = c.loop-i in
+    let p = c.args.p in
     passed-end (fine p) (residues p) refl (λ a xs. refl) _ k.i (omega arith) k.invariant
 
-pub all-below-spec : {M : Type 1} → statement M
-all-below-spec =
+pub all_below_spec : {M : Type 1} → statement M
+all_below_spec =
     tie.close
     (tie.spec
-    invariant-loop
-    decreases-loop
-    loop-holds
-    sub-i
-    mul-if1
-    shared-slice-read-if1
-    returns
-    loop-less
-    loop-again
-    returns-2)
+    invariant-loop-i
+    decreases-loop-i
+    loop-i-init
+    overflow_sub-i
+    offset_bounds-list-i
+    bounds-list-i
+    returns-then-p-list
+    loop-i-smaller
+    loop-i-preserved
+    returns)

@@ -5,17 +5,21 @@ use borrow.Author.Rules.{rules}
 use Rattle.polynomial.proofs.coefficient.Statement.{statement}
 use Rattle.polynomial.proofs.coefficient.Tie as tie
 
+returns-then-f-k : tie.Need-returns-then-f-k
+returns-then-f-k c = sym (get_or-eq_default c.args.f.now 0 c.if-f-k.true)
+
+offset_bounds-f-k : tie.Need-offset_bounds-f-k
+offset_bounds-f-k c = search rules
+
+bounds-f-k : tie.Need-bounds-f-k
+bounds-f-k c = search rules
+
 returns : tie.Need-returns
-returns c = sym (get_or-eq_default c.before.args.f.now 0 c.if1.true)
+returns c = search rules
 
-mul-result : tie.Need-overflow-mul-result
-mul-result c = search rules
-
-shared-slice-read-result : tie.Need-shared-slice-read-result
-shared-slice-read-result c = search rules
-
-returns-2 : tie.Need-returns-2
-returns-2 c = search rules
-
-pub coefficient-spec : {M : Type 1} → statement M
-coefficient-spec = tie.close (tie.spec returns mul-result shared-slice-read-result returns-2)
+pub coefficient_spec : {M : Type 1} → statement M
+coefficient_spec = tie.close (tie.spec
+    returns-then-f-k
+    offset_bounds-f-k
+    bounds-f-k
+    returns)

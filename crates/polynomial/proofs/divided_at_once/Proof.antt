@@ -23,24 +23,24 @@ with_value s r e = let a = s.args in (e, scheme-below (prime_of a.w) a.f.now a.x
 small : (s : tie.Start) (k : ℕ) → get_or s.args.f.now k 0 < prime_of s.args.w
 small s k = coefficient-below (prime_of s.args.w) s.args.f.now k (positive s.args.w) s.requires.0
 
-shared-slice-read-mul-add : tie.Need-shared-slice-read-mul-add
-shared-slice-read-mul-add c = search rules
+bounds-f-1 : tie.Need-bounds-f-1
+bounds-f-1 c = search rules
 
-shared-slice-read-mul-add-2 : tie.Need-shared-slice-read-mul-add-2
-shared-slice-read-mul-add-2 c = search rules
+bounds-f-0 : tie.Need-bounds-f-0
+bounds-f-0 c = search rules
 
-mul-add-requires : tie.Need-mul-add-requires
-mul-add-requires c κs = let s = c.before.before.before.before in (omega (arith, s.requires.1), small s _, small s _)
+mul_add-requires : tie.Need-mul_add-requires
+mul_add-requires c κs = let s = c.before.before.before.before in (omega (arith, s.requires.1), small s _, small s _)
 
-shared-slice-read-t13 : tie.Need-shared-slice-read-t13
-shared-slice-read-t13 c = search rules
+bounds-f-1-then-f-eq2 : tie.Need-bounds-f-1-then-f-eq2
+bounds-f-1-then-f-eq2 c = search rules
 
-returns : tie.Need-returns
-returns c =
+returns-then-f-eq2 : tie.Need-returns-then-f-eq2
+returns-then-f-eq2 c =
     let t = c.before.before.before.before in
     let s = t.before.before in
     with_value s _
-    (scheme-pair (prime_of s.args.w) s.args.f.now s.args.x _ s.requires.0 t.if1.true c.before.mul-add.ensures.0)
+    (scheme-pair (prime_of s.args.w) s.args.f.now s.args.x _ s.requires.0 t.if-f-eq2.true c.mul_add.ensures.0)
 
 coefficient-requires : tie.Need-coefficient-requires
 coefficient-requires c κs = search rules
@@ -54,32 +54,32 @@ coefficient-requires-3 c κs = search rules
 coefficient-requires-4 : tie.Need-coefficient-requires-4
 coefficient-requires-4 c κs = search rules
 
-cubic-divided-requires : tie.Need-cubic-divided-requires
-cubic-divided-requires c κs =
+cubic_divided-g-requires : tie.Need-cubic_divided-g-requires
+cubic_divided-g-requires c κs =
     let s = c.before.before.before.before.before.before in
     let read : (k a : ℕ) → a ≡ get_or s.args.f.now k 0 → a < prime_of s.args.w =
     λ k a e. subst (λ z. z < prime_of s.args.w) (sym e) (small s k) in (
-      read 0 _ c.before.before.before.coefficient.ensures,
-      read 1 _ c.before.before.coefficient2.ensures,
-      read 2 _ c.before.coefficient3.ensures,
-      read 3 _ c.coefficient4.ensures,
+      read 0 _ c.coefficient.ensures,
+      read 1 _ c.coefficient-2.ensures,
+      read 2 _ c.coefficient-3.ensures,
+      read 3 _ c.coefficient-4.ensures,
       s.requires.1,
     )
 
-array-read-t16 : tie.Need-array-read-t16
-array-read-t16 c = search rules
+bounds-g-0 : tie.Need-bounds-g-0
+bounds-g-0 c = search rules
 
-array-read-t19 : tie.Need-array-read-t19
-array-read-t19 c = search rules
+bounds-g-1 : tie.Need-bounds-g-1
+bounds-g-1 c = search rules
 
-array-read-t18 : tie.Need-array-read-t18
-array-read-t18 c = search rules
+bounds-g-2 : tie.Need-bounds-g-2
+bounds-g-2 c = search rules
 
-array-read-t17 : tie.Need-array-read-t17
-array-read-t17 c = search rules
+bounds-g-3 : tie.Need-bounds-g-3
+bounds-g-3 c = search rules
 
-returns-2 : tie.Need-returns-2
-returns-2 c =
+returns : tie.Need-returns
+returns c =
     let s = c.before.before.before.before.before.before.before in
     let p = prime_of s.args.w in
     let f = s.args.f.now in
@@ -87,27 +87,27 @@ returns-2 c =
     → cubic_scheme p a b d e s.args.x ≡ cubic_scheme p (get_or f 0 0) (get_or f 1 0) (get_or f 2 0) (get_or f 3 0) s.args.x =
     λ a b d e i j k l. rw (i, j, k, l) in
     with_value s _
-    (scheme-few p f s.args.x c.cubic-divided.result (positive s.args.w) s.requires.0 s.requires.2
-    (c.cubic-divided.ensures
-    ∙ read _ _ _ _ c.before.before.before.before.coefficient.ensures c.before.before.before.coefficient2.ensures
-    c.before.before.coefficient3.ensures c.before.coefficient4.ensures))
+    (scheme-few p f s.args.x c.cubic_divided-g.result (positive s.args.w) s.requires.0 s.requires.2
+    (c.cubic_divided-g.ensures
+    ∙ read _ _ _ _ c.coefficient.ensures c.coefficient-2.ensures
+    c.coefficient-3.ensures c.coefficient-4.ensures))
 
-pub divided-at-once-spec : {M : Type 1} → statement M
-divided-at-once-spec =
+pub divided_at_once_spec : {M : Type 1} → statement M
+divided_at_once_spec =
     tie.close
     (tie.spec
-    shared-slice-read-mul-add
-    shared-slice-read-mul-add-2
-    mul-add-requires
-    shared-slice-read-t13
-    returns
+    bounds-f-1
+    bounds-f-0
+    mul_add-requires
+    bounds-f-1-then-f-eq2
+    returns-then-f-eq2
     coefficient-requires
     coefficient-requires-2
     coefficient-requires-3
     coefficient-requires-4
-    cubic-divided-requires
-    array-read-t16
-    array-read-t19
-    array-read-t18
-    array-read-t17
-    returns-2)
+    cubic_divided-g-requires
+    bounds-g-0
+    bounds-g-1
+    bounds-g-2
+    bounds-g-3
+    returns)

@@ -9,20 +9,20 @@ use borrow.Author.Rules.{rules}
 use Rattle.polynomial.proofs.four_coefficients.Statement.{statement}
 use Rattle.polynomial.proofs.four_coefficients.Tie as tie
 
-shared-slice-read-t5 : tie.Need-shared-slice-read-t5
-shared-slice-read-t5 c = search rules
+bounds-list-0 : tie.Need-bounds-list-0
+bounds-list-0 c = search rules
 
-shared-slice-read-t7 : tie.Need-shared-slice-read-t7
-shared-slice-read-t7 c = search rules
+bounds-list-1 : tie.Need-bounds-list-1
+bounds-list-1 c = search rules
 
-shared-slice-read-t9 : tie.Need-shared-slice-read-t9
-shared-slice-read-t9 c = search rules
+bounds-list-2 : tie.Need-bounds-list-2
+bounds-list-2 c = search rules
 
-shared-slice-read-t11 : tie.Need-shared-slice-read-t11
-shared-slice-read-t11 c = search rules
+bounds-list-3 : tie.Need-bounds-list-3
+bounds-list-3 c = search rules
 
-returns : tie.Need-returns
-returns c = let s = c.before.before.before.before.before.before in four-padded s.args.list.now s.requires
+returns-then-list-eq4 : tie.Need-returns-then-list-eq4
+returns-then-list-eq4 c = let s = c.before.before.before.before.before.before in four-padded s.args.list.now s.requires
 
 coefficient-requires : tie.Need-coefficient-requires
 coefficient-requires c κs = search rules
@@ -36,26 +36,26 @@ coefficient-requires-3 c κs = search rules
 coefficient-requires-4 : tie.Need-coefficient-requires-4
 coefficient-requires-4 c κs = search rules
 
-returns-2 : tie.Need-returns-2
-returns-2 c =
+returns : tie.Need-returns
+returns c =
     let s = c.before.before.before.before.before.before in
     let read : (i j k l : ℕ) → let f = s.args.list.now in
     i ≡ get_or f 0 0 → j ≡ get_or f 1 0 → k ≡ get_or f 2 0 → l ≡ get_or f 3 0 → i ∷ j ∷ k ∷ l ∷ [] ≡ pad 4 f =
     λ i j k l a b d e. rw (a, b, d, e) (four-padded s.args.list.now s.requires) in
-    read _ _ _ _ c.before.before.before.coefficient.ensures c.before.before.coefficient2.ensures
-    c.before.coefficient3.ensures c.coefficient4.ensures
+    read _ _ _ _ c.coefficient.ensures c.coefficient-2.ensures
+    c.coefficient-3.ensures c.coefficient-4.ensures
 
-pub four-coefficients-spec : {M : Type 1} → statement M
-four-coefficients-spec =
+pub four_coefficients_spec : {M : Type 1} → statement M
+four_coefficients_spec =
     tie.close
     (tie.spec
-    shared-slice-read-t5
-    shared-slice-read-t7
-    shared-slice-read-t9
-    shared-slice-read-t11
-    returns
+    bounds-list-0
+    bounds-list-1
+    bounds-list-2
+    bounds-list-3
+    returns-then-list-eq4
     coefficient-requires
     coefficient-requires-2
     coefficient-requires-3
     coefficient-requires-4
-    returns-2)
+    returns)

@@ -8,11 +8,14 @@ use Rattle.polynomial.proofs.residues.Tie as tie
 modulus-requires : tie.Need-modulus-requires
 modulus-requires c κs = search rules
 
-all-below-requires : tie.Need-all-below-requires
-all-below-requires c κs = search rules
+all_below-requires : tie.Need-all_below-requires
+all_below-requires c κs = search rules
 
 returns : tie.Need-returns
-returns c = c.all-below.ensures ∙ ap (λ p. residues p c.before.before.before.args.list.now) c.before.modulus.ensures
+returns c = c.all_below.ensures ∙ ap (λ p. residues p c.args.list.now) c.modulus.ensures
 
-pub residues-spec : {M : Type 1} → statement M
-residues-spec = tie.close (tie.spec modulus-requires all-below-requires returns)
+pub residues_spec : {M : Type 1} → statement M
+residues_spec = tie.close (tie.spec
+    modulus-requires
+    all_below-requires
+    returns)
