@@ -35,7 +35,7 @@ use Rattle.fit.proofs.Selection.{hits-marked, fit-hide, sent-marked}
 use Rattle.parties.specs.Parties.{is_party, parties, member, entry, not_sent}
 use Rattle.parties.proofs.Parties.{sizes-facts, party-facts, party-true, mem-parties, length-parties, not-sent-above}
 use Rattle.tables.specs.Tables.{point_at}
-use Rattle.tables.proofs.Tables.{table-points, points-of, point_at}
+use Rattle.tables.proofs.Tables.{table-points, points-of, point_at_lem}
 use Rattle.recovery.specs.Recovery.{repair}
 use Rattle.recovery.proofs.Deciding.{marks-ones}
 use Rattle.answers.specs.Fits.{constant}
@@ -112,7 +112,7 @@ module _ (s : Setting) (legal : Legal s) where
       → value (prime s) f (get_or s.table k 0) ≡ get_or ys k 0
   at_place ys f k e =
       let place : suc k - 1 ≡ k = omega arith in
-      ap (value (prime s) f) (point_at s.table k) ∙ e ∙ ap (λ z. get_or ys z 0) place
+      ap (value (prime s) f) (point_at_lem s.table k) ∙ e ∙ ap (λ z. get_or ys z 0) place
 
   pub marks-long : (test : ℕ → Bool) → length (map test (parties s.n)) ≡ length s.table
   marks-long test = length-map (parties s.n) test ∙ length-parties s.n ∙ sym legal.table.size

@@ -1,7 +1,7 @@
 -- Laws of the tables of points: the test is right, 1 to n is a table, and what a lamp keeps of one.
 --   table-facts, table-true, length-not, short-not, table-points   what the test says of a list
 --   tests-pass, tests-length                what the tests of a lent one say
---   points-of, point_at                     the table is the list of its parties' points
+--   points-of, point_at_lem                  the table is the list of its parties' points
 --   point-not-zero, point-once              no party's point is 0, and no two parties have one
 --   point-below                             a point is a residue, also that of none
 --   length-one-to, one-to-table, one-to-point   1 to n has n numbers, is a table, and i is party i's point in it
@@ -94,9 +94,9 @@ module _ (p n : ℕ) (T : List ℕ) where
   tests-length h = rw (ne_eqb (length T) n h)
 
 -- ---- the points
-pub point_at : (T : List ℕ) (k : ℕ) → get_or T k 0 ≡ point_at T (suc k)
+pub point_at_lem : (T : List ℕ) (k : ℕ) → get_or T k 0 ≡ point_at T (suc k)
 unfolding point_at
-point_at T k = let place : k ≡ suc k - 1 = omega arith in ap (λ z. get_or T z 0) place
+point_at_lem T k = let place : k ≡ suc k - 1 = omega arith in ap (λ z. get_or T z 0) place
 
 -- The points of parties 1 to n are the table.
 pub points-of : (n : ℕ) (T : List ℕ) → length T ≡ n → map (point_at T) (parties n) ≡ T
@@ -104,7 +104,7 @@ points-of n T l =
     let long : length (tabulate (λ k. point_at T (suc k)) n) ≡ n = length-tabulate (λ k. point_at T (suc k)) n in
     map-tabulate (point_at T) suc n
     ∙ ext_get_or 0 (tabulate (λ k. point_at T (suc k)) n) T (long ∙ sym l) (λ k h.
-    get_or-tabulate (λ k. point_at T (suc k)) n k 0 (omega arith) ∙ sym (point_at T k))
+    get_or-tabulate (λ k. point_at T (suc k)) n k 0 (omega arith) ∙ sym (point_at_lem T k))
 
 -- Where the entries are residues, so is the point of anyone: behind the last it is 0.
 pub point-below : (p : ℕ) (T : List ℕ) (i : ℕ) → 0 < p → Residues p T → point_at T i < p

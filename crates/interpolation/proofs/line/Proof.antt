@@ -6,18 +6,21 @@ use borrow.Author.Rules.{rules}
 use Rattle.interpolation.proofs.line.Statement.{statement}
 use Rattle.interpolation.proofs.line.Tie as tie
 
-slope-requires : tie.Need-slope-requires
-slope-requires c κs = search rules
+slope-b-requires : tie.Need-slope-b-requires
+slope-b-requires c κs = search rules
 
-mul-sub-requires : tie.Need-mul-sub-requires
-mul-sub-requires c κs = search rules
+mul_sub-a-requires : tie.Need-mul_sub-a-requires
+mul_sub-a-requires c κs = search rules
 
 returns : tie.Need-returns
 returns c =
-    let s = c.before.before.args in
+    let s = c.args in
     let z = positive s.w in
-    let found = line-by (prime_of s.w) s.x0 s.x1 s.y0 s.y1 _ _ c.before.slope.ensures.0 c.mul-sub.ensures.0 in
-    (found, (c.mul-sub.ensures.1, (c.before.slope.ensures.1, (z, (z, tt)))))
+    let found = line-by (prime_of s.w) s.x0 s.x1 s.y0 s.y1 _ _ c.slope-b.ensures.0 c.mul_sub-a.ensures.0 in
+    (found, (c.mul_sub-a.ensures.1, (c.slope-b.ensures.1, (z, (z, tt)))))
 
-pub line-spec : {M : Type 1} → statement M
-line-spec = tie.close (tie.spec slope-requires mul-sub-requires returns)
+pub line_spec : {M : Type 1} → statement M
+line_spec = tie.close (tie.spec
+    slope-b-requires
+    mul_sub-a-requires
+    returns)

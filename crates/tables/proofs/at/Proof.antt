@@ -5,17 +5,21 @@ use lib.ListN.{get_or-eq_default}
 use Rattle.tables.proofs.at.Statement.{statement}
 use Rattle.tables.proofs.at.Tie as tie
 
+returns-then-list-place : tie.Need-returns-then-list-place
+returns-then-list-place c = sym (get_or-eq_default c.args.list.now 0 c.if-list-place.true)
+
+offset_bounds-list-place : tie.Need-offset_bounds-list-place
+offset_bounds-list-place c = search rules
+
+bounds-list-place : tie.Need-bounds-list-place
+bounds-list-place c = search rules
+
 returns : tie.Need-returns
-returns c = sym (get_or-eq_default c.before.args.list.now 0 c.if1.true)
+returns c = search rules
 
-mul-result : tie.Need-overflow-mul-result
-mul-result c = search rules
-
-shared-slice-read-result : tie.Need-shared-slice-read-result
-shared-slice-read-result c = search rules
-
-returns-2 : tie.Need-returns-2
-returns-2 c = search rules
-
-pub at-spec : {M : Type 1} → statement M
-at-spec = tie.close (tie.spec returns mul-result shared-slice-read-result returns-2)
+pub at_spec : {M : Type 1} → statement M
+at_spec = tie.close (tie.spec
+    returns-then-list-place
+    offset_bounds-list-place
+    bounds-list-place
+    returns)

@@ -73,26 +73,26 @@ record Rising (p : ℕ) (xs : List ℕ) (low i : ℕ) : Type 0 where
   above : Above low (drop i xs)
   there : low < p → absent low (drop i xs) ≡ false
 
-abbrev invariant-loop : tie.invariant-loop
-invariant-loop p list low₀ i₀ low i = Rising p list low i
+abbrev invariant-loop-i : tie.invariant-loop-i
+invariant-loop-i p list low₀ i₀ low i = Rising p list low i
 
-abbrev decreases-loop : tie.decreases-loop
-decreases-loop p list low₀ i₀ low i = i
+abbrev decreases-loop-i : tie.decreases-loop-i
+decreases-loop-i p list low₀ i₀ low i = i
 
 -- The places that the proof names: the turn of the loop in which a number is looked for, the list, and the bound.
-abbrev turn : tie.After-absent invariant-loop decreases-loop → tie.At-loop invariant-loop decreases-loop
+abbrev turn : tie.After-absent invariant-loop-i decreases-loop-i → tie.At-loop-i invariant-loop-i decreases-loop-i
 turn looked = looked.before.before.before.before.before.before
 
-abbrev list_of : tie.At-loop invariant-loop decreases-loop → List ℕ
-list_of k = k.before.before.args.table.now
+abbrev list_of : tie.At-loop-i invariant-loop-i decreases-loop-i → List ℕ
+list_of k = k.args.table.now
 
-abbrev bound_of : tie.At-loop invariant-loop decreases-loop → ℕ
-bound_of k = k.before.before.args.p
+abbrev bound_of : tie.At-loop-i invariant-loop-i decreases-loop-i → ℕ
+bound_of k = k.args.p
 
-loop-holds : tie.Need-loop-init invariant-loop decreases-loop
-loop-holds c =
-    let xs = c.before.args.table.now in
-    let p = c.before.args.p in
+loop-i-init : tie.Need-loop-i-init invariant-loop-i decreases-loop-i
+loop-i-init c =
+    let xs = c.args.table.now in
+    let p = c.args.p in
     record {
       passed = passed_start (fine p) (distinct_residues p) refl (λ a xs. refl) xs;
       residue = omega arith;
@@ -100,26 +100,26 @@ loop-holds c =
       there = λ h. absurd (omega arith);
     }
 
-sub-i : tie.Need-overflow-sub-i invariant-loop decreases-loop
-sub-i c = search rules
+overflow_sub-i : tie.Need-overflow_sub-i invariant-loop-i decreases-loop-i
+overflow_sub-i c = search rules
 
-mul-x : tie.Need-overflow-mul-x invariant-loop decreases-loop
-mul-x c = search rules
+offset_bounds-table-i : tie.Need-offset_bounds-table-i invariant-loop-i decreases-loop-i
+offset_bounds-table-i c = search rules
 
-shared-slice-read-x : tie.Need-shared-slice-read-x invariant-loop decreases-loop
-shared-slice-read-x c = search rules
+bounds-table-i : tie.Need-bounds-table-i invariant-loop-i decreases-loop-i
+bounds-table-i c = search rules
 
-loop-less : tie.Need-loop-smaller invariant-loop decreases-loop
-loop-less c = search rules
+loop-i-smaller-then-x-low : tie.Need-loop-i-smaller-then-x-low invariant-loop-i decreases-loop-i
+loop-i-smaller-then-x-low c = search rules
 
-loop-again : tie.Need-loop-preserved invariant-loop decreases-loop
-loop-again c =
-    let k = c.before.before.before.loop in
+loop-i-preserved-then-x-low : tie.Need-loop-i-preserved-then-x-low invariant-loop-i decreases-loop-i
+loop-i-preserved-then-x-low c =
+    let k = c.loop-i in
     let xs = list_of c.before.before.before in
     let p = bound_of c.before.before.before in
     let passed = k.invariant.passed in
     let x : ℕ = get_or xs (k.i - 1) 0 in
-    let lower : x < k.low = c.if1.true in
+    let lower : x < k.low = c.if-x-low.true in
     record {
       passed =
           passed-next (fine p) (distinct_residues p) refl (λ a xs. refl) xs k.i (omega arith) passed.within passed.rest
@@ -131,91 +131,91 @@ loop-again c =
       there = λ h. ap (absent x) (drop-back xs k.i 0 (omega arith) passed.within) ∙ not-absent x (drop k.i xs);
     }
 
-returns : tie.Need-returns invariant-loop decreases-loop
-returns c =
-    let k = c.before.before.before.before.loop in
+returns-then-p-x : tie.Need-returns-then-p-x invariant-loop-i decreases-loop-i
+returns-then-p-x c =
+    let k = c.loop-i in
     let xs = list_of c.before.before.before.before in
     let p = bound_of c.before.before.before.before in
     no_table p xs (passed-not (fine p) (distinct_residues p) refl (λ a xs. refl) xs k.i (omega arith) k.invariant.passed.within
-    (large p _ (drop k.i xs) c.if2.true))
+    (large p _ (drop k.i xs) c.if-p-x.true))
 
-mul-absent : tie.Need-overflow-mul-absent invariant-loop decreases-loop
-mul-absent c = search rules
+offset_bounds-table-behind : tie.Need-offset_bounds-table-behind invariant-loop-i decreases-loop-i
+offset_bounds-table-behind c = search rules
 
-sub-absent : tie.Need-overflow-sub-absent invariant-loop decreases-loop
-sub-absent c = search rules
+slice_bounds-absent-count : tie.Need-slice_bounds-absent-count invariant-loop-i decreases-loop-i
+slice_bounds-absent-count c = search rules
 
-part-absent-start : tie.Need-slice-bounds-absent-start invariant-loop decreases-loop
-part-absent-start c = search rules
+slice_bounds-absent-start : tie.Need-slice_bounds-absent-start invariant-loop-i decreases-loop-i
+slice_bounds-absent-start c = search rules
 
-part-absent-end : tie.Need-slice-bounds-absent-end invariant-loop decreases-loop
-part-absent-end c = search rules
+slice_bounds-absent-end : tie.Need-slice_bounds-absent-end invariant-loop-i decreases-loop-i
+slice_bounds-absent-end c = search rules
 
-absent-requires : tie.Need-absent-requires invariant-loop decreases-loop
+absent-requires : tie.Need-absent-requires invariant-loop-i decreases-loop-i
 absent-requires c κs = search rules
 
-returns-2 : tie.Need-returns-2 invariant-loop decreases-loop
-returns-2 c =
+returns-then-not-absent : tie.Need-returns-then-not-absent invariant-loop-i decreases-loop-i
+returns-then-not-absent c =
     let looked = c.before in
-    let k = (turn looked).loop in
+    let k = (turn looked).loop-i in
     let xs = list_of (turn looked) in
     let p = bound_of (turn looked) in
-    no_table p xs (passed-not (fine p) (distinct_residues p) refl (λ a xs. refl) xs k.i (omega arith) k.inv.passed.within
+    no_table p xs (passed-not (fine p) (distinct_residues p) refl (λ a xs. refl) xs k.i (omega arith) k.invariant.passed.within
     (twice p _ (drop k.i xs)
-    (ap (absent _) (sym (lent-rest k.i xs)) ∙ sym looked.absent.ensures ∙ not-true looked.absent.result c.if3.true)))
+    (ap (absent _) (sym (lent-rest k.i xs)) ∙ sym looked.absent.ensures ∙ c.if-not-absent.true)))
 
-loop-less-2 : tie.Need-loop-smaller-2 invariant-loop decreases-loop
-loop-less-2 c = search rules
+loop-i-smaller : tie.Need-loop-i-smaller invariant-loop-i decreases-loop-i
+loop-i-smaller c = search rules
 
-loop-again-2 : tie.Need-loop-preserved-2 invariant-loop decreases-loop
-loop-again-2 c =
+loop-i-preserved : tie.Need-loop-i-preserved invariant-loop-i decreases-loop-i
+loop-i-preserved c =
     let looked = c.before in
-    let k = (turn looked).loop in
+    let k = (turn looked).loop-i in
     let xs = list_of (turn looked) in
     let p = bound_of (turn looked) in
-    let passed = k.inv.passed in
+    let passed = k.invariant.passed in
     record {
       passed =
           passed-next (fine p) (distinct_residues p) refl (λ a xs. refl) xs k.i (omega arith) passed.within passed.rest
-          (fresh p _ (drop k.i xs) c.before.before.before.if2.false
-          (ap (absent _) (sym (lent-rest k.i xs)) ∙ sym looked.absent.ensures ∙ not-false looked.absent.result c.if3.false));
-      residue = k.inv.residue;
-      above = above-back k.low k.i xs (omega arith) passed.within c.before.before.before.before.if1.false k.inv.above;
+          (fresh p _ (drop k.i xs) c.if-p-x.false
+          (ap (absent _) (sym (lent-rest k.i xs)) ∙ sym looked.absent.ensures ∙ c.if-not-absent.false));
+      residue = k.invariant.residue;
+      above = above-back k.low k.i xs (omega arith) passed.within c.if-x-low.false k.invariant.above;
       there = λ h.
           ap (absent k.low) (drop-back xs k.i 0 (omega arith) passed.within)
-          ∙ later-absent k.low (get_or xs (k.i - 1) 0) (drop k.i xs) (k.inv.there h);
+          ∙ later-absent k.low (get_or xs (k.i - 1) 0) (drop k.i xs) (k.invariant.there h);
     }
 
-returns-3 : tie.Need-returns-3 invariant-loop decreases-loop
-returns-3 c =
-    let k = c.before.loop in
+returns : tie.Need-returns invariant-loop-i decreases-loop-i
+returns c =
+    let k = c.loop-i in
     let xs = list_of c.before in
     let p = bound_of c.before in
     let all : k.i ≡ 0 = omega arith in
-    a-table p xs k.low c.before.before.before.requires
+    a-table p xs k.low c.requires
     (passed-end (fine p) (distinct_residues p) refl (λ a xs. refl) xs k.i all k.invariant.passed)
     (subst (λ z. Above k.low (drop z xs)) all k.invariant.above)
     (λ h. ap (λ z. absent k.low (drop z xs)) (sym all) ∙ k.invariant.there h)
 
-pub good-entries-spec : {M : Type 1} → statement M
-good-entries-spec =
+pub good_entries_spec : {M : Type 1} → statement M
+good_entries_spec =
     tie.close
     (tie.spec
-    invariant-loop
-    decreases-loop
-    loop-holds
-    sub-i
-    mul-x
-    shared-slice-read-x
-    loop-less
-    loop-again
-    returns
-    mul-absent
-    sub-absent
-    part-absent-start
-    part-absent-end
+    invariant-loop-i
+    decreases-loop-i
+    loop-i-init
+    overflow_sub-i
+    offset_bounds-table-i
+    bounds-table-i
+    loop-i-smaller-then-x-low
+    loop-i-preserved-then-x-low
+    returns-then-p-x
+    offset_bounds-table-behind
+    slice_bounds-absent-count
+    slice_bounds-absent-start
+    slice_bounds-absent-end
     absent-requires
-    returns-2
-    loop-less-2
-    loop-again-2
-    returns-3)
+    returns-then-not-absent
+    loop-i-smaller
+    loop-i-preserved
+    returns)

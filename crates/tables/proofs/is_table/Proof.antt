@@ -8,20 +8,24 @@ use Rattle.tables.proofs.Tables.{length-not}
 use Rattle.tables.proofs.is_table.Statement.{statement}
 use Rattle.tables.proofs.is_table.Tie as tie
 
-returns : tie.Need-returns
-returns c = let a = c.before.before.args in length-not _ a.n a.table.now c.if1.true
+returns-then-table-n : tie.Need-returns-then-table-n
+returns-then-table-n c = let a = c.args in length-not _ a.n a.table.now c.if-table-n.true
 
 modulus-requires : tie.Need-modulus-requires
 modulus-requires c κs = search rules
 
-good-entries-requires : tie.Need-good-entries-requires
-good-entries-requires c κs = subst (λ p. 0 < p) (sym c.modulus.ensures) (positive c.before.before.before.args.w)
+good_entries-requires : tie.Need-good_entries-requires
+good_entries-requires c κs = subst (λ p. 0 < p) (sym c.modulus.ensures) (positive c.args.w)
 
-returns-2 : tie.Need-returns-2
-returns-2 c =
+returns : tie.Need-returns
+returns c =
     let e = c.before.before in
-    let a = e.before.before.args in
-    c.good-entries.ensures ∙ ap₂ (λ p m. is_table p m a.table.now) c.before.modulus.ensures e.if1.false
+    let a = e.args in
+    c.good_entries.ensures ∙ ap₂ (λ p m. is_table p m a.table.now) c.modulus.ensures e.if-table-n.false
 
-pub is-table-spec : {M : Type 1} → statement M
-is-table-spec = tie.close (tie.spec returns modulus-requires good-entries-requires returns-2)
+pub is_table_spec : {M : Type 1} → statement M
+is_table_spec = tie.close (tie.spec
+    returns-then-table-n
+    modulus-requires
+    good_entries-requires
+    returns)

@@ -6,14 +6,17 @@ use borrow.Author.Rules.{rules}
 use Rattle.tables.proofs.number_or_zero.Statement.{statement}
 use Rattle.tables.proofs.number_or_zero.Tie as tie
 
-add-result : tie.Need-overflow-add-result
-add-result c = search rules
+overflow_add-result : tie.Need-overflow_add-result
+overflow_add-result c = search rules
+
+returns-then-k-n : tie.Need-returns-then-k-n
+returns-then-k-n c = let a = c.args in rw (lt-ltb a.k a.n c.if-k-n.true) (add-one a.k)
 
 returns : tie.Need-returns
-returns c = let a = c.before.args in rw (lt-ltb a.k a.n c.if1.true) (add-one a.k)
+returns c = let a = c.args in rw (le-ltb a.k a.n (omega arith))
 
-returns-2 : tie.Need-returns-2
-returns-2 c = let a = c.before.args in rw (le-ltb a.k a.n (omega arith))
-
-pub number-or-zero-spec : {M : Type 1} → statement M
-number-or-zero-spec = tie.close (tie.spec add-result returns returns-2)
+pub number_or_zero_spec : {M : Type 1} → statement M
+number_or_zero_spec = tie.close (tie.spec
+    overflow_add-result
+    returns-then-k-n
+    returns)

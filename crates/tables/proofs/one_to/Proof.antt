@@ -11,45 +11,45 @@ use Rattle.tables.proofs.Tables.{length-one-to, one_to_at, one-to-padded, kept_w
 use Rattle.tables.proofs.one_to.Statement.{statement}
 use Rattle.tables.proofs.one_to.Tie as tie
 
-abbrev invariant-loop : tie.invariant-loop
-invariant-loop n array₀ k₀ array k = (k ≤ 16) × (array ≡ filled (one_to_at n) 0 16 k)
+abbrev invariant-loop-k : tie.invariant-loop-k
+invariant-loop-k n array₀ k₀ array k = (k ≤ 16) × (array ≡ filled (one_to_at n) 0 16 k)
 
-abbrev decreases-loop : tie.decreases-loop
-decreases-loop n array₀ k₀ array k = 16 - k
+abbrev decreases-loop-k : tie.decreases-loop-k
+decreases-loop-k n array₀ k₀ array k = 16 - k
 
-returns : tie.Need-returns invariant-loop decreases-loop
-returns c = let n = c.before.args.n in kept-many n (one_to n) c.if1.true
+returns-then-n-gt16 : tie.Need-returns-then-n-gt16 invariant-loop-k decreases-loop-k
+returns-then-n-gt16 c = let n = c.args.n in kept-many n (one_to n) c.if-n-gt16.true
 
-loop-holds : tie.Need-loop-init invariant-loop decreases-loop
-loop-holds c = (search rules, fill_start (one_to_at c.before.args.n) 16)
+loop-k-init : tie.Need-loop-k-init invariant-loop-k decreases-loop-k
+loop-k-init c = (search rules, fill_start (one_to_at c.args.n) 16)
 
-number-or-zero-requires : tie.Need-number-or-zero-requires invariant-loop decreases-loop
-number-or-zero-requires c κs = search rules
+number_or_zero-requires : tie.Need-number_or_zero-requires invariant-loop-k decreases-loop-k
+number_or_zero-requires c κs = search rules
 
-cast-array : tie.Need-overflow-cast-array invariant-loop decreases-loop
-cast-array c = search rules
+overflow_cast-array : tie.Need-overflow_cast-array invariant-loop-k decreases-loop-k
+overflow_cast-array c = search rules
 
-mul-array : tie.Need-overflow-mul-array invariant-loop decreases-loop
-mul-array c = search rules
+offset_bounds-array-k : tie.Need-offset_bounds-array-k invariant-loop-k decreases-loop-k
+offset_bounds-array-k c = search rules
 
-array-write-array : tie.Need-array-write-array invariant-loop decreases-loop
-array-write-array c = search rules
+bounds-array-k : tie.Need-bounds-array-k invariant-loop-k decreases-loop-k
+bounds-array-k c = search rules
 
-add-k : tie.Need-overflow-add-k invariant-loop decreases-loop
-add-k c = search rules
+overflow_step-k : tie.Need-overflow_step-k invariant-loop-k decreases-loop-k
+overflow_step-k c = search rules
 
-loop-less : tie.Need-loop-smaller invariant-loop decreases-loop
-loop-less c = search rules
+loop-k-smaller : tie.Need-loop-k-smaller invariant-loop-k decreases-loop-k
+loop-k-smaller c = search rules
 
-loop-again : tie.Need-loop-preserved invariant-loop decreases-loop
-loop-again c =
-    let k = c.before.before.loop in
-    (search rules, fill-next (one_to_at _) 16 k.array k.k _ k.invariant.1 (omega arith) c.number-or-zero.ensures)
+loop-k-preserved : tie.Need-loop-k-preserved invariant-loop-k decreases-loop-k
+loop-k-preserved c =
+    let k = c.loop-k in
+    (search rules, fill-next (one_to_at _) 16 k.array k.k _ k.invariant.1 (omega arith) c.number_or_zero.ensures)
 
-returns-2 : tie.Need-returns-2 invariant-loop decreases-loop
-returns-2 c =
-    let k = c.before.loop in
-    let n = c.before.before.before.args.n in
+returns : tie.Need-returns invariant-loop-k decreases-loop-k
+returns c =
+    let k = c.loop-k in
+    let n = c.args.n in
     let all : k.k ≡ 16 = omega arith in
     k.invariant.1
     ∙ ap (filled (one_to_at n) 0 16) all
@@ -57,19 +57,19 @@ returns-2 c =
     ∙ one-to-padded n (omega arith)
     ∙ kept_whole n (one_to n) (omega arith) (length-one-to n)
 
-pub one-to-spec : {M : Type 1} → statement M
-one-to-spec =
+pub one_to_spec : {M : Type 1} → statement M
+one_to_spec =
     tie.close
     (tie.spec
-    invariant-loop
-    decreases-loop
-    returns
-    loop-holds
-    number-or-zero-requires
-    cast-array
-    mul-array
-    array-write-array
-    add-k
-    loop-less
-    loop-again
-    returns-2)
+    invariant-loop-k
+    decreases-loop-k
+    returns-then-n-gt16
+    loop-k-init
+    number_or_zero-requires
+    overflow_cast-array
+    offset_bounds-array-k
+    bounds-array-k
+    overflow_step-k
+    loop-k-smaller
+    loop-k-preserved
+    returns)

@@ -10,19 +10,24 @@ use Rattle.tables.proofs.point_at.Tie as tie
 at-requires : tie.Need-at-requires
 at-requires c κs = search rules
 
-returns : tie.Need-returns
+returns-then-i-eq0 : tie.Need-returns-then-i-eq0
 unfolding point_at
-returns c = c.at.ensures ∙ ap (λ z. get_or c.before.before.before.args.table.now (z - 1) 0) (sym c.before.if1.true)
+returns-then-i-eq0 c = c.at.ensures ∙ ap (λ z. get_or c.args.table.now (z - 1) 0) (sym c.if-i-eq0.true)
 
-sub_at : tie.Need-overflow-sub-at
-sub_at c = search rules
+overflow_sub-i : tie.Need-overflow_sub-i
+overflow_sub-i c = search rules
 
 at-requires-2 : tie.Need-at-requires-2
 at-requires-2 c κs = search rules
 
-returns-2 : tie.Need-returns-2
+returns : tie.Need-returns
 unfolding point_at
-returns-2 c = c.at2.ensures
+returns c = c.at-2.ensures
 
-pub point-at-spec : {M : Type 1} → statement M
-point-at-spec = tie.close (tie.spec at-requires returns sub_at at-requires-2 returns-2)
+pub point_at_spec : {M : Type 1} → statement M
+point_at_spec = tie.close (tie.spec
+    at-requires
+    returns-then-i-eq0
+    overflow_sub-i
+    at-requires-2
+    returns)

@@ -8,5 +8,6 @@ returns : tie.Need-returns
 unfolding tabulate
 returns c = refl
 
-pub sixteen-spec : {M : Type 1} → statement M
-sixteen-spec = tie.close (tie.spec returns)
+pub sixteen_spec : {M : Type 1} → statement M
+sixteen_spec = tie.close (tie.spec
+    returns)

@@ -4,20 +4,24 @@ use borrow.Author.Rules.{rules}
 use Rattle.text.proofs.put_field.Statement.{statement}
 use Rattle.text.proofs.put_field.Tie as tie
 
-put-requires : tie.Need-put-requires
-put-requires c κs = search rules
+put-next-requires : tie.Need-put-next-requires
+put-next-requires c κs = search rules
 
-put-number-requires : tie.Need-put-number-requires
-put-number-requires c κs = search rules
+put_number-requires : tie.Need-put_number-requires
+put_number-requires c κs = search rules
 
-same_length : tie.Need-same-length
-same_length c = search rules
+shape_of-out : tie.Need-shape_of-out
+shape_of-out c = search rules
 
 returns : tie.Need-returns
 returns c =
-    let p = c.before.before.before.before.before.before.put in
-    let q = c.before.before.put-number in
+    let p = c.put-next in
+    let q = c.put_number in
     puts_then _ _ _ _ _ _ _ _ (puts_one _ _ _ _ _ p.ensures) (puts_one _ _ _ _ _ q.ensures)
 
-pub put-field-spec : {M : Type 1} → statement M
-put-field-spec = tie.close (tie.spec put-requires put-number-requires same_length returns)
+pub put_field_spec : {M : Type 1} → statement M
+put_field_spec = tie.close (tie.spec
+    put-next-requires
+    put_number-requires
+    shape_of-out
+    returns)

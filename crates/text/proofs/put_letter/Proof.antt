@@ -5,20 +5,25 @@ use borrow.Author.Rules.{rules}
 use Rattle.text.proofs.put_letter.Statement.{statement}
 use Rattle.text.proofs.put_letter.Tie as tie
 
+returns-then-out-at : tie.Need-returns-then-out-at
+returns-then-out-at c = putting-none _ _ _ (omega arith)
+
+bounds-out-at : tie.Need-bounds-out-at
+bounds-out-at c = search rules
+
+overflow_add-result : tie.Need-overflow_add-result
+overflow_add-result c = search rules
+
+shape_of-out : tie.Need-shape_of-out
+shape_of-out c = search rules
+
 returns : tie.Need-returns
-returns c = putting-none _ _ _ (omega arith)
+returns c = letter-put _ _ _ (omega arith)
 
-slice-write-out : tie.Need-slice-write-out
-slice-write-out c = search rules
-
-add-result : tie.Need-overflow-add-result
-add-result c = search rules
-
-same_length : tie.Need-same-length
-same_length c = search rules
-
-returns-2 : tie.Need-returns-2
-returns-2 c = letter-put _ _ _ (omega arith)
-
-pub put-letter-spec : {M : Type 1} → statement M
-put-letter-spec = tie.close (tie.spec returns slice-write-out add-result same_length returns-2)
+pub put_letter_spec : {M : Type 1} → statement M
+put_letter_spec = tie.close (tie.spec
+    returns-then-out-at
+    bounds-out-at
+    overflow_add-result
+    shape_of-out
+    returns)

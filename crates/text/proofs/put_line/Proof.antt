@@ -4,20 +4,24 @@ use borrow.Author.Rules.{rules}
 use Rattle.text.proofs.put_line.Statement.{statement}
 use Rattle.text.proofs.put_line.Tie as tie
 
-put-field-requires : tie.Need-put-field-requires
-put-field-requires c κs = search rules
+put_field-next-requires : tie.Need-put_field-next-requires
+put_field-next-requires c κs = search rules
 
-put-letter-requires : tie.Need-put-letter-requires
-put-letter-requires c κs = search rules
+put_letter-requires : tie.Need-put_letter-requires
+put_letter-requires c κs = search rules
 
-same_length : tie.Need-same-length
-same_length c = search rules
+shape_of-out : tie.Need-shape_of-out
+shape_of-out c = search rules
 
 returns : tie.Need-returns
 returns c =
-    let p = c.before.before.before.before.before.before.put-field in
-    let q = c.before.before.put-letter in
+    let p = c.put_field-next in
+    let q = c.put_letter in
     puts_then _ _ _ _ _ _ _ _ p.ensures (puts_one _ _ _ _ _ q.ensures)
 
-pub put-line-spec : {M : Type 1} → statement M
-put-line-spec = tie.close (tie.spec put-field-requires put-letter-requires same_length returns)
+pub put_line_spec : {M : Type 1} → statement M
+put_line_spec = tie.close (tie.spec
+    put_field-next-requires
+    put_letter-requires
+    shape_of-out
+    returns)

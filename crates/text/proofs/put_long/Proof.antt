@@ -7,46 +7,46 @@ use borrow.Author.Rules.{rules}
 use Rattle.text.proofs.put_long.Statement.{statement}
 use Rattle.text.proofs.put_long.Tie as tie
 
-ten-digits-requires : tie.Need-ten-digits-requires
-ten-digits-requires c κs = search rules
+ten_digits-all-requires : tie.Need-ten_digits-all-requires
+ten_digits-all-requires c κs = search rules
 
-zeros-requires : tie.Need-zeros-requires
-zeros-requires c κs = search rules
+zeros-from-requires : tie.Need-zeros-from-requires
+zeros-from-requires c κs = search rules
 
-sub-put : tie.Need-overflow-sub-put
-sub-put c = search rules
+slice_bounds-put-count : tie.Need-slice_bounds-put-count
+slice_bounds-put-count c = search rules
 
-part-put-start : tie.Need-slice-bounds-put-start
-part-put-start c = search rules
+slice_bounds-put-start : tie.Need-slice_bounds-put-start
+slice_bounds-put-start c = search rules
 
-part-put-end : tie.Need-slice-bounds-put-end
-part-put-end c = search rules
+slice_bounds-put-end : tie.Need-slice_bounds-put-end
+slice_bounds-put-end c = search rules
 
 put-requires : tie.Need-put-requires
 put-requires c κs = search rules
 
-same_length : tie.Need-same-length
-same_length c = search rules
+shape_of-out : tie.Need-shape_of-out
+shape_of-out c = search rules
 
 returns : tie.Need-returns
 returns c =
-    let p = c.before.before.put in
+    let p = c.put in
     let z = c.before.before.before.before.before.before in
-    let a = z.before.before.before in
-    let all = z.before.ten-digits in
-    let (from, few) = z.zeros.ensures in
-    let e = decimal-long all.result z.zeros.result a.args.x all.ensures from few a.requires (omega arith) in
+    let a = z.before.before in
+    let all = c.ten_digits-all in
+    let (from, few) = c.zeros-from.ensures in
+    let e = decimal-long all.result c.zeros-from.result a.args.x all.ensures from few a.requires (omega arith) in
     p.ensures ∙ ap (putting a.args.out.now a.args.at) e
 
-pub put-long-spec : {M : Type 1} → statement M
-put-long-spec =
+pub put_long_spec : {M : Type 1} → statement M
+put_long_spec =
     tie.close
     (tie.spec
-    ten-digits-requires
-    zeros-requires
-    sub-put
-    part-put-start
-    part-put-end
+    ten_digits-all-requires
+    zeros-from-requires
+    slice_bounds-put-count
+    slice_bounds-put-start
+    slice_bounds-put-end
     put-requires
-    same_length
+    shape_of-out
     returns)

@@ -6,82 +6,82 @@ use borrow.Author.Rules.{rules}
 use Rattle.text.proofs.put_number.Statement.{statement}
 use Rattle.text.proofs.put_number.Tie as tie
 
-add-put-letter : tie.Need-overflow-add-put-letter
-add-put-letter c = search rules
+overflow_add-x : tie.Need-overflow_add-x
+overflow_add-x c = search rules
 
-cast-put-letter : tie.Need-overflow-cast-put-letter
-cast-put-letter c = search rules
+overflow_cast-x : tie.Need-overflow_cast-x
+overflow_cast-x c = search rules
 
-put-letter-requires : tie.Need-put-letter-requires
-put-letter-requires c κs = search rules
+put_letter-requires : tie.Need-put_letter-requires
+put_letter-requires c κs = search rules
 
-same_length : tie.Need-same-length
-same_length c = search rules
+shape_of-out-then-x-lt10 : tie.Need-shape_of-out-then-x-lt10
+shape_of-out-then-x-lt10 c = search rules
 
-returns : tie.Need-returns
-returns c =
-    let p = c.before.before.put-letter in
+returns-then-x-lt10 : tie.Need-returns-then-x-lt10
+returns-then-x-lt10 c =
+    let p = c.put_letter in
     let t = c.before.before.before.before in
-    let a = t.before.before.args in
-    p.ensures ∙ ap (putting a.out.now a.at) (decimal-one a.x t.if1.true)
+    let a = t.args in
+    p.ensures ∙ ap (putting a.out.now a.at) (decimal-one a.x t.if-x-lt10.true)
 
-put-long-requires : tie.Need-put-long-requires
-put-long-requires c κs = search rules
+put_long-requires : tie.Need-put_long-requires
+put_long-requires c κs = search rules
 
-same-length-2 : tie.Need-same-length-2
-same-length-2 c = search rules
+shape_of-out-then-x-ge100000 : tie.Need-shape_of-out-then-x-ge100000
+shape_of-out-then-x-ge100000 c = search rules
 
-returns-2 : tie.Need-returns-2
-returns-2 c = search rules
+returns-then-x-ge100000 : tie.Need-returns-then-x-ge100000
+returns-then-x-ge100000 c = search rules
 
-digits-requires : tie.Need-digits-requires
-digits-requires c κs = search rules
+digits-five-requires : tie.Need-digits-five-requires
+digits-five-requires c κs = search rules
 
-zeros-requires : tie.Need-zeros-requires
-zeros-requires c κs = search rules
+zeros-from-requires : tie.Need-zeros-from-requires
+zeros-from-requires c κs = search rules
 
-sub-put : tie.Need-overflow-sub-put
-sub-put c = search rules
+slice_bounds-put-count : tie.Need-slice_bounds-put-count
+slice_bounds-put-count c = search rules
 
-part-put-start : tie.Need-slice-bounds-put-start
-part-put-start c = search rules
+slice_bounds-put-start : tie.Need-slice_bounds-put-start
+slice_bounds-put-start c = search rules
 
-part-put-end : tie.Need-slice-bounds-put-end
-part-put-end c = search rules
+slice_bounds-put-end : tie.Need-slice_bounds-put-end
+slice_bounds-put-end c = search rules
 
 put-requires : tie.Need-put-requires
 put-requires c κs = search rules
 
-same-length-3 : tie.Need-same-length-3
-same-length-3 c = search rules
+shape_of-out : tie.Need-shape_of-out
+shape_of-out c = search rules
 
-returns-3 : tie.Need-returns-3
-returns-3 c =
-    let p = c.before.before.put in
+returns : tie.Need-returns
+returns c =
+    let p = c.put in
     let z = c.before.before.before.before.before.before in
     let t = z.before.before in
-    let a = t.before.before.before.args in
-    let few = t.if2.false in
-    let e = decimal-part z.before.digits.result z.zeros.result a.x z.before.digits.ensures z.zeros.ensures.0 few in
+    let a = t.args in
+    let few = c.if-x-ge100000.false in
+    let e = decimal-part c.digits-five.result c.zeros-from.result a.x c.digits-five.ensures c.zeros-from.ensures.0 few in
     p.ensures ∙ ap (putting a.out.now a.at) e
 
-pub put-number-spec : {M : Type 1} → statement M
-put-number-spec =
+pub put_number_spec : {M : Type 1} → statement M
+put_number_spec =
     tie.close
     (tie.spec
-    add-put-letter
-    cast-put-letter
-    put-letter-requires
-    same_length
-    returns
-    put-long-requires
-    same-length-2
-    returns-2
-    digits-requires
-    zeros-requires
-    sub-put
-    part-put-start
-    part-put-end
+    overflow_add-x
+    overflow_cast-x
+    put_letter-requires
+    shape_of-out-then-x-lt10
+    returns-then-x-lt10
+    put_long-requires
+    shape_of-out-then-x-ge100000
+    returns-then-x-ge100000
+    digits-five-requires
+    zeros-from-requires
+    slice_bounds-put-count
+    slice_bounds-put-start
+    slice_bounds-put-end
     put-requires
-    same-length-3
-    returns-3)
+    shape_of-out
+    returns)

@@ -6,62 +6,62 @@ use borrow.Author.Rules.{rules}
 use Rattle.text.proofs.ten_digits.Statement.{statement}
 use Rattle.text.proofs.ten_digits.Tie as tie
 
-digits-requires : tie.Need-digits-requires
-digits-requires c κs = search rules
+digits-high-requires : tie.Need-digits-high-requires
+digits-high-requires c κs = search rules
 
-digits-requires-2 : tie.Need-digits-requires-2
-digits-requires-2 c κs = search rules
+digits-low-requires : tie.Need-digits-low-requires
+digits-low-requires c κs = search rules
 
-array-read-t8 : tie.Need-array-read-t8
-array-read-t8 c = search rules
+bounds-high-0 : tie.Need-bounds-high-0
+bounds-high-0 c = search rules
 
-array-read-t11 : tie.Need-array-read-t11
-array-read-t11 c = search rules
+bounds-high-1 : tie.Need-bounds-high-1
+bounds-high-1 c = search rules
 
-array-read-t14 : tie.Need-array-read-t14
-array-read-t14 c = search rules
+bounds-high-2 : tie.Need-bounds-high-2
+bounds-high-2 c = search rules
 
-array-read-t17 : tie.Need-array-read-t17
-array-read-t17 c = search rules
+bounds-high-3 : tie.Need-bounds-high-3
+bounds-high-3 c = search rules
 
-array-read-t20 : tie.Need-array-read-t20
-array-read-t20 c = search rules
+bounds-high-4 : tie.Need-bounds-high-4
+bounds-high-4 c = search rules
 
-array-read-t23 : tie.Need-array-read-t23
-array-read-t23 c = search rules
+bounds-low-0 : tie.Need-bounds-low-0
+bounds-low-0 c = search rules
 
-array-read-t26 : tie.Need-array-read-t26
-array-read-t26 c = search rules
+bounds-low-1 : tie.Need-bounds-low-1
+bounds-low-1 c = search rules
 
-array-read-t29 : tie.Need-array-read-t29
-array-read-t29 c = search rules
+bounds-low-2 : tie.Need-bounds-low-2
+bounds-low-2 c = search rules
 
-array-read-t32 : tie.Need-array-read-t32
-array-read-t32 c = search rules
+bounds-low-3 : tie.Need-bounds-low-3
+bounds-low-3 c = search rules
 
-array-read-t35 : tie.Need-array-read-t35
-array-read-t35 c = search rules
+bounds-low-4 : tie.Need-bounds-low-4
+bounds-low-4 c = search rules
 
 returns : tie.Need-returns
 returns c =
     ap₂ (λ h l. get_or h 0 0 ∷ get_or h 1 0 ∷ get_or h 2 0 ∷ get_or h 3 0 ∷ get_or h 4 0
     ∷ get_or l 0 0 ∷ get_or l 1 0 ∷ get_or l 2 0 ∷ get_or l 3 0 ∷ get_or l 4 0 ∷ [])
-    c.before.digits.ensures c.digits2.ensures
+    c.digits-high.ensures c.digits-low.ensures
 
-pub ten-digits-spec : {M : Type 1} → statement M
-ten-digits-spec =
+pub ten_digits_spec : {M : Type 1} → statement M
+ten_digits_spec =
     tie.close
     (tie.spec
-    digits-requires
-    digits-requires-2
-    array-read-t8
-    array-read-t11
-    array-read-t14
-    array-read-t17
-    array-read-t20
-    array-read-t23
-    array-read-t26
-    array-read-t29
-    array-read-t32
-    array-read-t35
+    digits-high-requires
+    digits-low-requires
+    bounds-high-0
+    bounds-high-1
+    bounds-high-2
+    bounds-high-3
+    bounds-high-4
+    bounds-low-0
+    bounds-low-1
+    bounds-low-2
+    bounds-low-3
+    bounds-low-4
     returns)
