@@ -26,225 +26,225 @@ of-n : (s : tie.Start) (k : ℕ) → s.args.n ≡ k → let a = s.args in let p 
     get_or (column p k k a.f.now a.x) a.v 0 ≡ get_or (column p a.n a.n a.f.now a.x) a.v 0
 of-n s k e = let a = s.args in ap (λ z. get_or (column (prime_of a.w) z z a.f.now a.x) a.v 0) (sym e)
 
-one : (t : tie.Else3) → t.before.before.before.before.args.n ≡ 1
+one : (t : tie.Else-n-eq3) → t.args.n ≡ 1
 one t = let s = t.before.before.before.before in omega (arith, s.requires.0.0, s.requires.0.2)
 
-mul-t12 : tie.Need-overflow-mul-t12
-mul-t12 c = search rules
+offset_bounds-f-v : tie.Need-offset_bounds-f-v
+offset_bounds-f-v c = search rules
 
-shared-slice-read-t14 : tie.Need-shared-slice-read-t14
-shared-slice-read-t14 c =
-    let t = c.before in omega (arith, size t.before.before 4 t.if1.true)
+bounds-f-v : tie.Need-bounds-f-v
+bounds-f-v c =
+    let t = c.before in omega (arith, size t.before.before 4 t.if-n-eq4.true)
 
-add-t15 : tie.Need-overflow-add-t15
-add-t15 c = search rules
+overflow_add-v : tie.Need-overflow_add-v
+overflow_add-v c = search rules
 
-mul-t16 : tie.Need-overflow-mul-t16
-mul-t16 c = search rules
+offset_bounds-f-v-then-n-eq4 : tie.Need-offset_bounds-f-v-then-n-eq4
+offset_bounds-f-v-then-n-eq4 c = search rules
 
-shared-slice-read-t18 : tie.Need-shared-slice-read-t18
-shared-slice-read-t18 c =
-    let t = c.before.before in omega (arith, size t.before.before 4 t.if1.true)
+bounds-f-v-then-n-eq4 : tie.Need-bounds-f-v-then-n-eq4
+bounds-f-v-then-n-eq4 c =
+    let t = c.before.before in omega (arith, size t.before.before 4 t.if-n-eq4.true)
 
-add-t19 : tie.Need-overflow-add-t19
-add-t19 c = search rules
+overflow_add-v-then-n-eq4 : tie.Need-overflow_add-v-then-n-eq4
+overflow_add-v-then-n-eq4 c = search rules
 
-mul-t20 : tie.Need-overflow-mul-t20
-mul-t20 c = search rules
+offset_bounds-f-v-then-n-eq4-2 : tie.Need-offset_bounds-f-v-then-n-eq4-2
+offset_bounds-f-v-then-n-eq4-2 c = search rules
 
-shared-slice-read-t22 : tie.Need-shared-slice-read-t22
-shared-slice-read-t22 c =
-    let t = c.before.before.before in omega (arith, size t.before.before 4 t.if1.true)
+bounds-f-v-then-n-eq4-2 : tie.Need-bounds-f-v-then-n-eq4-2
+bounds-f-v-then-n-eq4-2 c =
+    let t = c.before.before.before in omega (arith, size t.before.before 4 t.if-n-eq4.true)
 
-add-t23 : tie.Need-overflow-add-t23
-add-t23 c = search rules
+overflow_add-v-then-n-eq4-2 : tie.Need-overflow_add-v-then-n-eq4-2
+overflow_add-v-then-n-eq4-2 c = search rules
 
-mul-t24 : tie.Need-overflow-mul-t24
-mul-t24 c = search rules
+offset_bounds-f-v-then-n-eq4-3 : tie.Need-offset_bounds-f-v-then-n-eq4-3
+offset_bounds-f-v-then-n-eq4-3 c = search rules
 
-shared-slice-read-t26 : tie.Need-shared-slice-read-t26
-shared-slice-read-t26 c =
-    let t = c.before.before.before.before in omega (arith, size t.before.before 4 t.if1.true)
+bounds-f-v-then-n-eq4-3 : tie.Need-bounds-f-v-then-n-eq4-3
+bounds-f-v-then-n-eq4-3 c =
+    let t = c.before.before.before.before in omega (arith, size t.before.before 4 t.if-n-eq4.true)
 
-slice-aggregate-divided-at-once : tie.Need-slice-aggregate-divided-at-once
-slice-aggregate-divided-at-once c = search rules
+slice_bounds-divided_at_once-end : tie.Need-slice_bounds-divided_at_once-end
+slice_bounds-divided_at_once-end c = search rules
 
-divided-at-once-requires : tie.Need-divided-at-once-requires
-divided-at-once-requires c κs =
+divided_at_once-four-requires : tie.Need-divided_at_once-four-requires
+divided_at_once-four-requires c κs =
     let t = c.before.before.before.before.before in
     let s = t.before.before in
-    let h = size s 4 t.if1.true in (
+    let h = size s 4 t.if-n-eq4.true in (
       (small s _ (omega (arith, h)), (small s _ (omega (arith, h)), (small s _ (omega (arith, h)), (small s _ (omega (arith, h)), tt)))),
       s.requires.1.1,
       lit≤ tt,
     )
 
-returns : tie.Need-returns
-returns c =
+returns-then-n-eq4 : tie.Need-returns-then-n-eq4
+returns-then-n-eq4 c =
     let t = c.before.before.before.before.before.before in
     let s = t.before.before in
     let a = s.args in
-    let h = size s 4 t.if1.true in
-    ap (λ (r : Scheme). r.value) c.divided-at-once.ensures.0
+    let h = size s 4 t.if-n-eq4.true in
+    ap (λ (r : Scheme). r.value) c.divided_at_once-four.ensures.0
     ∙ column-four (prime_of a.w) a.x a.f.now a.v h.0 h.1
-    ∙ of-n s 4 t.if1.true
+    ∙ of-n s 4 t.if-n-eq4.true
 
-mul-t30 : tie.Need-overflow-mul-t30
-mul-t30 c = search rules
+offset_bounds-f-v-then-n-eq2 : tie.Need-offset_bounds-f-v-then-n-eq2
+offset_bounds-f-v-then-n-eq2 c = search rules
 
-shared-slice-read-t32 : tie.Need-shared-slice-read-t32
-shared-slice-read-t32 c =
-    let t = c.before in omega (arith, size t.before.before.before 2 t.if2.true)
+bounds-f-v-then-n-eq2 : tie.Need-bounds-f-v-then-n-eq2
+bounds-f-v-then-n-eq2 c =
+    let t = c.before in omega (arith, size t.before.before.before 2 t.if-n-eq2.true)
 
-add-t33 : tie.Need-overflow-add-t33
-add-t33 c = search rules
+overflow_add-v-then-n-eq2 : tie.Need-overflow_add-v-then-n-eq2
+overflow_add-v-then-n-eq2 c = search rules
 
-mul-t34 : tie.Need-overflow-mul-t34
-mul-t34 c = search rules
+offset_bounds-f-v-then-n-eq2-2 : tie.Need-offset_bounds-f-v-then-n-eq2-2
+offset_bounds-f-v-then-n-eq2-2 c = search rules
 
-shared-slice-read-t36 : tie.Need-shared-slice-read-t36
-shared-slice-read-t36 c =
-    let t = c.before.before in omega (arith, size t.before.before.before 2 t.if2.true)
+bounds-f-v-then-n-eq2-2 : tie.Need-bounds-f-v-then-n-eq2-2
+bounds-f-v-then-n-eq2-2 c =
+    let t = c.before.before in omega (arith, size t.before.before.before 2 t.if-n-eq2.true)
 
-slice-aggregate-divided-at-once-2 : tie.Need-slice-aggregate-divided-at-once-2
-slice-aggregate-divided-at-once-2 c = search rules
+slice_bounds-divided_at_once-end-then-n-eq2 : tie.Need-slice_bounds-divided_at_once-end-then-n-eq2
+slice_bounds-divided_at_once-end-then-n-eq2 c = search rules
 
-divided-at-once-requires-2 : tie.Need-divided-at-once-requires-2
-divided-at-once-requires-2 c κs =
+divided_at_once-two-requires : tie.Need-divided_at_once-two-requires
+divided_at_once-two-requires c κs =
     let t = c.before.before.before in
     let s = t.before.before.before in
-    let h = size s 2 t.if2.true in (
+    let h = size s 2 t.if-n-eq2.true in (
       (small s _ (omega (arith, h)), (small s _ (omega (arith, h)), tt)),
       s.requires.1.1,
       lit≤ tt,
     )
 
-returns-2 : tie.Need-returns-2
-returns-2 c =
+returns-then-n-eq2 : tie.Need-returns-then-n-eq2
+returns-then-n-eq2 c =
     let t = c.before.before.before.before in
     let s = t.before.before.before in
     let a = s.args in
-    let h = size s 2 t.if2.true in
-    ap (λ (r : Scheme). r.value) c.divided-at-once2.ensures.0
+    let h = size s 2 t.if-n-eq2.true in
+    ap (λ (r : Scheme). r.value) c.divided_at_once-two.ensures.0
     ∙ column-two (prime_of a.w) a.x a.f.now a.v h.0 h.1
-    ∙ of-n s 2 t.if2.true
+    ∙ of-n s 2 t.if-n-eq2.true
 
-mul-t40 : tie.Need-overflow-mul-t40
-mul-t40 c = search rules
+offset_bounds-f-v-then-n-eq3 : tie.Need-offset_bounds-f-v-then-n-eq3
+offset_bounds-f-v-then-n-eq3 c = search rules
 
-shared-slice-read-t42 : tie.Need-shared-slice-read-t42
-shared-slice-read-t42 c =
-    let t = c.before in omega (arith, size t.before.before.before.before 3 t.if3.true)
+bounds-f-v-then-n-eq3 : tie.Need-bounds-f-v-then-n-eq3
+bounds-f-v-then-n-eq3 c =
+    let t = c.before in omega (arith, size t.before.before.before.before 3 t.if-n-eq3.true)
 
-add-t43 : tie.Need-overflow-add-t43
-add-t43 c = search rules
+overflow_add-v-then-n-eq3 : tie.Need-overflow_add-v-then-n-eq3
+overflow_add-v-then-n-eq3 c = search rules
 
-mul-t44 : tie.Need-overflow-mul-t44
-mul-t44 c = search rules
+offset_bounds-f-v-then-n-eq3-2 : tie.Need-offset_bounds-f-v-then-n-eq3-2
+offset_bounds-f-v-then-n-eq3-2 c = search rules
 
-shared-slice-read-t46 : tie.Need-shared-slice-read-t46
-shared-slice-read-t46 c =
-    let t = c.before.before in omega (arith, size t.before.before.before.before 3 t.if3.true)
+bounds-f-v-then-n-eq3-2 : tie.Need-bounds-f-v-then-n-eq3-2
+bounds-f-v-then-n-eq3-2 c =
+    let t = c.before.before in omega (arith, size t.before.before.before.before 3 t.if-n-eq3.true)
 
-add-t47 : tie.Need-overflow-add-t47
-add-t47 c = search rules
+overflow_add-v-then-n-eq3-2 : tie.Need-overflow_add-v-then-n-eq3-2
+overflow_add-v-then-n-eq3-2 c = search rules
 
-mul-t48 : tie.Need-overflow-mul-t48
-mul-t48 c = search rules
+offset_bounds-f-v-then-n-eq3-3 : tie.Need-offset_bounds-f-v-then-n-eq3-3
+offset_bounds-f-v-then-n-eq3-3 c = search rules
 
-shared-slice-read-t50 : tie.Need-shared-slice-read-t50
-shared-slice-read-t50 c =
-    let t = c.before.before.before in omega (arith, size t.before.before.before.before 3 t.if3.true)
+bounds-f-v-then-n-eq3-3 : tie.Need-bounds-f-v-then-n-eq3-3
+bounds-f-v-then-n-eq3-3 c =
+    let t = c.before.before.before in omega (arith, size t.before.before.before.before 3 t.if-n-eq3.true)
 
-slice-aggregate-divided-at-once-3 : tie.Need-slice-aggregate-divided-at-once-3
-slice-aggregate-divided-at-once-3 c = search rules
+slice_bounds-divided_at_once-end-then-n-eq3 : tie.Need-slice_bounds-divided_at_once-end-then-n-eq3
+slice_bounds-divided_at_once-end-then-n-eq3 c = search rules
 
-divided-at-once-requires-3 : tie.Need-divided-at-once-requires-3
-divided-at-once-requires-3 c κs =
+divided_at_once-three-requires : tie.Need-divided_at_once-three-requires
+divided_at_once-three-requires c κs =
     let t = c.before.before.before.before in
     let s = t.before.before.before.before in
-    let h = size s 3 t.if3.true in (
+    let h = size s 3 t.if-n-eq3.true in (
       (small s _ (omega (arith, h)), (small s _ (omega (arith, h)), (small s _ (omega (arith, h)), tt))),
       s.requires.1.1,
       lit≤ tt,
     )
 
-returns-3 : tie.Need-returns-3
-returns-3 c =
+returns-then-n-eq3 : tie.Need-returns-then-n-eq3
+returns-then-n-eq3 c =
     let t = c.before.before.before.before.before in
     let s = t.before.before.before.before in
     let a = s.args in
-    let h = size s 3 t.if3.true in
-    ap (λ (r : Scheme). r.value) c.divided-at-once3.ensures.0
+    let h = size s 3 t.if-n-eq3.true in
+    ap (λ (r : Scheme). r.value) c.divided_at_once-three.ensures.0
     ∙ column-three (prime_of a.w) a.x a.f.now a.v h.0 h.1
-    ∙ of-n s 3 t.if3.true
+    ∙ of-n s 3 t.if-n-eq3.true
 
-mul-t54 : tie.Need-overflow-mul-t54
-mul-t54 c = search rules
+offset_bounds-f-v-2 : tie.Need-offset_bounds-f-v-2
+offset_bounds-f-v-2 c = search rules
 
-shared-slice-read-t56 : tie.Need-shared-slice-read-t56
-shared-slice-read-t56 c =
+bounds-f-v-2 : tie.Need-bounds-f-v-2
+bounds-f-v-2 c =
     let t = c.before in omega (arith, size t.before.before.before.before 1 (one t))
 
-slice-aggregate-divided-at-once-4 : tie.Need-slice-aggregate-divided-at-once-4
-slice-aggregate-divided-at-once-4 c = search rules
+slice_bounds-divided_at_once-end-2 : tie.Need-slice_bounds-divided_at_once-end-2
+slice_bounds-divided_at_once-end-2 c = search rules
 
-divided-at-once-requires-4 : tie.Need-divided-at-once-requires-4
-divided-at-once-requires-4 c κs =
+divided_at_once-one-requires : tie.Need-divided_at_once-one-requires
+divided_at_once-one-requires c κs =
     let t = c.before.before in
     let s = t.before.before.before.before in
     let h = size s 1 (one t) in
     ((small s _ (omega (arith, h)), tt), s.requires.1.1, lit≤ tt)
 
-returns-4 : tie.Need-returns-4
-returns-4 c =
+returns : tie.Need-returns
+returns c =
     let t = c.before.before.before in
     let s = t.before.before.before.before in
     let a = s.args in
     let h = size s 1 (one t) in
-    ap (λ (r : Scheme). r.value) c.divided-at-once4.ensures.0
+    ap (λ (r : Scheme). r.value) c.divided_at_once-one.ensures.0
     ∙ column-one (prime_of a.w) a.x a.f.now a.v h.0 h.1
     ∙ of-n s 1 (one t)
 
-pub column-value-spec : {M : Type 1} → statement M
-column-value-spec =
+pub column_value_spec : {M : Type 1} → statement M
+column_value_spec =
     tie.close
     (tie.spec
-    mul-t12
-    shared-slice-read-t14
-    add-t15
-    mul-t16
-    shared-slice-read-t18
-    add-t19
-    mul-t20
-    shared-slice-read-t22
-    add-t23
-    mul-t24
-    shared-slice-read-t26
-    slice-aggregate-divided-at-once
-    divided-at-once-requires
-    returns
-    mul-t30
-    shared-slice-read-t32
-    add-t33
-    mul-t34
-    shared-slice-read-t36
-    slice-aggregate-divided-at-once-2
-    divided-at-once-requires-2
-    returns-2
-    mul-t40
-    shared-slice-read-t42
-    add-t43
-    mul-t44
-    shared-slice-read-t46
-    add-t47
-    mul-t48
-    shared-slice-read-t50
-    slice-aggregate-divided-at-once-3
-    divided-at-once-requires-3
-    returns-3
-    mul-t54
-    shared-slice-read-t56
-    slice-aggregate-divided-at-once-4
-    divided-at-once-requires-4
-    returns-4)
+    offset_bounds-f-v
+    bounds-f-v
+    overflow_add-v
+    offset_bounds-f-v-then-n-eq4
+    bounds-f-v-then-n-eq4
+    overflow_add-v-then-n-eq4
+    offset_bounds-f-v-then-n-eq4-2
+    bounds-f-v-then-n-eq4-2
+    overflow_add-v-then-n-eq4-2
+    offset_bounds-f-v-then-n-eq4-3
+    bounds-f-v-then-n-eq4-3
+    slice_bounds-divided_at_once-end
+    divided_at_once-four-requires
+    returns-then-n-eq4
+    offset_bounds-f-v-then-n-eq2
+    bounds-f-v-then-n-eq2
+    overflow_add-v-then-n-eq2
+    offset_bounds-f-v-then-n-eq2-2
+    bounds-f-v-then-n-eq2-2
+    slice_bounds-divided_at_once-end-then-n-eq2
+    divided_at_once-two-requires
+    returns-then-n-eq2
+    offset_bounds-f-v-then-n-eq3
+    bounds-f-v-then-n-eq3
+    overflow_add-v-then-n-eq3
+    offset_bounds-f-v-then-n-eq3-2
+    bounds-f-v-then-n-eq3-2
+    overflow_add-v-then-n-eq3-2
+    offset_bounds-f-v-then-n-eq3-3
+    bounds-f-v-then-n-eq3-3
+    slice_bounds-divided_at_once-end-then-n-eq3
+    divided_at_once-three-requires
+    returns-then-n-eq3
+    offset_bounds-f-v-2
+    bounds-f-v-2
+    slice_bounds-divided_at_once-end-2
+    divided_at_once-one-requires
+    returns)

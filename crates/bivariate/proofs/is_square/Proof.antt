@@ -23,25 +23,31 @@ square-root len n positive h =
           ∙ sym (ne_eqb len (n * n) d)
     ]
 
-mul-result : tie.Need-overflow-mul-result
-mul-result c =
-    let n = c.before.args.n in
+overflow_mul-result : tie.Need-overflow_mul-result
+overflow_mul-result c =
+    let n = c.args.n in
     omega (arith, mul-le-mul {n₁ = n} {m₁ = n} {n₂ = 65535} {m₂ = 65535} (omega arith) (omega arith))
 
+returns-then-n-lt65536 : tie.Need-returns-then-n-lt65536
+returns-then-n-lt65536 c = search rules
+
+nonzero_rem-len : tie.Need-nonzero_rem-len
+nonzero_rem-len c = search rules
+
+returns-then-len-n-ne0 : tie.Need-returns-then-len-n-ne0
+returns-then-len-n-ne0 c = square-not _ _ (λ e. omega arith) c.if-len-n-ne0.true
+
+nonzero_div-result : tie.Need-nonzero_div-result
+nonzero_div-result c = search rules
+
 returns : tie.Need-returns
-returns c = search rules
+returns c = square-root _ _ (λ e. omega arith) c.if-len-n-ne0.false
 
-rem-if2 : tie.Need-nonzero-rem-if2
-rem-if2 c = search rules
-
-returns-2 : tie.Need-returns-2
-returns-2 c = square-not _ _ (λ e. omega arith) c.if2.true
-
-div-result : tie.Need-nonzero-div-result
-div-result c = search rules
-
-returns-3 : tie.Need-returns-3
-returns-3 c = square-root _ _ (λ e. omega arith) c.if2.false
-
-pub is-square-spec : {M : Type 1} → statement M
-is-square-spec = tie.close (tie.spec mul-result returns rem-if2 returns-2 div-result returns-3)
+pub is_square_spec : {M : Type 1} → statement M
+is_square_spec = tie.close (tie.spec
+    overflow_mul-result
+    returns-then-n-lt65536
+    nonzero_rem-len
+    returns-then-len-n-ne0
+    nonzero_div-result
+    returns)

@@ -12,95 +12,95 @@ use lib.ListN.{length, drop, length-take}
 use Rattle.bivariate.proofs.row.Statement.{statement}
 use Rattle.bivariate.proofs.row.Tie as tie
 
-abbrev invariant-loop : tie.invariant-loop
-invariant-loop w f y out₀ n u₀ at₀ out u at = RowLoop (prime_of w) f y n out u at
+abbrev invariant-loop-u : tie.invariant-loop-u
+invariant-loop-u w f y out₀ n u₀ at₀ out u at = RowLoop (prime_of w) f y n out u at
 
-abbrev decreases-loop : tie.decreases-loop
-decreases-loop w f y out₀ n u₀ at₀ out u at = n - u
+abbrev decreases-loop-u : tie.decreases-loop-u
+decreases-loop-u w f y out₀ n u₀ at₀ out u at = n - u
 
-is-square-requires : tie.Need-is-square-requires invariant-loop decreases-loop
-is-square-requires c κs = search rules
+is_square-requires : tie.Need-is_square-requires invariant-loop-u decreases-loop-u
+is_square-requires c κs = search rules
 
-returns : tie.Need-returns invariant-loop decreases-loop
-returns c = sym (row_out _ _ _ _ (eqb-false _ _ (sym c.before.is-square.ensures ∙ not-true _ c.if1.true)))
+returns-then-not-is_square : tie.Need-returns-then-not-is_square invariant-loop-u decreases-loop-u
+returns-then-not-is_square c = sym (row_out _ _ _ _ (eqb-false _ _ (sym c.is_square.ensures ∙ c.if-not-is_square.true)))
 
-loop-holds : tie.Need-loop-init invariant-loop decreases-loop
-loop-holds c = row-start _ _ _ _ (eqb-true _ _ (sym c.before.is-square.ensures ∙ not-false _ c.if1.false))
+loop-u-init : tie.Need-loop-u-init invariant-loop-u decreases-loop-u
+loop-u-init c = row-start _ _ _ _ (eqb-true _ _ (sym c.is_square.ensures ∙ c.if-not-is_square.false))
 
-add-divided-at-once : tie.Need-overflow-add-divided-at-once invariant-loop decreases-loop
-add-divided-at-once c = omega (arith, row-bounds _ _ _ _ _ _ _ c.before.loop.invariant (omega arith))
+overflow_add-at : tie.Need-overflow_add-at invariant-loop-u decreases-loop-u
+overflow_add-at c = omega (arith, row-bounds _ _ _ _ _ _ _ c.loop-u.invariant (omega arith))
 
-mul-divided-at-once : tie.Need-overflow-mul-divided-at-once invariant-loop decreases-loop
-mul-divided-at-once c = omega (arith, row-bounds _ _ _ _ _ _ _ c.before.loop.invariant (omega arith))
+offset_bounds-f-at : tie.Need-offset_bounds-f-at invariant-loop-u decreases-loop-u
+offset_bounds-f-at c = omega (arith, row-bounds _ _ _ _ _ _ _ c.loop-u.invariant (omega arith))
 
-sub-divided-at-once : tie.Need-overflow-sub-divided-at-once invariant-loop decreases-loop
-sub-divided-at-once c = search rules
+slice_bounds-divided_at_once-count : tie.Need-slice_bounds-divided_at_once-count invariant-loop-u decreases-loop-u
+slice_bounds-divided_at_once-count c = search rules
 
-part-divided-at-once-start : tie.Need-slice-bounds-divided-at-once-start invariant-loop decreases-loop
-part-divided-at-once-start c = omega (arith, row-bounds _ _ _ _ _ _ _ c.before.loop.invariant (omega arith))
+slice_bounds-divided_at_once-start : tie.Need-slice_bounds-divided_at_once-start invariant-loop-u decreases-loop-u
+slice_bounds-divided_at_once-start c = omega (arith, row-bounds _ _ _ _ _ _ _ c.loop-u.invariant (omega arith))
 
-part-divided-at-once-end : tie.Need-slice-bounds-divided-at-once-end invariant-loop decreases-loop
-part-divided-at-once-end c = omega (arith, row-bounds _ _ _ _ _ _ _ c.before.loop.invariant (omega arith))
+slice_bounds-divided_at_once-end : tie.Need-slice_bounds-divided_at_once-end invariant-loop-u decreases-loop-u
+slice_bounds-divided_at_once-end c = omega (arith, row-bounds _ _ _ _ _ _ _ c.loop-u.invariant (omega arith))
 
-divided-at-once-requires : tie.Need-divided-at-once-requires invariant-loop decreases-loop
-divided-at-once-requires c κs =
+divided_at_once-part-requires : tie.Need-divided_at_once-part-requires invariant-loop-u decreases-loop-u
+divided_at_once-part-requires c κs =
     let s = c.before.before.before.before.before.before.before in
-    let k = c.before.before.loop in
+    let k = c.loop-u in
     let count = k.at + length s.args.out.now - k.at in (
       block-residues _ s.args.f.now count k.at s.requires.0,
       s.requires.1,
       omega (arith, s.requires.2, length-take count (drop k.at s.args.f.now)),
     )
 
-mul-out : tie.Need-overflow-mul-out invariant-loop decreases-loop
-mul-out c = search rules
+offset_bounds-out-u : tie.Need-offset_bounds-out-u invariant-loop-u decreases-loop-u
+offset_bounds-out-u c = search rules
 
-slice-write-out : tie.Need-slice-write-out invariant-loop decreases-loop
-slice-write-out c = search rules
+bounds-out-u : tie.Need-bounds-out-u invariant-loop-u decreases-loop-u
+bounds-out-u c = search rules
 
-add_at : tie.Need-overflow-add-at invariant-loop decreases-loop
-add_at c = omega (arith, row-bounds _ _ _ _ _ _ _ c.before.before.before.loop.invariant (omega arith))
+overflow_add-at-in-loop-u : tie.Need-overflow_add-at-in-loop-u invariant-loop-u decreases-loop-u
+overflow_add-at-in-loop-u c = omega (arith, row-bounds _ _ _ _ _ _ _ c.loop-u.invariant (omega arith))
 
-add-u : tie.Need-overflow-add-u invariant-loop decreases-loop
-add-u c = search rules
+overflow_add-u : tie.Need-overflow_add-u invariant-loop-u decreases-loop-u
+overflow_add-u c = search rules
 
-loop-less : tie.Need-loop-smaller invariant-loop decreases-loop
-loop-less c = search rules
+loop-u-smaller : tie.Need-loop-u-smaller invariant-loop-u decreases-loop-u
+loop-u-smaller c = search rules
 
-loop-again : tie.Need-loop-preserved invariant-loop decreases-loop
-loop-again c =
-    let k = c.before.before.before.loop in
+loop-u-preserved : tie.Need-loop-u-preserved invariant-loop-u decreases-loop-u
+loop-u-preserved c =
+    let k = c.loop-u in
     row_next _ _ _ _ k.out k.u k.at _ k.invariant (omega arith)
-    (ap (λ (r : Scheme). r.value) c.divided-at-once.ensures.0)
+    (ap (λ (r : Scheme). r.value) c.divided_at_once-part.ensures.0)
 
-same_length : tie.Need-same-length invariant-loop decreases-loop
-same_length c = search rules
+shape_of-out : tie.Need-shape_of-out invariant-loop-u decreases-loop-u
+shape_of-out c = search rules
 
-returns-2 : tie.Need-returns-2 invariant-loop decreases-loop
-returns-2 c =
-    let k = c.before.loop in
+returns : tie.Need-returns invariant-loop-u decreases-loop-u
+returns c =
+    let k = c.loop-u in
     row-end _ _ _ _ k.out k.u k.at k.invariant (omega arith) ∙ sym (row-in _ _ _ _ k.invariant.square)
 
-pub row-spec : {M : Type 1} → statement M
-row-spec =
+pub row_spec : {M : Type 1} → statement M
+row_spec =
     tie.close
     (tie.spec
-    invariant-loop
-    decreases-loop
-    is-square-requires
-    returns
-    loop-holds
-    add-divided-at-once
-    mul-divided-at-once
-    sub-divided-at-once
-    part-divided-at-once-start
-    part-divided-at-once-end
-    divided-at-once-requires
-    mul-out
-    slice-write-out
-    add_at
-    add-u
-    loop-less
-    loop-again
-    same_length
-    returns-2)
+    invariant-loop-u
+    decreases-loop-u
+    is_square-requires
+    returns-then-not-is_square
+    loop-u-init
+    overflow_add-at
+    offset_bounds-f-at
+    slice_bounds-divided_at_once-count
+    slice_bounds-divided_at_once-start
+    slice_bounds-divided_at_once-end
+    divided_at_once-part-requires
+    offset_bounds-out-u
+    bounds-out-u
+    overflow_add-at-in-loop-u
+    overflow_add-u
+    loop-u-smaller
+    loop-u-preserved
+    shape_of-out
+    returns)

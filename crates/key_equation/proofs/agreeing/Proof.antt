@@ -16,106 +16,106 @@ use Rattle.key_equation.proofs.Starting.{Agreeing, agreeing-next}
 use Rattle.key_equation.proofs.agreeing.Statement.{statement}
 use Rattle.key_equation.proofs.agreeing.Tie as tie
 
-abbrev invariant-loop : tie.invariant-loop
-invariant-loop w k xs ys f n₀ n = Agreeing (prime_of w) xs ys f k n
+abbrev invariant-loop-n : tie.invariant-loop-n
+invariant-loop-n w k xs ys f n₀ n = Agreeing (prime_of w) xs ys f k n
 
-abbrev decreases-loop : tie.decreases-loop
-decreases-loop w k xs ys f n₀ n = length xs - n
+abbrev decreases-loop-n : tie.decreases-loop-n
+decreases-loop-n w k xs ys f n₀ n = length xs - n
 
 -- The start, from the loop, and the array's width.
-abbrev start : tie.At-loop invariant-loop decreases-loop → tie.Start invariant-loop decreases-loop
+abbrev start : tie.At-loop-n invariant-loop-n decreases-loop-n → tie.Start invariant-loop-n decreases-loop-n
 start l = l.before.before.before
 
-width : (s : tie.Start invariant-loop decreases-loop) → length s.args.t3 ≡ 4
+width : (s : tie.Start invariant-loop-n decreases-loop-n) → length s.args.f ≡ 4
 width s = omega arith
 
-loop-holds : tie.Need-loop-init invariant-loop decreases-loop
-loop-holds c = let s = c.before.before in record { least = omega arith; within = s.requires.0.2; through = s.requires.1 }
+loop-n-init : tie.Need-loop-n-init invariant-loop-n decreases-loop-n
+loop-n-init c = let s = c.before.before in record { least = omega arith; within = s.requires.0.2; through = s.requires.1 }
 
-array-read-is-cubic-value : tie.Need-array-read-is-cubic-value invariant-loop decreases-loop
-array-read-is-cubic-value c = search rules
+bounds-f-0 : tie.Need-bounds-f-0 invariant-loop-n decreases-loop-n
+bounds-f-0 c = search rules
 
-array-read-is-cubic-value-2 : tie.Need-array-read-is-cubic-value-2 invariant-loop decreases-loop
-array-read-is-cubic-value-2 c = search rules
+bounds-f-1 : tie.Need-bounds-f-1 invariant-loop-n decreases-loop-n
+bounds-f-1 c = search rules
 
-array-read-is-cubic-value-3 : tie.Need-array-read-is-cubic-value-3 invariant-loop decreases-loop
-array-read-is-cubic-value-3 c = search rules
+bounds-f-2 : tie.Need-bounds-f-2 invariant-loop-n decreases-loop-n
+bounds-f-2 c = search rules
 
-array-read-is-cubic-value-4 : tie.Need-array-read-is-cubic-value-4 invariant-loop decreases-loop
-array-read-is-cubic-value-4 c = search rules
+bounds-f-3 : tie.Need-bounds-f-3 invariant-loop-n decreases-loop-n
+bounds-f-3 c = search rules
 
-mul-is-cubic-value : tie.Need-overflow-mul-is-cubic-value invariant-loop decreases-loop
-mul-is-cubic-value c = search rules
+offset_bounds-xs-n : tie.Need-offset_bounds-xs-n invariant-loop-n decreases-loop-n
+offset_bounds-xs-n c = search rules
 
-shared-slice-read-is-cubic-value : tie.Need-shared-slice-read-is-cubic-value invariant-loop decreases-loop
-shared-slice-read-is-cubic-value c = search rules
+bounds-xs-n : tie.Need-bounds-xs-n invariant-loop-n decreases-loop-n
+bounds-xs-n c = search rules
 
-mul-is-cubic-value-2 : tie.Need-overflow-mul-is-cubic-value-2 invariant-loop decreases-loop
-mul-is-cubic-value-2 c = search rules
+offset_bounds-ys-n : tie.Need-offset_bounds-ys-n invariant-loop-n decreases-loop-n
+offset_bounds-ys-n c = search rules
 
-shared-slice-read-is-cubic-value-2 : tie.Need-shared-slice-read-is-cubic-value-2 invariant-loop decreases-loop
-shared-slice-read-is-cubic-value-2 c = omega (arith, c.before.before.before.before.before.before.requires.0.3)
+bounds-ys-n : tie.Need-bounds-ys-n invariant-loop-n decreases-loop-n
+bounds-ys-n c = omega (arith, c.requires.0.3)
 
-is-cubic-value-requires : tie.Need-is-cubic-value-requires invariant-loop decreases-loop
-is-cubic-value-requires c κs =
+is_cubic_value-requires : tie.Need-is_cubic_value-requires invariant-loop-n decreases-loop-n
+is_cubic_value-requires c κs =
     let l = c.before.before.before in
     let s = start l in
     let p = prime_of s.args.w in
-    let at : (i : ℕ) → i < 4 → get_or s.args.t3 i 0 < p =
-    λ i h. all-get_or (λ c. c < p) s.args.t3 i 0 (omega (arith, width s)) s.pre.0.0 in (
+    let at : (i : ℕ) → i < 4 → get_or s.args.f i 0 < p =
+    λ i h. all-get_or (λ c. c < p) s.args.f i 0 (omega (arith, width s)) s.requires.0.0 in (
       at 0 (omega arith),
       at 1 (omega arith),
       at 2 (omega arith),
       at 3 (omega arith),
-      all-get_or (λ c. c < p) s.args.xs.now l.loop.n 0 (omega arith) s.pre.0.1,
+      all-get_or (λ c. c < p) s.args.xs.now l.loop-n.n 0 (omega arith) s.requires.0.1,
     )
 
-returns : tie.Need-returns invariant-loop decreases-loop
-returns c = let i = c.before.before.before.before.before.loop.invariant in (i.least, i.within, i.through)
+returns-then-not-is_cubic_value : tie.Need-returns-then-not-is_cubic_value invariant-loop-n decreases-loop-n
+returns-then-not-is_cubic_value c = let i = c.loop-n.invariant in (i.least, i.within, i.through)
 
-add-n : tie.Need-overflow-add-n invariant-loop decreases-loop
-add-n c = search rules
+overflow_add-n : tie.Need-overflow_add-n invariant-loop-n decreases-loop-n
+overflow_add-n c = search rules
 
-loop-less : tie.Need-loop-smaller invariant-loop decreases-loop
-loop-less c = search rules
+loop-n-smaller : tie.Need-loop-n-smaller invariant-loop-n decreases-loop-n
+loop-n-smaller c = search rules
 
-loop-again : tie.Need-loop-preserved invariant-loop decreases-loop
-loop-again c =
+loop-n-preserved : tie.Need-loop-n-preserved invariant-loop-n decreases-loop-n
+loop-n-preserved c =
     let l = c.before.before.before.before.before in
     let s = start l in
-    let f = s.args.t3 in
+    let f = s.args.f in
     let p = prime_of s.args.w in
-    let n = l.loop.n in
+    let n = l.loop-n.n in
     let x = get_or s.args.xs.now n 0 in
     let y = get_or s.args.ys.now n 0 in
     let hit : eqb (value p f x) y ≡ true =
     ap (λ z. eqb (value p z x) y) (sym (four f (width s)))
     ∙ ap (λ z. eqb z y) (sym (value-cubic p (get_or f 0 0) (get_or f 1 0) (get_or f 2 0) (get_or f 3 0) x))
-    ∙ sym c.before.is-cubic-value.ensures
-    ∙ not-false _ c.if1.false in
-    agreeing-next p _ _ f _ n l.loop.invariant (omega arith) (eqb-true (value p f x) y hit)
+    ∙ sym c.is_cubic_value.ensures
+    ∙ c.if-not-is_cubic_value.false in
+    agreeing-next p _ _ f _ n l.loop-n.invariant (omega arith) (eqb-true (value p f x) y hit)
 
-returns-2 : tie.Need-returns-2 invariant-loop decreases-loop
-returns-2 c = let i = c.before.loop.invariant in (i.least, i.within, i.through)
+returns : tie.Need-returns invariant-loop-n decreases-loop-n
+returns c = let i = c.loop-n.invariant in (i.least, i.within, i.through)
 
-pub agreeing-spec : {M : Type 1} → statement M
-agreeing-spec =
+pub agreeing_spec : {M : Type 1} → statement M
+agreeing_spec =
     tie.close
     (tie.spec
-    invariant-loop
-    decreases-loop
-    loop-holds
-    array-read-is-cubic-value
-    array-read-is-cubic-value-2
-    array-read-is-cubic-value-3
-    array-read-is-cubic-value-4
-    mul-is-cubic-value
-    shared-slice-read-is-cubic-value
-    mul-is-cubic-value-2
-    shared-slice-read-is-cubic-value-2
-    is-cubic-value-requires
-    returns
-    add-n
-    loop-less
-    loop-again
-    returns-2)
+    invariant-loop-n
+    decreases-loop-n
+    loop-n-init
+    bounds-f-0
+    bounds-f-1
+    bounds-f-2
+    bounds-f-3
+    offset_bounds-xs-n
+    bounds-xs-n
+    offset_bounds-ys-n
+    bounds-ys-n
+    is_cubic_value-requires
+    returns-then-not-is_cubic_value
+    overflow_add-n
+    loop-n-smaller
+    loop-n-preserved
+    returns)

@@ -11,119 +11,119 @@ use Rattle.key_equation.proofs.meet.Statement.{statement}
 use Rattle.key_equation.proofs.meet.Tie as tie
 
 -- The start: from what the point is off by, and from past the test of it.
-abbrev start : tie.After-off → tie.Start
-start c = c.before.before.before.before.before.before.before
+abbrev start : tie.After-off-d → tie.Start
+start c = c.before.before.before.before.before
 
-abbrev start-else : tie.Else1 → tie.Start
+abbrev start-else : tie.Else-d-eq0 → tie.Start
 start-else c = start c.before
 
-sub-nq : tie.Need-overflow-sub-nq
-sub-nq c = search rules
+overflow_sub-nq : tie.Need-overflow_sub-nq
+overflow_sub-nq c = search rules
 
-sub-ne : tie.Need-overflow-sub-ne
-sub-ne c = search rules
+overflow_sub-ne : tie.Need-overflow_sub-ne
+overflow_sub-ne c = search rules
 
-slice-reshare-prefix-off : tie.Need-slice-reshare-prefix-off
-slice-reshare-prefix-off c = search rules
+slice_bounds-off-end : tie.Need-slice_bounds-off-end
+slice_bounds-off-end c = search rules
 
-slice-aggregate-off : tie.Need-slice-aggregate-off
-slice-aggregate-off c = front-size c.before.before.before.before.before.args.q.now
+slice_bounds-off-end-2 : tie.Need-slice_bounds-off-end-2
+slice_bounds-off-end-2 c = front-size c.args.q.now
 
-slice-reshare-prefix-off-2 : tie.Need-slice-reshare-prefix-off-2
-slice-reshare-prefix-off-2 c = search rules
+slice_bounds-off-end-3 : tie.Need-slice_bounds-off-end-3
+slice_bounds-off-end-3 c = search rules
 
-slice-aggregate-off-2 : tie.Need-slice-aggregate-off-2
-slice-aggregate-off-2 c = front-size c.before.before.before.before.before.before.args.e.now
+slice_bounds-off-end-4 : tie.Need-slice_bounds-off-end-4
+slice_bounds-off-end-4 c = front-size c.args.e.now
 
-off-requires : tie.Need-off-requires
-off-requires c κs =
-    let s = c.before.before.before.before.before.before in
+off-d-requires : tie.Need-off-d-requires
+off-d-requires c κs =
+    let s = c.before.before.before.before in
     (roomy-short _ _ s.requires.0.0, roomy-short _ _ s.requires.0.1, s.requires.1.0, s.requires.1.1)
 
-raise-both-requires : tie.Need-raise-both-requires
-raise-both-requires c κs = search rules
+raise_both-requires : tie.Need-raise_both-requires
+raise_both-requires c κs = search rules
 
-same_length : tie.Need-same-length
-same_length c = search rules
+shape_of-q-then-d-eq0 : tie.Need-shape_of-q-then-d-eq0
+shape_of-q-then-d-eq0 c = search rules
 
-same-length-2 : tie.Need-same-length-2
-same-length-2 c = search rules
+shape_of-e-then-d-eq0 : tie.Need-shape_of-e-then-d-eq0
+shape_of-e-then-d-eq0 c = search rules
 
-same-length-3 : tie.Need-same-length-3
-same-length-3 c = search rules
+shape_of-r-then-d-eq0 : tie.Need-shape_of-r-then-d-eq0
+shape_of-r-then-d-eq0 c = search rules
 
-same-length-4 : tie.Need-same-length-4
-same-length-4 c = search rules
+shape_of-f-then-d-eq0 : tie.Need-shape_of-f-then-d-eq0
+shape_of-f-then-d-eq0 c = search rules
 
-returns : tie.Need-returns
-returns c = search rules
+returns-then-d-eq0 : tie.Need-returns-then-d-eq0
+returns-then-d-eq0 c = search rules
 
-sub-nr : tie.Need-overflow-sub-nr
-sub-nr c = search rules
+overflow_sub-nr : tie.Need-overflow_sub-nr
+overflow_sub-nr c = search rules
 
-sub-nf : tie.Need-overflow-sub-nf
-sub-nf c = search rules
+overflow_sub-nf : tie.Need-overflow_sub-nf
+overflow_sub-nf c = search rules
 
-slice-reshare-prefix-take-away : tie.Need-slice-reshare-prefix-take-away
-slice-reshare-prefix-take-away c = search rules
+slice_bounds-take_away-end : tie.Need-slice_bounds-take_away-end
+slice_bounds-take_away-end c = search rules
 
-slice-aggregate-take-away : tie.Need-slice-aggregate-take-away
-slice-aggregate-take-away c = front-size (start-else c.before).args.q.now
+slice_bounds-take_away-end-2 : tie.Need-slice_bounds-take_away-end-2
+slice_bounds-take_away-end-2 c = front-size (start-else c).args.q.now
 
-slice-reshare-prefix-take-away-2 : tie.Need-slice-reshare-prefix-take-away-2
-slice-reshare-prefix-take-away-2 c = search rules
+slice_bounds-take_away-end-3 : tie.Need-slice_bounds-take_away-end-3
+slice_bounds-take_away-end-3 c = search rules
 
-slice-aggregate-take-away-2 : tie.Need-slice-aggregate-take-away-2
-slice-aggregate-take-away-2 c = front-size (start-else c.before.before).args.e.now
+slice_bounds-take_away-end-4 : tie.Need-slice_bounds-take_away-end-4
+slice_bounds-take_away-end-4 c = front-size (start-else c).args.e.now
 
-slice-relend-prefix-take-away : tie.Need-slice-relend-prefix-take-away
-slice-relend-prefix-take-away c = search rules
+slice_bounds-take_away-end-5 : tie.Need-slice_bounds-take_away-end-5
+slice_bounds-take_away-end-5 c = search rules
 
-slice-aggregate-take-away-3 : tie.Need-slice-aggregate-take-away-3
-slice-aggregate-take-away-3 c = front-size (start-else c.before.before.before).args.r.now
+slice_bounds-take_away-end-6 : tie.Need-slice_bounds-take_away-end-6
+slice_bounds-take_away-end-6 c = front-size (start-else c.before).args.r.now
 
-slice-relend-prefix-take-away-2 : tie.Need-slice-relend-prefix-take-away-2
-slice-relend-prefix-take-away-2 c = search rules
+slice_bounds-take_away-end-7 : tie.Need-slice_bounds-take_away-end-7
+slice_bounds-take_away-end-7 c = search rules
 
-slice-aggregate-take-away-4 : tie.Need-slice-aggregate-take-away-4
-slice-aggregate-take-away-4 c = front-size (start-else c.before.before.before.before).args.f.now
+slice_bounds-take_away-end-8 : tie.Need-slice_bounds-take_away-end-8
+slice_bounds-take_away-end-8 c = front-size (start-else c.before.before).args.f.now
 
-take-away-requires : tie.Need-take-away-requires
-take-away-requires c κs =
+take_away-requires : tie.Need-take_away-requires
+take_away-requires c κs =
     let found = c.before.before.before.before.before in
-    let (r, z) = (start found).requires in (
+    let (r, z) = (start c.before.before.before).requires in (
       (roomy-short _ _ r.0, roomy-short _ _ r.1, roomy-short _ _ r.2, roomy-short _ _ r.3),
-      (z.0, z.1, found.off.ensures.1),
+      (z.0, z.1, c.off-d.ensures.1),
     )
 
-raise-both-requires-2 : tie.Need-raise-both-requires-2
-raise-both-requires-2 c κs = search rules
+raise_both-requires-2 : tie.Need-raise_both-requires-2
+raise_both-requires-2 c κs = search rules
 
-same-length-5 : tie.Need-same-length-5
-same-length-5 c = search rules
+shape_of-q : tie.Need-shape_of-q
+shape_of-q c = search rules
 
-same-length-6 : tie.Need-same-length-6
-same-length-6 c = search rules
+shape_of-e : tie.Need-shape_of-e
+shape_of-e c = search rules
 
-same-length-7 : tie.Need-same-length-7
-same-length-7 c = search rules
+shape_of-r : tie.Need-shape_of-r
+shape_of-r c = search rules
 
-same-length-8 : tie.Need-same-length-8
-same-length-8 c = search rules
+shape_of-f : tie.Need-shape_of-f
+shape_of-f c = search rules
 
-returns-2 : tie.Need-returns-2
-returns-2 c =
-    let raised = c.before.before.before.before.raise-both2.ensures in
+returns : tie.Need-returns
+returns c =
+    let raised = c.raise_both-2.ensures in
     let taken = c.before.before.before.before.before.before.before.before.before.before.before in
     let differs = taken.before.before.before.before.before in
     let found = differs.before in
-    let a = (start found).args in
+    let a = (start c.before.before.before.before.before.before.before.before.before.before.before.before.before.before.before).args in
     let p = prime_of a.w in
     let g = off p a.x a.y (front a.r.now) (front a.f.now) in
-    let d = found.off.ensures.0 in
-    let e = taken.take-away.ensures in
+    let d = c.off-d.ensures.0 in
+    let e = taken.take_away.ensures in
     record {
-      differs = λ z. differs.if1.false (d ∙ z);
+      differs = λ z. c.if-d-eq0.false (d ∙ z);
       first_q = raised.0;
       first-e = raised.1;
       second-q =
@@ -132,37 +132,37 @@ returns-2 c =
           ap (λ l. l ++ drop (length a.f.now - 1) a.f.now) (e.1 ∙ ap (λ z. mixed p z (front a.f.now) g (front a.e.now)) d);
     }
 
-pub meet-spec : {M : Type 1} → statement M
-meet-spec =
+pub meet_spec : {M : Type 1} → statement M
+meet_spec =
     tie.close
     (tie.spec
-    sub-nq
-    sub-ne
-    slice-reshare-prefix-off
-    slice-aggregate-off
-    slice-reshare-prefix-off-2
-    slice-aggregate-off-2
-    off-requires
-    raise-both-requires
-    same_length
-    same-length-2
-    same-length-3
-    same-length-4
-    returns
-    sub-nr
-    sub-nf
-    slice-reshare-prefix-take-away
-    slice-aggregate-take-away
-    slice-reshare-prefix-take-away-2
-    slice-aggregate-take-away-2
-    slice-relend-prefix-take-away
-    slice-aggregate-take-away-3
-    slice-relend-prefix-take-away-2
-    slice-aggregate-take-away-4
-    take-away-requires
-    raise-both-requires-2
-    same-length-5
-    same-length-6
-    same-length-7
-    same-length-8
-    returns-2)
+    overflow_sub-nq
+    overflow_sub-ne
+    slice_bounds-off-end
+    slice_bounds-off-end-2
+    slice_bounds-off-end-3
+    slice_bounds-off-end-4
+    off-d-requires
+    raise_both-requires
+    shape_of-q-then-d-eq0
+    shape_of-e-then-d-eq0
+    shape_of-r-then-d-eq0
+    shape_of-f-then-d-eq0
+    returns-then-d-eq0
+    overflow_sub-nr
+    overflow_sub-nf
+    slice_bounds-take_away-end
+    slice_bounds-take_away-end-2
+    slice_bounds-take_away-end-3
+    slice_bounds-take_away-end-4
+    slice_bounds-take_away-end-5
+    slice_bounds-take_away-end-6
+    slice_bounds-take_away-end-7
+    slice_bounds-take_away-end-8
+    take_away-requires
+    raise_both-requires-2
+    shape_of-q
+    shape_of-e
+    shape_of-r
+    shape_of-f
+    returns)

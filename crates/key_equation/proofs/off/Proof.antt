@@ -7,22 +7,26 @@ use Rattle.field.specs.Modulus.{prime_of}
 use Rattle.key_equation.proofs.off.Statement.{statement}
 use Rattle.key_equation.proofs.off.Tie as tie
 
-remainder-requires : tie.Need-remainder-requires
-remainder-requires c κs = search rules
+remainder-numerator-requires : tie.Need-remainder-numerator-requires
+remainder-numerator-requires c κs = search rules
 
-remainder-requires-2 : tie.Need-remainder-requires-2
-remainder-requires-2 c κs = search rules
+remainder-locator-requires : tie.Need-remainder-locator-requires
+remainder-locator-requires c κs = search rules
 
-mul-sub-requires : tie.Need-mul-sub-requires
-mul-sub-requires c κs = search rules
+mul_sub-requires : tie.Need-mul_sub-requires
+mul_sub-requires c κs = search rules
 
 returns : tie.Need-returns
 returns c =
-    let s = c.before.before.before.before.before.args in
+    let s = c.args in
     let p = prime_of s.w in
-    let q = c.before.before.remainder.ensures.0 in
-    let e = c.before.remainder2.ensures.0 in
-    (c.mul-sub.ensures.0 ∙ ap₂ (λ (a b : ℕ). sub p a (mul p s.y b)) q e, c.mul-sub.ensures.1)
+    let q = c.remainder-numerator.ensures.0 in
+    let e = c.remainder-locator.ensures.0 in
+    (c.mul_sub.ensures.0 ∙ ap₂ (λ (a b : ℕ). sub p a (mul p s.y b)) q e, c.mul_sub.ensures.1)
 
-pub off-spec : {M : Type 1} → statement M
-off-spec = tie.close (tie.spec remainder-requires remainder-requires-2 mul-sub-requires returns)
+pub off_spec : {M : Type 1} → statement M
+off_spec = tie.close (tie.spec
+    remainder-numerator-requires
+    remainder-locator-requires
+    mul_sub-requires
+    returns)

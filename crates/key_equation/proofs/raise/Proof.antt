@@ -10,77 +10,77 @@ use Rattle.key_equation.proofs.Loops.{Raising, raising-start, raising-small, rai
 use Rattle.key_equation.proofs.raise.Statement.{statement}
 use Rattle.key_equation.proofs.raise.Tie as tie
 
-abbrev invariant-loop : tie.invariant-loop
-invariant-loop w x f₀ last carried₀ i₀ f carried i = Raising (prime_of w) x f₀ f carried i
+abbrev invariant-loop-i : tie.invariant-loop-i
+invariant-loop-i w x f₀ last carried₀ i₀ f carried i = Raising (prime_of w) x f₀ f carried i
 
-abbrev decreases-loop : tie.decreases-loop
-decreases-loop w x f₀ last carried₀ i₀ f carried i = last - i
+abbrev decreases-loop-i : tie.decreases-loop-i
+decreases-loop-i w x f₀ last carried₀ i₀ f carried i = last - i
 
-sub-last : tie.Need-overflow-sub-last invariant-loop decreases-loop
-sub-last c = search rules
+overflow_sub-last : tie.Need-overflow_sub-last invariant-loop-i decreases-loop-i
+overflow_sub-last c = search rules
 
-loop-holds : tie.Need-loop-init invariant-loop decreases-loop
-loop-holds c = let s = c.before in raising-start _ _ _ (positive s.args.w) s.requires.0
+loop-i-init : tie.Need-loop-i-init invariant-loop-i decreases-loop-i
+loop-i-init c = let s = c.before in raising-start _ _ _ (positive s.args.w) s.requires.0
 
-mul-c : tie.Need-overflow-mul-c invariant-loop decreases-loop
-mul-c c = search rules
+offset_bounds-f-i : tie.Need-offset_bounds-f-i invariant-loop-i decreases-loop-i
+offset_bounds-f-i c = search rules
 
-slice-read-c : tie.Need-slice-read-c invariant-loop decreases-loop
-slice-read-c c = search rules
+bounds-f-i : tie.Need-bounds-f-i invariant-loop-i decreases-loop-i
+bounds-f-i c = search rules
 
-mul-sub-requires : tie.Need-mul-sub-requires invariant-loop decreases-loop
-mul-sub-requires c κs =
-    let k = c.before.before.loop in
-    (c.before.before.before.before.requires.1, raising-small _ _ _ k.f k.carried k.i k.invariant (omega arith), k.invariant.small)
+mul_sub-requires : tie.Need-mul_sub-requires invariant-loop-i decreases-loop-i
+mul_sub-requires c κs =
+    let k = c.loop-i in
+    (c.requires.1, raising-small _ _ _ k.f k.carried k.i k.invariant (omega arith), k.invariant.small)
 
-mul-f : tie.Need-overflow-mul-f invariant-loop decreases-loop
-mul-f c = search rules
+offset_bounds-f-i-in-loop-i : tie.Need-offset_bounds-f-i-in-loop-i invariant-loop-i decreases-loop-i
+offset_bounds-f-i-in-loop-i c = search rules
 
-slice-write-f : tie.Need-slice-write-f invariant-loop decreases-loop
-slice-write-f c = search rules
+bounds-f-i-in-loop-i : tie.Need-bounds-f-i-in-loop-i invariant-loop-i decreases-loop-i
+bounds-f-i-in-loop-i c = search rules
 
-add-i : tie.Need-overflow-add-i invariant-loop decreases-loop
-add-i c = search rules
+overflow_add-i : tie.Need-overflow_add-i invariant-loop-i decreases-loop-i
+overflow_add-i c = search rules
 
-loop-less : tie.Need-loop-smaller invariant-loop decreases-loop
-loop-less c = search rules
+loop-i-smaller : tie.Need-loop-i-smaller invariant-loop-i decreases-loop-i
+loop-i-smaller c = search rules
 
-loop-again : tie.Need-loop-preserved invariant-loop decreases-loop
-loop-again c =
-    let k = c.before.before.before.loop in
-    raising-next _ _ _ k.f k.carried k.i k.invariant (omega arith) _ c.mul-sub.ensures.0
+loop-i-preserved : tie.Need-loop-i-preserved invariant-loop-i decreases-loop-i
+loop-i-preserved c =
+    let k = c.loop-i in
+    raising-next _ _ _ k.f k.carried k.i k.invariant (omega arith) _ c.mul_sub.ensures.0
 
-mul-f-2 : tie.Need-overflow-mul-f-2 invariant-loop decreases-loop
-mul-f-2 c = search rules
+offset_bounds-f-last : tie.Need-offset_bounds-f-last invariant-loop-i decreases-loop-i
+offset_bounds-f-last c = search rules
 
-slice-write-f-2 : tie.Need-slice-write-f-2 invariant-loop decreases-loop
-slice-write-f-2 c = search rules
+bounds-f-last : tie.Need-bounds-f-last invariant-loop-i decreases-loop-i
+bounds-f-last c = search rules
 
-same_length : tie.Need-same-length invariant-loop decreases-loop
-same_length c = search rules
+shape_of-f : tie.Need-shape_of-f invariant-loop-i decreases-loop-i
+shape_of-f c = search rules
 
-returns : tie.Need-returns invariant-loop decreases-loop
+returns : tie.Need-returns invariant-loop-i decreases-loop-i
 returns c =
-    let k = c.before.loop in
-    raising-end _ _ _ k.f k.carried k.i k.invariant c.before.before.before.requires.2 (omega arith)
+    let k = c.loop-i in
+    raising-end _ _ _ k.f k.carried k.i k.invariant c.requires.2 (omega arith)
 
-pub raise-spec : {M : Type 1} → statement M
-raise-spec =
+pub raise_spec : {M : Type 1} → statement M
+raise_spec =
     tie.close
     (tie.spec
-    invariant-loop
-    decreases-loop
-    sub-last
-    loop-holds
-    mul-c
-    slice-read-c
-    mul-sub-requires
-    mul-f
-    slice-write-f
-    add-i
-    loop-less
-    loop-again
-    mul-f-2
-    slice-write-f-2
-    same_length
+    invariant-loop-i
+    decreases-loop-i
+    overflow_sub-last
+    loop-i-init
+    offset_bounds-f-i
+    bounds-f-i
+    mul_sub-requires
+    offset_bounds-f-i-in-loop-i
+    bounds-f-i-in-loop-i
+    overflow_add-i
+    loop-i-smaller
+    loop-i-preserved
+    offset_bounds-f-last
+    bounds-f-last
+    shape_of-f
     returns)

@@ -12,7 +12,7 @@ use Rattle.key_equation.proofs.solve.Tie as tie
 
 -- What f is at the start.
 first : (s : tie.Start) → let a = s.args in
-    Residues (prime_of a.w) a.t5 × Through (prime_of a.w) a.xs.now a.ys.now (a.t + 1) a.t5
+    Residues (prime_of a.w) a.f × Through (prime_of a.w) a.xs.now a.ys.now (a.t + 1) a.f
 first s =
     let r = s.requires.0 in
     let P = prime-of s.args.w in (
@@ -20,56 +20,56 @@ first s =
       start-through _ P _ r.0 _ _ r.1 r.2 r.3 r.4 _ s.requires.1,
     )
 
-add-agreeing : tie.Need-overflow-add-agreeing
-add-agreeing c = search rules
+overflow_add-t : tie.Need-overflow_add-t
+overflow_add-t c = search rules
 
-agreeing-requires : tie.Need-agreeing-requires
-agreeing-requires c κs =
+agreeing-k-requires : tie.Need-agreeing-k-requires
+agreeing-k-requires c κs =
     let s = c.before.before in
     let r = s.requires.0 in
     let (small, through) = first s in
     ((small, r.1.0, r.4, r.3), through)
 
-array-read-t13 : tie.Need-array-read-t13
-array-read-t13 c = search rules
+bounds-f-0 : tie.Need-bounds-f-0
+bounds-f-0 c = search rules
 
-array-read-t16 : tie.Need-array-read-t16
-array-read-t16 c = search rules
+bounds-f-1 : tie.Need-bounds-f-1
+bounds-f-1 c = search rules
 
-array-read-t19 : tie.Need-array-read-t19
-array-read-t19 c = search rules
+bounds-f-2 : tie.Need-bounds-f-2
+bounds-f-2 c = search rules
 
-array-read-t22 : tie.Need-array-read-t22
-array-read-t22 c = search rules
+bounds-f-3 : tie.Need-bounds-f-3
+bounds-f-3 c = search rules
 
-returns : tie.Need-returns
-returns c =
+returns-then-k-xs : tie.Need-returns-then-k-xs
+returns-then-k-xs c =
     let s = c.before.before.before.before in
     let r = s.requires.0 in
-    let e = c.before.agreeing.ensures in
-    solved-at-once _ (prime-of s.args.w) _ r.0 _ _ r.1 r.2 r.3 r.4 s.args.t5 s.requires.1 _ e.0 e.1 e.2
-    c.if1.true
+    let e = c.agreeing-k.ensures in
+    solved-at-once _ (prime-of s.args.w) _ r.0 _ _ r.1 r.2 r.3 r.4 s.args.f s.requires.1 _ e.0 e.1 e.2
+    c.if-k-xs.true
 
-solve-from-requires : tie.Need-solve-from-requires
-solve-from-requires c κs =
+solve_from-requires : tie.Need-solve_from-requires
+solve_from-requires c κs =
     let s = c.before.before.before.before in
     let r = s.requires.0 in
-    let e = c.before.agreeing.ensures in
+    let e = c.agreeing-k.ensures in
     ((r.0, r.1, r.2, r.3, e.0, e.1, r.5), (s.requires.1, e.2))
 
-returns-2 : tie.Need-returns-2
-returns-2 c = c.solve-from.ensures
+returns : tie.Need-returns
+returns c = c.solve_from.ensures
 
-pub solve-spec : {M : Type 1} → statement M
-solve-spec =
+pub solve_spec : {M : Type 1} → statement M
+solve_spec =
     tie.close
     (tie.spec
-    add-agreeing
-    agreeing-requires
-    array-read-t13
-    array-read-t16
-    array-read-t19
-    array-read-t22
-    returns
-    solve-from-requires
-    returns-2)
+    overflow_add-t
+    agreeing-k-requires
+    bounds-f-0
+    bounds-f-1
+    bounds-f-2
+    bounds-f-3
+    returns-then-k-xs
+    solve_from-requires
+    returns)

@@ -37,7 +37,7 @@ loop-again c =
     let l = turn.loop in
     let a = turn.before.before.args in
     let more = puts_then _ _ _ _ _ _ _ _ l.invariant.2 p.ensures ∙ ap (puts a.out.now a.at) (names_more a.set l.k) in
-    (search rules, p.auto.0 ∙ l.invariant.1, more)
+    (search rules, p.auto.out ∙ l.invariant.1, more)
 
 same_length : tie.Need-same-length invariant-loop decreases-loop
 same_length c = search rules

@@ -20,10 +20,13 @@ copied-requires c κs = search rules
 returns : tie.Need-returns
 returns c =
     let called = c.before in
-    let s = called.before.before.before.args in
+    let s = called.args in
     c.copied.ensures
     ∙ called.search.ensures
     ∙ ap result_of (found-tried _ s.need s.xs.now s.ys.now s.i s.k s.spare)
 
-pub choices-spec : {M : Type 1} → statement M
-choices-spec = tie.close (tie.spec search-requires copied-requires returns)
+pub choices_spec : {M : Type 1} → statement M
+choices_spec = tie.close (tie.spec
+    search-requires
+    copied-requires
+    returns)

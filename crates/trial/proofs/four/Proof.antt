@@ -8,17 +8,17 @@ use Rattle.trial.proofs.four.Statement.{statement}
 use Rattle.trial.proofs.four.Tie as tie
 
 -- The arrays hold four numbers each.
-widths : (s : tie.Start) → (length s.args.t5 ≡ 4) × (length s.args.cy ≡ 4)
+widths : (s : tie.Start) → (length s.args.cx ≡ 4) × (length s.args.cy ≡ 4)
 widths s = (omega arith, omega arith)
 
-slice-aggregate-test : tie.Need-slice-aggregate-test
-slice-aggregate-test c = search rules
+slice_bounds-test-end : tie.Need-slice_bounds-test-end
+slice_bounds-test-end c = search rules
 
-slice-aggregate-test-2 : tie.Need-slice-aggregate-test-2
-slice-aggregate-test-2 c = search rules
+slice_bounds-test-end-2 : tie.Need-slice_bounds-test-end-2
+slice_bounds-test-end-2 c = search rules
 
-test-requires : tie.Need-test-requires
-test-requires c κs =
+test-passed-requires : tie.Need-test-passed-requires
+test-passed-requires c κs =
     let s = c.before.before.before.before in
     let l = widths s in
     (s.requires.0.lengths, ((omega arith, l.0, l.1), s.requires.1))
@@ -32,10 +32,15 @@ returns c =
     let s = tested.before.before.before.before.before in
     let l = widths s in
     c.given.ensures
-    ∙ tested.test.ensures
-    ∙ sym (four-taken _ s.args.need _ _ 4 s.args.t5 s.args.cy refl l.0 l.1)
+    ∙ tested.test-passed.ensures
+    ∙ sym (four-taken _ s.args.need _ _ 4 s.args.cx s.args.cy refl l.0 l.1)
 
-pub four-spec : {M : Type 1} → statement M
-four-spec =
+pub four_spec : {M : Type 1} → statement M
+four_spec =
     tie.close
-    (tie.spec slice-aggregate-test slice-aggregate-test-2 test-requires given-requires returns)
+    (tie.spec
+    slice_bounds-test-end
+    slice_bounds-test-end-2
+    test-passed-requires
+    given-requires
+    returns)

@@ -20,10 +20,13 @@ copied-requires c κs = search rules
 returns : tie.Need-returns
 returns c =
     let called = c.before in
-    let s = called.before.before.before.args in
+    let s = called.args in
     c.copied.ensures
     ∙ called.straight.ensures
     ∙ ap result_of (found-tried _ s.need s.xs.now s.ys.now s.i s.k 0)
 
-pub next-spec : {M : Type 1} → statement M
-next-spec = tie.close (tie.spec straight-requires copied-requires returns)
+pub next_spec : {M : Type 1} → statement M
+next_spec = tie.close (tie.spec
+    straight-requires
+    copied-requires
+    returns)

@@ -11,129 +11,129 @@ use Rattle.trial.proofs.Arrays.{found-one, found_none, Straight, straight-sent, 
 use Rattle.trial.proofs.straight.Statement.{statement}
 use Rattle.trial.proofs.straight.Tie as tie
 
-abbrev invariant-loop : tie.invariant-loop
-invariant-loop w xs ys need i more c p j₀ left₀ d₀ dx₀ dy₀ j left d dx dy =
+abbrev invariant-loop-left : tie.invariant-loop-left
+invariant-loop-left w xs ys need i more c p j₀ left₀ d₀ dx₀ dy₀ j left d dx dy =
     Straight (prime_of w) need xs ys (found (prime_of w) need xs ys more 0 (take c dx₀) (take c dy₀) i) j left d dx dy
 
-abbrev decreases-loop : tie.decreases-loop
-decreases-loop w xs ys need i more c p j₀ left₀ d₀ dx₀ dy₀ j left d dx dy = length xs - j
+abbrev decreases-loop-left : tie.decreases-loop-left
+decreases-loop-left w xs ys need i more c p j₀ left₀ d₀ dx₀ dy₀ j left d dx dy = length xs - j
 
 -- The loop's turn in which a point is read.
-abbrev turn : tie.After-shared-slice-known4 invariant-loop decreases-loop → tie.At-loop invariant-loop decreases-loop
+abbrev turn : tie.After-shared_slice_known-in-loop-left-2-1 invariant-loop-left decreases-loop-left → tie.At-loop-left invariant-loop-left decreases-loop-left
 turn read = read.before.before.before.before
 
-loop-holds : tie.Need-loop-init invariant-loop decreases-loop
-loop-holds c = record { searching = c.before.before.before.requires; width-x = omega arith; width-y = omega arith; finds = refl }
+loop-left-init : tie.Need-loop-left-init invariant-loop-left decreases-loop-left
+loop-left-init c = record { searching = c.requires; width-x = omega arith; width-y = omega arith; finds = refl }
 
-modulus-requires : tie.Need-modulus-requires invariant-loop decreases-loop
-modulus-requires c κs = search rules
+modulus-p-requires : tie.Need-modulus-p-requires invariant-loop-left decreases-loop-left
+modulus-p-requires c κs = search rules
 
-nothing-requires : tie.Need-nothing-requires invariant-loop decreases-loop
+nothing-requires : tie.Need-nothing-requires invariant-loop-left decreases-loop-left
 nothing-requires c κs = search rules
 
-returns : tie.Need-returns invariant-loop decreases-loop
-returns c =
-    let k = c.before.before.before.loop in
+returns-then-xs-j : tie.Need-returns-then-xs-j invariant-loop-left decreases-loop-left
+returns-then-xs-j c =
+    let k = c.loop-left in
     c.nothing.ensures
-    ∙ ap result_of (found_none _ _ _ _ k.left 0 _ _ k.j (λ z. omega arith) c.before.if1.true ∙ k.invariant.finds)
+    ∙ ap result_of (found_none _ _ _ _ k.left 0 _ _ k.j (λ z. omega arith) c.if-xs-j.true ∙ k.invariant.finds)
 
-mul-x : tie.Need-overflow-mul-x invariant-loop decreases-loop
-mul-x c = search rules
+offset_bounds-xs-j : tie.Need-offset_bounds-xs-j invariant-loop-left decreases-loop-left
+offset_bounds-xs-j c = search rules
 
-shared-slice-read-x : tie.Need-shared-slice-read-x invariant-loop decreases-loop
-shared-slice-read-x c = search rules
+bounds-xs-j : tie.Need-bounds-xs-j invariant-loop-left decreases-loop-left
+bounds-xs-j c = search rules
 
-mul-y : tie.Need-overflow-mul-y invariant-loop decreases-loop
-mul-y c = search rules
+offset_bounds-ys-j : tie.Need-offset_bounds-ys-j invariant-loop-left decreases-loop-left
+offset_bounds-ys-j c = search rules
 
-shared-slice-read-y : tie.Need-shared-slice-read-y invariant-loop decreases-loop
-shared-slice-read-y c = search rules
+bounds-ys-j : tie.Need-bounds-ys-j invariant-loop-left decreases-loop-left
+bounds-ys-j c = search rules
 
-add-j : tie.Need-overflow-add-j invariant-loop decreases-loop
-add-j c = search rules
+overflow_add-j : tie.Need-overflow_add-j invariant-loop-left decreases-loop-left
+overflow_add-j c = search rules
 
-mul-dx : tie.Need-overflow-mul-dx invariant-loop decreases-loop
-mul-dx c = search rules
+offset_bounds-dx-d : tie.Need-offset_bounds-dx-d invariant-loop-left decreases-loop-left
+offset_bounds-dx-d c = search rules
 
-array-write-dx : tie.Need-array-write-dx invariant-loop decreases-loop
-array-write-dx c = search rules
+bounds-dx-d : tie.Need-bounds-dx-d invariant-loop-left decreases-loop-left
+bounds-dx-d c = search rules
 
-mul-dy : tie.Need-overflow-mul-dy invariant-loop decreases-loop
-mul-dy c = search rules
+offset_bounds-dy-d : tie.Need-offset_bounds-dy-d invariant-loop-left decreases-loop-left
+offset_bounds-dy-d c = search rules
 
-array-write-dy : tie.Need-array-write-dy invariant-loop decreases-loop
-array-write-dy c = search rules
+bounds-dy-d : tie.Need-bounds-dy-d invariant-loop-left decreases-loop-left
+bounds-dy-d c = search rules
 
-add-d : tie.Need-overflow-add-d invariant-loop decreases-loop
-add-d c = search rules
+overflow_add-d : tie.Need-overflow_add-d invariant-loop-left decreases-loop-left
+overflow_add-d c = search rules
 
-sub-left : tie.Need-overflow-sub-left invariant-loop decreases-loop
-sub-left c = search rules
+overflow_sub-left : tie.Need-overflow_sub-left invariant-loop-left decreases-loop-left
+overflow_sub-left c = search rules
 
-loop-less : tie.Need-loop-smaller invariant-loop decreases-loop
-loop-less c = search rules
+loop-left-smaller-then-y-p : tie.Need-loop-left-smaller-then-y-p invariant-loop-left decreases-loop-left
+loop-left-smaller-then-y-p c = search rules
 
-loop-again : tie.Need-loop-preserved invariant-loop decreases-loop
-loop-again c =
-    let k = (turn c.before).loop in
-    straight-sent _ _ _ _ _ k.j k.left k.d k.dx k.dy k.inv (omega arith) (omega arith) (omega arith)
+loop-left-preserved-then-y-p : tie.Need-loop-left-preserved-then-y-p invariant-loop-left decreases-loop-left
+loop-left-preserved-then-y-p c =
+    let k = (turn c.before).loop-left in
+    straight-sent _ _ _ _ _ k.j k.left k.d k.dx k.dy k.invariant (omega arith) (omega arith) (omega arith)
 
-loop-less-2 : tie.Need-loop-smaller-2 invariant-loop decreases-loop
-loop-less-2 c = search rules
+loop-left-smaller : tie.Need-loop-left-smaller invariant-loop-left decreases-loop-left
+loop-left-smaller c = search rules
 
-loop-again-2 : tie.Need-loop-preserved-2 invariant-loop decreases-loop
-loop-again-2 c =
-    let k = (turn c.before).loop in
-    straight-unsent _ _ _ _ _ k.j k.left k.d k.dx k.dy k.inv (omega arith) (omega arith)
+loop-left-preserved : tie.Need-loop-left-preserved invariant-loop-left decreases-loop-left
+loop-left-preserved c =
+    let k = (turn c.before).loop-left in
+    straight-unsent _ _ _ _ _ k.j k.left k.d k.dx k.dy k.invariant (omega arith) (omega arith)
 
-slice-aggregate-test : tie.Need-slice-aggregate-test invariant-loop decreases-loop
-slice-aggregate-test c = search rules
+slice_bounds-test-end : tie.Need-slice_bounds-test-end invariant-loop-left decreases-loop-left
+slice_bounds-test-end c = search rules
 
-slice-aggregate-test-2 : tie.Need-slice-aggregate-test-2 invariant-loop decreases-loop
-slice-aggregate-test-2 c = search rules
+slice_bounds-test-end-2 : tie.Need-slice_bounds-test-end-2 invariant-loop-left decreases-loop-left
+slice_bounds-test-end-2 c = search rules
 
-test-requires : tie.Need-test-requires invariant-loop decreases-loop
-test-requires c κs =
-    let k = c.before.before.before.loop.invariant in
+test-passed-requires : tie.Need-test-passed-requires invariant-loop-left decreases-loop-left
+test-passed-requires c κs =
+    let k = c.loop-left.invariant in
     let s = k.searching in
     (s.bounded.lengths, ((omega (arith, s.room), k.width-x, k.width-y), (s.points, s.taken-x, s.taken-y)))
 
-given-requires : tie.Need-given-requires invariant-loop decreases-loop
+given-requires : tie.Need-given-requires invariant-loop-left decreases-loop-left
 given-requires c κs = search rules
 
-returns-2 : tie.Need-returns-2 invariant-loop decreases-loop
-returns-2 c =
+returns : tie.Need-returns invariant-loop-left decreases-loop-left
+returns c =
     let tested = c.before.before in
-    let k = tested.before.before.before.before.loop in
-    c.given.ensures ∙ tested.test.ensures ∙ ap result_of (found-one _ _ _ _ k.left 0 _ _ k.j (omega arith) ∙ k.invariant.finds)
+    let k = tested.loop-left in
+    c.given.ensures ∙ tested.test-passed.ensures ∙ ap result_of (found-one _ _ _ _ k.left 0 _ _ k.j (omega arith) ∙ k.invariant.finds)
 
-pub straight-spec : {M : Type 1} → statement M
-straight-spec =
+pub straight_spec : {M : Type 1} → statement M
+straight_spec =
     tie.close
     (tie.spec
-    invariant-loop
-    decreases-loop
-    modulus-requires
-    loop-holds
+    invariant-loop-left
+    decreases-loop-left
+    modulus-p-requires
+    loop-left-init
     nothing-requires
-    returns
-    mul-x
-    shared-slice-read-x
-    mul-y
-    shared-slice-read-y
-    add-j
-    mul-dx
-    array-write-dx
-    mul-dy
-    array-write-dy
-    add-d
-    sub-left
-    loop-less
-    loop-again
-    loop-less-2
-    loop-again-2
-    slice-aggregate-test
-    slice-aggregate-test-2
-    test-requires
+    returns-then-xs-j
+    offset_bounds-xs-j
+    bounds-xs-j
+    offset_bounds-ys-j
+    bounds-ys-j
+    overflow_add-j
+    offset_bounds-dx-d
+    bounds-dx-d
+    offset_bounds-dy-d
+    bounds-dy-d
+    overflow_add-d
+    overflow_sub-left
+    loop-left-smaller-then-y-p
+    loop-left-preserved-then-y-p
+    loop-left-smaller
+    loop-left-preserved
+    slice_bounds-test-end
+    slice_bounds-test-end-2
+    test-passed-requires
     given-requires
-    returns-2)
+    returns)
