@@ -37,14 +37,14 @@ module _ (set k : ℕ) where
   names_more = rw (add-one k)
 
 -- ---- the verdict; the code asks whether the dealer is not accepted
-pub verdict-accepted : (b : Bool) (set n : ℕ) → not b ≡ false → letters "dealer accepted\n" ∷ happy_words set n ≡ verdict_words b set n
+pub verdict-accepted : (b : Bool) (set n : ℕ) → b ≡ true → letters "dealer accepted\n" ∷ happy_words set n ≡ verdict_words b set n
 unfolding verdict_words
 verdict-accepted true set n e = refl
-verdict-accepted false set n e = absurd (true≢false e)
+verdict-accepted false set n e = absurd (false≢true e)
 
-pub verdict-rejected : (b : Bool) (set n : ℕ) → not b ≡ true → letters "dealer rejected\n" ∷ [] ≡ verdict_words b set n
+pub verdict-rejected : (b : Bool) (set n : ℕ) → b ≡ false → letters "dealer rejected\n" ∷ [] ≡ verdict_words b set n
 unfolding verdict_words
-verdict-rejected true set n e = absurd (false≢true e)
+verdict-rejected true set n e = absurd (true≢false e)
 verdict-rejected false set n e = refl
 
 -- ---- a value or a refusal

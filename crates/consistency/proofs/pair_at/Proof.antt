@@ -6,11 +6,13 @@ use borrow.Author.Rules.{rules}
 use Rattle.consistency.proofs.pair_at.Statement.{statement}
 use Rattle.consistency.proofs.pair_at.Tie as tie
 
-both-requires : tie.Need-both-requires
-both-requires c κs = search rules
+both-both-requires : tie.Need-both-both-requires
+both-both-requires c κs = search rules
 
 returns : tie.Need-returns
-returns c = ap (λ (s : SchemePair). said (s.first.value, s.second.value)) c.both.ensures
+returns c = ap (λ (s : SchemePair). said (s.first.value, s.second.value)) c.both-both.ensures
 
-pub pair-at-spec : {M : Type 1} → statement M
-pair-at-spec = tie.close (tie.spec both-requires returns)
+pub pair_at_spec : {M : Type 1} → statement M
+pair_at_spec = tie.close (tie.spec
+    both-both-requires
+    returns)

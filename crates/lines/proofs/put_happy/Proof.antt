@@ -4,40 +4,32 @@ use borrow.Author.Rules.{rules}
 use Rattle.lines.proofs.put_happy.Statement.{statement}
 use Rattle.lines.proofs.put_happy.Tie as tie
 
-slice-aggregate-put : tie.Need-slice-aggregate-put
-slice-aggregate-put c = search rules
+put-word-requires : tie.Need-put-word-requires
+put-word-requires c κs = search rules
+
+put_names-listed-requires : tie.Need-put_names-listed-requires
+put_names-listed-requires c κs = search rules
 
 put-requires : tie.Need-put-requires
 put-requires c κs = search rules
 
-put-names-requires : tie.Need-put-names-requires
-put-names-requires c κs = search rules
-
-slice-aggregate-put-2 : tie.Need-slice-aggregate-put-2
-slice-aggregate-put-2 c = search rules
-
-put-requires-2 : tie.Need-put-requires-2
-put-requires-2 c κs = search rules
-
-same_length : tie.Need-same-length
-same_length c = search rules
+shape_of-out : tie.Need-shape_of-out
+shape_of-out c = search rules
 
 returns : tie.Need-returns
 returns c =
     let m = c.before.before.before.before.before.before.before in
-    let p = m.before.before.before.before.put in
-    let q = c.before.before.put2 in
-    let front = puts_then _ _ _ _ _ _ _ _ (puts_one _ _ _ _ _ p.ensures) m.put-names.ensures in
+    let p = m.put-word in
+    let q = c.put in
+    let front = puts_then _ _ _ _ _ _ _ _ (puts_one _ _ _ _ _ p.ensures) m.put_names-listed.ensures in
     puts_then _ _ _ _ _ _ _ _ front (puts_one _ _ _ _ _ q.ensures)
 
-pub put-happy-spec : {M : Type 1} → statement M
-put-happy-spec =
+pub put_happy_spec : {M : Type 1} → statement M
+put_happy_spec =
     tie.close
     (tie.spec
-    slice-aggregate-put
+    put-word-requires
+    put_names-listed-requires
     put-requires
-    put-names-requires
-    slice-aggregate-put-2
-    put-requires-2
-    same_length
+    shape_of-out
     returns)

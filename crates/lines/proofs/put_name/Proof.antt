@@ -8,46 +8,42 @@ use borrow.Author.Rules.{rules}
 use Rattle.lines.proofs.put_name.Statement.{statement}
 use Rattle.lines.proofs.put_name.Tie as tie
 
+returns-then-k-ge16 : tie.Need-returns-then-k-ge16
+returns-then-k-ge16 c =
+    let a = c.args in
+    puts_none a.out.now a.at ∙ ap (puts a.out.now a.at) (name-behind a.set a.k (omega arith) c.if-k-ge16.true)
+
+overflow_shr-set : tie.Need-overflow_shr-set
+overflow_shr-set c = search rules
+
+overflow_add-k : tie.Need-overflow_add-k
+overflow_add-k c = search rules
+
+put_field-requires : tie.Need-put_field-requires
+put_field-requires c κs = search rules
+
+shape_of-out-then-set-k-eq1 : tie.Need-shape_of-out-then-set-k-eq1
+shape_of-out-then-set-k-eq1 c = search rules
+
+returns-then-set-k-eq1 : tie.Need-returns-then-set-k-eq1
+returns-then-set-k-eq1 c =
+    let p = c.before.before in
+    let a = p.args in
+    p.put_field.ensures ∙ ap (puts a.out.now a.at) (name_in a.set a.k p.if-set-k-eq1.true)
+
 returns : tie.Need-returns
 returns c =
-    let a = c.before.before.args in
-    puts_none a.out.now a.at ∙ ap (puts a.out.now a.at) (name-behind a.set a.k (omega arith) c.if1.true)
+    let a = c.args in
+    puts_none a.out.now a.at ∙ ap (puts a.out.now a.at) (name_out a.set a.k c.if-set-k-eq1.false)
 
-shr-if2 : tie.Need-overflow-shr-if2
-shr-if2 c = search rules
-
-slice-aggregate-put-field : tie.Need-slice-aggregate-put-field
-slice-aggregate-put-field c = search rules
-
-add-put-field : tie.Need-overflow-add-put-field
-add-put-field c = search rules
-
-put-field-requires : tie.Need-put-field-requires
-put-field-requires c κs = search rules
-
-same_length : tie.Need-same-length
-same_length c = search rules
-
-returns-2 : tie.Need-returns-2
-returns-2 c =
-    let p = c.before.before in
-    let a = p.before.before.before.before.before.before.args in
-    p.put-field.ensures ∙ ap (puts a.out.now a.at) (name_in a.set a.k p.before.before.before.if2.true)
-
-returns-3 : tie.Need-returns-3
-returns-3 c =
-    let a = c.before.before.before.args in
-    puts_none a.out.now a.at ∙ ap (puts a.out.now a.at) (name_out a.set a.k c.if2.false)
-
-pub put-name-spec : {M : Type 1} → statement M
-put-name-spec =
+pub put_name_spec : {M : Type 1} → statement M
+put_name_spec =
     tie.close
     (tie.spec
-    returns
-    shr-if2
-    slice-aggregate-put-field
-    add-put-field
-    put-field-requires
-    same_length
-    returns-2
-    returns-3)
+    returns-then-k-ge16
+    overflow_shr-set
+    overflow_add-k
+    put_field-requires
+    shape_of-out-then-set-k-eq1
+    returns-then-set-k-eq1
+    returns)

@@ -11,52 +11,52 @@ use Rattle.lines.proofs.Lines.{names_more}
 use Rattle.lines.proofs.put_names.Statement.{statement}
 use Rattle.lines.proofs.put_names.Tie as tie
 
-abbrev invariant-loop : tie.invariant-loop
-invariant-loop out₀ at set n next₀ k₀ out next k = (k ≤ n) × (length out ≡ length out₀) × ((out, next) ≡ puts out₀ at (names set k))
+abbrev invariant-loop-k : tie.invariant-loop-k
+invariant-loop-k out₀ at set n next₀ k₀ out next k = (k ≤ n) × (length out ≡ length out₀) × ((out, next) ≡ puts out₀ at (names set k))
 
-abbrev decreases-loop : tie.decreases-loop
-decreases-loop out₀ at set n next₀ k₀ out next k = n - k
+abbrev decreases-loop-k : tie.decreases-loop-k
+decreases-loop-k out₀ at set n next₀ k₀ out next k = n - k
 
-loop-holds : tie.Need-loop-init invariant-loop decreases-loop
+loop-k-init : tie.Need-loop-k-init invariant-loop-k decreases-loop-k
 unfolding names
-loop-holds c = (search rules, refl, puts_none _ _)
+loop-k-init c = (search rules, refl, puts_none _ _)
 
-put-name-requires : tie.Need-put-name-requires invariant-loop decreases-loop
-put-name-requires c κs = search rules
+put_name-next-requires : tie.Need-put_name-next-requires invariant-loop-k decreases-loop-k
+put_name-next-requires c κs = search rules
 
-add-k : tie.Need-overflow-add-k invariant-loop decreases-loop
-add-k c = search rules
+overflow_step-k : tie.Need-overflow_step-k invariant-loop-k decreases-loop-k
+overflow_step-k c = search rules
 
-loop-less : tie.Need-loop-smaller invariant-loop decreases-loop
-loop-less c = search rules
+loop-k-smaller : tie.Need-loop-k-smaller invariant-loop-k decreases-loop-k
+loop-k-smaller c = search rules
 
-loop-again : tie.Need-loop-preserved invariant-loop decreases-loop
-loop-again c =
-    let p = c.before.before.put-name in
+loop-k-preserved : tie.Need-loop-k-preserved invariant-loop-k decreases-loop-k
+loop-k-preserved c =
+    let p = c.put_name-next in
     let turn = c.before.before.before.before.before in
-    let l = turn.loop in
-    let a = turn.before.before.args in
+    let l = turn.loop-k in
+    let a = turn.args in
     let more = puts_then _ _ _ _ _ _ _ _ l.invariant.2 p.ensures ∙ ap (puts a.out.now a.at) (names_more a.set l.k) in
     (search rules, p.auto.out ∙ l.invariant.1, more)
 
-same_length : tie.Need-same-length invariant-loop decreases-loop
-same_length c = search rules
+shape_of-out : tie.Need-shape_of-out invariant-loop-k decreases-loop-k
+shape_of-out c = search rules
 
-returns : tie.Need-returns invariant-loop decreases-loop
+returns : tie.Need-returns invariant-loop-k decreases-loop-k
 returns c =
-    let e : c.before.loop.k ≡ c.before.before.before.args.n = omega arith in
-    rw (← e) c.before.loop.invariant.2
+    let e : c.loop-k.k ≡ c.args.n = omega arith in
+    rw (← e) c.loop-k.invariant.2
 
-pub put-names-spec : {M : Type 1} → statement M
-put-names-spec =
+pub put_names_spec : {M : Type 1} → statement M
+put_names_spec =
     tie.close
     (tie.spec
-    invariant-loop
-    decreases-loop
-    loop-holds
-    put-name-requires
-    add-k
-    loop-less
-    loop-again
-    same_length
+    invariant-loop-k
+    decreases-loop-k
+    loop-k-init
+    put_name-next-requires
+    overflow_step-k
+    loop-k-smaller
+    loop-k-preserved
+    shape_of-out
     returns)

@@ -6,43 +6,39 @@ use borrow.Author.Rules.{rules}
 use Rattle.lines.proofs.put_outcome.Statement.{statement}
 use Rattle.lines.proofs.put_outcome.Tie as tie
 
-put-line-requires : tie.Need-put-line-requires
-put-line-requires c κs = search rules
+put_line-requires : tie.Need-put_line-requires
+put_line-requires c κs = search rules
 
-same_length : tie.Need-same-length
-same_length c = search rules
+shape_of-out-then-refusal-eq0 : tie.Need-shape_of-out-then-refusal-eq0
+shape_of-out-then-refusal-eq0 c = search rules
+
+returns-then-refusal-eq0 : tie.Need-returns-then-refusal-eq0
+returns-then-refusal-eq0 c =
+    let p = c.before.before in
+    let a = p.args in
+    p.put_line.ensures
+    ∙ ap (puts a.out.now a.at) (outcome-value a.word.now a.refusal a.value p.if-refusal-eq0.true)
+
+put_line-requires-2 : tie.Need-put_line-requires-2
+put_line-requires-2 c κs = search rules
+
+shape_of-out : tie.Need-shape_of-out
+shape_of-out c = search rules
 
 returns : tie.Need-returns
 returns c =
     let p = c.before.before in
-    let a = p.before.before.before.before.before.args in
-    p.put-line.ensures
-    ∙ ap (puts a.out.now a.at) (outcome-value a.word.now a.refusal a.value p.before.before.if1.true)
+    let a = p.args in
+    p.put_line-2.ensures
+    ∙ ap (puts a.out.now a.at) (outcome-refused a.word.now a.refusal a.value p.if-refusal-eq0.false)
 
-slice-aggregate-put-line : tie.Need-slice-aggregate-put-line
-slice-aggregate-put-line c = search rules
-
-put-line-requires-2 : tie.Need-put-line-requires-2
-put-line-requires-2 c κs = search rules
-
-same-length-2 : tie.Need-same-length-2
-same-length-2 c = search rules
-
-returns-2 : tie.Need-returns-2
-returns-2 c =
-    let p = c.before.before in
-    let a = p.before.before.before.before.before.before.args in
-    p.put-line2.ensures
-    ∙ ap (puts a.out.now a.at) (outcome-refused a.word.now a.refusal a.value p.before.before.before.if1.false)
-
-pub put-outcome-spec : {M : Type 1} → statement M
-put-outcome-spec =
+pub put_outcome_spec : {M : Type 1} → statement M
+put_outcome_spec =
     tie.close
     (tie.spec
-    put-line-requires
-    same_length
-    returns
-    slice-aggregate-put-line
-    put-line-requires-2
-    same-length-2
-    returns-2)
+    put_line-requires
+    shape_of-out-then-refusal-eq0
+    returns-then-refusal-eq0
+    put_line-requires-2
+    shape_of-out
+    returns)

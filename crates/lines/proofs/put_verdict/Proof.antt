@@ -7,52 +7,44 @@ use borrow.Author.Rules.{rules}
 use Rattle.lines.proofs.put_verdict.Statement.{statement}
 use Rattle.lines.proofs.put_verdict.Tie as tie
 
-slice-aggregate-put : tie.Need-slice-aggregate-put
-slice-aggregate-put c = search rules
-
 put-requires : tie.Need-put-requires
 put-requires c κs = search rules
 
-same_length : tie.Need-same-length
-same_length c = search rules
+shape_of-out-then-not-accepted : tie.Need-shape_of-out-then-not-accepted
+shape_of-out-then-not-accepted c = search rules
+
+returns-then-not-accepted : tie.Need-returns-then-not-accepted
+returns-then-not-accepted c =
+    let p = c.before.before in
+    let a = p.args in
+    puts_one _ _ _ _ _ p.put.ensures
+    ∙ ap (puts a.out.now a.at) (verdict-rejected a.accepted a.set a.n p.if-not-accepted.true)
+
+put-verdict-requires : tie.Need-put-verdict-requires
+put-verdict-requires c κs = search rules
+
+put_happy-requires : tie.Need-put_happy-requires
+put_happy-requires c κs = search rules
+
+shape_of-out : tie.Need-shape_of-out
+shape_of-out c = search rules
 
 returns : tie.Need-returns
 returns c =
-    let p = c.before.before in
-    let a = p.before.before.before.before.before.args in
-    puts_one _ _ _ _ _ p.put.ensures
-    ∙ ap (puts a.out.now a.at) (verdict-rejected a.accepted a.set a.n p.before.before.before.if1.true)
-
-slice-aggregate-put-2 : tie.Need-slice-aggregate-put-2
-slice-aggregate-put-2 c = search rules
-
-put-requires-2 : tie.Need-put-requires-2
-put-requires-2 c κs = search rules
-
-put-happy-requires : tie.Need-put-happy-requires
-put-happy-requires c κs = search rules
-
-same-length-2 : tie.Need-same-length-2
-same-length-2 c = search rules
-
-returns-2 : tie.Need-returns-2
-returns-2 c =
-    let p = c.before.before.put-happy in
+    let p = c.put_happy in
     let q = c.before.before.before.before.before.before in
-    let a = q.before.before.before.before.before.args in
-    puts_then _ _ _ _ _ _ _ _ (puts_one _ _ _ _ _ q.put2.ensures) p.ensures
-    ∙ ap (puts a.out.now a.at) (verdict-accepted a.accepted a.set a.n q.before.before.before.if1.false)
+    let a = q.args in
+    puts_then _ _ _ _ _ _ _ _ (puts_one _ _ _ _ _ q.put-verdict.ensures) p.ensures
+    ∙ ap (puts a.out.now a.at) (verdict-accepted a.accepted a.set a.n q.if-not-accepted.false)
 
-pub put-verdict-spec : {M : Type 1} → statement M
-put-verdict-spec =
+pub put_verdict_spec : {M : Type 1} → statement M
+put_verdict_spec =
     tie.close
     (tie.spec
-    slice-aggregate-put
     put-requires
-    same_length
-    returns
-    slice-aggregate-put-2
-    put-requires-2
-    put-happy-requires
-    same-length-2
-    returns-2)
+    shape_of-out-then-not-accepted
+    returns-then-not-accepted
+    put-verdict-requires
+    put_happy-requires
+    shape_of-out
+    returns)

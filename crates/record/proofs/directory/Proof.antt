@@ -11,86 +11,86 @@ use Rattle.record.proofs.directory.Statement.{statement}
 use Rattle.record.proofs.directory.Tie as tie
 
 -- The sizes are legal.
-legal : (c : tie.After-number-bytes) → let a = c.before.before.before.args in sizes a.n a.t ≡ true
-legal c = sym c.before.before.sizes.ensures ∙ not-false _ c.before.if1.false
+legal : (c : tie.After-number_bytes-each) → let a = c.args in sizes a.n a.t ≡ true
+legal c = sym c.sizes.ensures ∙ c.if-not-sizes.false
 
 -- So the counts and the lengths are small.
-small : (c : tie.After-number-bytes) → let n : ℕ = c.before.before.before.args.n in
-    let t : ℕ = c.before.before.before.args.t in (2 * n * (t + 1) ≤ 128) × (2 * n * n ≤ 512) × (n ≤ 16)
+small : (c : tie.After-number_bytes-each) → let n : ℕ = c.args.n in
+    let t : ℕ = c.args.t in (2 * n * (t + 1) ≤ 128) × (2 * n * n ≤ 512) × (n ≤ 16)
 small c = counts-small _ _ (legal c)
 
-long : (c : tie.After-number-bytes) → let n : ℕ = c.before.before.before.args.n in
-    let t : ℕ = c.before.before.before.args.t in let each : ℕ = c.number-bytes.result in
+long : (c : tie.After-number_bytes-each) → let n : ℕ = c.args.n in
+    let t : ℕ = c.args.t in let each : ℕ = c.number_bytes-each.result in
     (each * (2 * n * (t + 1)) ≤ 512) × (each * (2 * n * n) ≤ 2048) × (each * n ≤ 64)
-long c = lengths-small _ _ (legal c) _ c.number-bytes.ensures.1
+long c = lengths-small _ _ (legal c) _ c.number_bytes-each.ensures.1
 
 sizes-requires : tie.Need-sizes-requires
 sizes-requires c κs = search rules
 
+returns-then-not-sizes : tie.Need-returns-then-not-sizes
+returns-then-not-sizes c = directory-zeros _ _ _ (sym c.sizes.ensures ∙ c.if-not-sizes.true)
+
+number_bytes-each-requires : tie.Need-number_bytes-each-requires
+number_bytes-each-requires c κs = search rules
+
+overflow_mul-deals : tie.Need-overflow_mul-deals
+overflow_mul-deals c = search rules
+
+overflow_add-deals : tie.Need-overflow_add-deals
+overflow_add-deals c = search rules
+
+overflow_mul-deals-2 : tie.Need-overflow_mul-deals-2
+overflow_mul-deals-2 c = omega (arith, small c)
+
+overflow_mul-deals-3 : tie.Need-overflow_mul-deals-3
+overflow_mul-deals-3 c = omega (arith, long c)
+
+overflow_mul-pairs : tie.Need-overflow_mul-pairs
+overflow_mul-pairs c = search rules
+
+overflow_mul-pairs-2 : tie.Need-overflow_mul-pairs-2
+overflow_mul-pairs-2 c = omega (arith, small c)
+
+overflow_mul-pairs-3 : tie.Need-overflow_mul-pairs-3
+overflow_mul-pairs-3 c = omega (arith, long c)
+
+overflow_mul-reports : tie.Need-overflow_mul-reports
+overflow_mul-reports c = search rules
+
+overflow_mul-shares : tie.Need-overflow_mul-shares
+overflow_mul-shares c = omega (arith, long c)
+
+overflow_add-second : tie.Need-overflow_add-second
+overflow_add-second c = omega (arith, long c)
+
+overflow_add-third : tie.Need-overflow_add-third
+overflow_add-third c = omega (arith, long c)
+
+overflow_add-fourth : tie.Need-overflow_add-fourth
+overflow_add-fourth c = omega (arith, long c, small c)
+
 returns : tie.Need-returns
-returns c = directory-zeros _ _ _ (sym c.before.sizes.ensures ∙ not-true _ c.if1.true)
+returns c =
+    let a = c.args in
+    directory-made a.w a.n a.t c.number_bytes-each.result c.number_bytes-each.ensures.0 ∙ sym (directory-legal _ _ _ (legal c))
 
-number-bytes-requires : tie.Need-number-bytes-requires
-number-bytes-requires c κs = search rules
-
-mul-deals : tie.Need-overflow-mul-deals
-mul-deals c = search rules
-
-add-deals : tie.Need-overflow-add-deals
-add-deals c = search rules
-
-mul-deals-2 : tie.Need-overflow-mul-deals-2
-mul-deals-2 c = omega (arith, small c)
-
-mul-deals-3 : tie.Need-overflow-mul-deals-3
-mul-deals-3 c = omega (arith, long c)
-
-mul-pairs : tie.Need-overflow-mul-pairs
-mul-pairs c = search rules
-
-mul-pairs-2 : tie.Need-overflow-mul-pairs-2
-mul-pairs-2 c = omega (arith, small c)
-
-mul-pairs-3 : tie.Need-overflow-mul-pairs-3
-mul-pairs-3 c = omega (arith, long c)
-
-mul-reports : tie.Need-overflow-mul-reports
-mul-reports c = search rules
-
-mul-shares : tie.Need-overflow-mul-shares
-mul-shares c = omega (arith, long c)
-
-add-second : tie.Need-overflow-add-second
-add-second c = omega (arith, long c)
-
-add-third : tie.Need-overflow-add-third
-add-third c = omega (arith, long c)
-
-add-fourth : tie.Need-overflow-add-fourth
-add-fourth c = omega (arith, long c, small c)
-
-returns-2 : tie.Need-returns-2
-returns-2 c =
-    let a = c.before.before.before.args in
-    directory-made a.w a.n a.t c.number-bytes.result c.number-bytes.ensures.0 ∙ sym (directory-legal _ _ _ (legal c))
-
-pub directory-spec : {M : Type 1} → statement M
-directory-spec =
+pub directory_spec : {M : Type 1} → statement M
+directory_spec =
     tie.close
     (tie.spec
     sizes-requires
-    returns
-    number-bytes-requires
-    mul-deals
-    add-deals
-    mul-deals-2
-    mul-deals-3
-    mul-pairs
-    mul-pairs-2
-    mul-pairs-3
-    mul-reports
-    mul-shares
-    add-second
-    add-third
-    add-fourth
-    returns-2)
+    returns-then-not-sizes
+    number_bytes-each-requires
+    overflow_mul-deals
+    overflow_add-deals
+    overflow_mul-deals-2
+    overflow_mul-deals-3
+    overflow_mul-pairs
+    overflow_mul-pairs-2
+    overflow_mul-pairs-3
+    overflow_mul-reports
+    overflow_mul-shares
+    overflow_add-second
+    overflow_add-third
+    overflow_add-fourth
+    returns)

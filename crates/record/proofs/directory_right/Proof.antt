@@ -11,63 +11,63 @@ use Rattle.record.proofs.directory_right.Statement.{statement}
 use Rattle.record.proofs.directory_right.Tie as tie
 
 -- The directory is that of legal sizes.
-whole : (c : tie.After-directory) → let a = c.before.before.args in c.directory.result ≡ directory a.w a.n a.t
-whole c = c.directory.ensures ∙ directory-legal _ _ _ c.before.before.requires
+whole : (c : tie.After-directory-numbers) → let a = c.args in c.directory-numbers.result ≡ directory a.w a.n a.t
+whole c = c.directory-numbers.ensures ∙ directory-legal _ _ _ c.requires
 
 -- Where the last section ends.
-ends : (c : tie.After-directory) → let a = c.before.before.args in
-    get_or c.directory.result 6 0 + get_or c.directory.result 7 0 ≡ section_start a.w a.n a.t 4
+ends : (c : tie.After-directory-numbers) → let a = c.args in
+    get_or c.directory-numbers.result 6 0 + get_or c.directory-numbers.result 7 0 ≡ section_start a.w a.n a.t 4
 ends c = directory-end _ _ _ _ (whole c)
 
-small : (c : tie.After-directory) → let a = c.before.before.args in section_start a.w a.n a.t 4 ≤ 2674
-small c = record-small _ _ c.before.before.requires c.before.before.args.w
+small : (c : tie.After-directory-numbers) → let a = c.args in section_start a.w a.n a.t 4 ≤ 2674
+small c = record-small _ _ c.requires c.args.w
 
-directory-requires : tie.Need-directory-requires
-directory-requires c κs = search rules
+directory-numbers-requires : tie.Need-directory-numbers-requires
+directory-numbers-requires c κs = search rules
 
-array-read-end : tie.Need-array-read-end
-array-read-end c = search rules
+bounds-numbers-6 : tie.Need-bounds-numbers-6
+bounds-numbers-6 c = search rules
 
-cast-end : tie.Need-overflow-cast-end
-cast-end c = search rules
+overflow_cast-end : tie.Need-overflow_cast-end
+overflow_cast-end c = search rules
 
-array-read-end-2 : tie.Need-array-read-end-2
-array-read-end-2 c = search rules
+bounds-numbers-7 : tie.Need-bounds-numbers-7
+bounds-numbers-7 c = search rules
 
-cast-end-2 : tie.Need-overflow-cast-end-2
-cast-end-2 c = search rules
+overflow_cast-end-2 : tie.Need-overflow_cast-end-2
+overflow_cast-end-2 c = search rules
 
-add-end : tie.Need-overflow-add-end
-add-end c = omega (arith, ends c, small c)
+overflow_add-end : tie.Need-overflow_add-end
+overflow_add-end c = omega (arith, ends c, small c)
 
-returns : tie.Need-returns
-returns c = directory-no _ _ _ _ (λ e. c.if1.true (e ∙ sym (ends c.before)))
+returns-then-bytes-end : tie.Need-returns-then-bytes-end
+returns-then-bytes-end c = directory-no _ _ _ _ (λ e. c.if-bytes-end.true (e ∙ sym (ends c.before)))
 
-slice-aggregate-stand-at : tie.Need-slice-aggregate-stand-at
-slice-aggregate-stand-at c = search rules
+slice_bounds-stand_at-end : tie.Need-slice_bounds-stand_at-end
+slice_bounds-stand_at-end c = search rules
 
-stand-at-requires : tie.Need-stand-at-requires
-stand-at-requires c κs =
+stand_at-requires : tie.Need-stand_at-requires
+stand_at-requires c κs =
     let d = c.before.before in
-    let a = d.before.before.args in
+    let a = d.args in
     omega (arith, ends d, record-head a.w a.n a.t, ap length (whole d), length-directory a.w a.n a.t)
 
-returns-2 : tie.Need-returns-2
-returns-2 c =
+returns : tie.Need-returns
+returns c =
     let d = c.before.before.before in
-    c.stand-at.ensures ∙ directory-by _ _ _ _ _ (whole d) (c.before.before.if1.false ∙ ends d)
+    c.stand_at.ensures ∙ directory-by _ _ _ _ _ (whole d) (c.if-bytes-end.false ∙ ends d)
 
-pub directory-right-spec : {M : Type 1} → statement M
-directory-right-spec =
+pub directory_right_spec : {M : Type 1} → statement M
+directory_right_spec =
     tie.close
     (tie.spec
-    directory-requires
-    array-read-end
-    cast-end
-    array-read-end-2
-    cast-end-2
-    add-end
-    returns
-    slice-aggregate-stand-at
-    stand-at-requires
-    returns-2)
+    directory-numbers-requires
+    bounds-numbers-6
+    overflow_cast-end
+    bounds-numbers-7
+    overflow_cast-end-2
+    overflow_add-end
+    returns-then-bytes-end
+    slice_bounds-stand_at-end
+    stand_at-requires
+    returns)

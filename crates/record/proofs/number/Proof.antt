@@ -9,19 +9,23 @@ use borrow.Author.Rules.{rules}
 use Rattle.record.proofs.number.Statement.{statement}
 use Rattle.record.proofs.number.Tie as tie
 
+returns-then-part-k : tie.Need-returns-then-part-k
+returns-then-part-k c =
+    let long = length-numbers Narrow c.args.part.now in
+    sym (get_or-eq_default (numbers _) 0 (omega (arith, long, c.if-part-k.true)))
+
+overflow_mul-k : tie.Need-overflow_mul-k
+overflow_mul-k c = search rules
+
+number_at-requires : tie.Need-number_at-requires
+number_at-requires c κs = search rules
+
 returns : tie.Need-returns
-returns c =
-    let long = length-numbers Narrow c.before.before.args.part.now in
-    sym (get_or-eq_default (numbers _) 0 (omega (arith, long, c.if1.true)))
+returns c = c.number_at.ensures ∙ sym (number-place _ _ (omega arith))
 
-mul-number-at : tie.Need-overflow-mul-number-at
-mul-number-at c = search rules
-
-number-at-requires : tie.Need-number-at-requires
-number-at-requires c κs = search rules
-
-returns-2 : tie.Need-returns-2
-returns-2 c = c.number_at.ensures ∙ sym (number-place _ _ (omega arith))
-
-pub number-spec : {M : Type 1} → statement M
-number-spec = tie.close (tie.spec returns mul-number-at number-at-requires returns-2)
+pub number_spec : {M : Type 1} → statement M
+number_spec = tie.close (tie.spec
+    returns-then-part-k
+    overflow_mul-k
+    number_at-requires
+    returns)

@@ -11,70 +11,70 @@ use Rattle.record.proofs.Loops.{Overing, over-start, over-next, over-end, over-s
 use Rattle.record.proofs.numbers.Statement.{statement}
 use Rattle.record.proofs.numbers.Tie as tie
 
-abbrev invariant-loop : tie.invariant-loop
-invariant-loop part out₀ i₀ out i = Overing (numbers part) out₀ out i
+abbrev invariant-loop-i : tie.invariant-loop-i
+invariant-loop-i part out₀ i₀ out i = Overing (numbers part) out₀ out i
 
-abbrev decreases-loop : tie.decreases-loop
-decreases-loop part out₀ i₀ out i = length out - i
+abbrev decreases-loop-i : tie.decreases-loop-i
+decreases-loop-i part out₀ i₀ out i = length out - i
 
-loop-holds : tie.Need-loop-init invariant-loop decreases-loop
-loop-holds c = over-start _ _
+loop-i-init : tie.Need-loop-i-init invariant-loop-i decreases-loop-i
+loop-i-init c = over-start _ _
 
-same_length : tie.Need-same-length invariant-loop decreases-loop
-same_length c = search rules
+shape_of-out-then-part-i : tie.Need-shape_of-out-then-part-i invariant-loop-i decreases-loop-i
+shape_of-out-then-part-i c = search rules
 
-returns : tie.Need-returns invariant-loop decreases-loop
-returns c =
+returns-then-part-i : tie.Need-returns-then-part-i invariant-loop-i decreases-loop-i
+returns-then-part-i c =
     let k = c.before.before in
-    let long = length-numbers Narrow k.before.before.before.args.part.now in
-    over-end _ _ k.loop.out k.loop.i k.loop.invariant (omega (arith, long))
+    let long = length-numbers Narrow k.args.part.now in
+    over-end _ _ k.loop-i.out k.loop-i.i k.loop-i.invariant (omega (arith, long))
 
-mul-number-at : tie.Need-overflow-mul-number-at invariant-loop decreases-loop
-mul-number-at c = search rules
+overflow_mul-i : tie.Need-overflow_mul-i invariant-loop-i decreases-loop-i
+overflow_mul-i c = search rules
 
-number-at-requires : tie.Need-number-at-requires invariant-loop decreases-loop
-number-at-requires c κs = search rules
+number_at-requires : tie.Need-number_at-requires invariant-loop-i decreases-loop-i
+number_at-requires c κs = search rules
 
-mul-out : tie.Need-overflow-mul-out invariant-loop decreases-loop
-mul-out c = search rules
+offset_bounds-out-i : tie.Need-offset_bounds-out-i invariant-loop-i decreases-loop-i
+offset_bounds-out-i c = search rules
 
-slice-write-out : tie.Need-slice-write-out invariant-loop decreases-loop
-slice-write-out c = search rules
+bounds-out-i : tie.Need-bounds-out-i invariant-loop-i decreases-loop-i
+bounds-out-i c = search rules
 
-add-i : tie.Need-overflow-add-i invariant-loop decreases-loop
-add-i c = search rules
+overflow_add-i : tie.Need-overflow_add-i invariant-loop-i decreases-loop-i
+overflow_add-i c = search rules
 
-loop-less : tie.Need-loop-smaller invariant-loop decreases-loop
-loop-less c = simp length-set (omega arith)
+loop-i-smaller : tie.Need-loop-i-smaller invariant-loop-i decreases-loop-i
+loop-i-smaller c = simp length-set (omega arith)
 
-loop-again : tie.Need-loop-preserved invariant-loop decreases-loop
-loop-again c =
+loop-i-preserved : tie.Need-loop-i-preserved invariant-loop-i decreases-loop-i
+loop-i-preserved c =
     let k = c.before.before.before in
-    let long = length-numbers Narrow k.before.before.before.args.part.now in
-    over-next _ _ k.loop.out k.loop.i k.loop.invariant _ (omega (arith, long)) (omega arith)
+    let long = length-numbers Narrow k.args.part.now in
+    over-next _ _ k.loop-i.out k.loop-i.i k.loop-i.invariant _ (omega (arith, long)) (omega arith)
     (c.number_at.ensures ∙ sym (number-place _ _ (omega arith)))
 
-same-length-2 : tie.Need-same-length-2 invariant-loop decreases-loop
-same-length-2 c = search rules
+shape_of-out : tie.Need-shape_of-out invariant-loop-i decreases-loop-i
+shape_of-out c = search rules
 
-returns-2 : tie.Need-returns-2 invariant-loop decreases-loop
-returns-2 c = let k = c.before.loop in over-stop _ _ k.out k.i k.invariant (omega arith)
+returns : tie.Need-returns invariant-loop-i decreases-loop-i
+returns c = let k = c.loop-i in over-stop _ _ k.out k.i k.invariant (omega arith)
 
-pub numbers-spec : {M : Type 1} → statement M
-numbers-spec =
+pub numbers_spec : {M : Type 1} → statement M
+numbers_spec =
     tie.close
     (tie.spec
-    invariant-loop
-    decreases-loop
-    loop-holds
-    same_length
-    returns
-    mul-number-at
-    number-at-requires
-    mul-out
-    slice-write-out
-    add-i
-    loop-less
-    loop-again
-    same-length-2
-    returns-2)
+    invariant-loop-i
+    decreases-loop-i
+    loop-i-init
+    shape_of-out-then-part-i
+    returns-then-part-i
+    overflow_mul-i
+    number_at-requires
+    offset_bounds-out-i
+    bounds-out-i
+    overflow_add-i
+    loop-i-smaller
+    loop-i-preserved
+    shape_of-out
+    returns)

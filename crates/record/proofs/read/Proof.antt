@@ -6,39 +6,39 @@ use borrow.Author.Rules.{rules}
 use Rattle.record.proofs.read.Statement.{statement}
 use Rattle.record.proofs.read.Tie as tie
 
+returns-then-bytes-lt2 : tie.Need-returns-then-bytes-lt2
+returns-then-bytes-lt2 c = sym (reading-short _ c.if-bytes-lt2.true)
+
+bounds-bytes-0 : tie.Need-bounds-bytes-0
+bounds-bytes-0 c = search rules
+
+bounds-bytes-1 : tie.Need-bounds-bytes-1
+bounds-bytes-1 c = search rules
+
+read_as-requires : tie.Need-read_as-requires
+read_as-requires c κs = search rules
+
+returns-then-first-lt128 : tie.Need-returns-then-first-lt128
+returns-then-first-lt128 c =
+    let bytes = c.args.bytes.now in
+    c.read_as.ensures ∙ read-as-narrow bytes c.if-first-lt128.true
+
+read_as-requires-2 : tie.Need-read_as-requires-2
+read_as-requires-2 c κs = search rules
+
 returns : tie.Need-returns
-returns c = sym (reading-short _ c.if1.true)
-
-shared-slice-read-first : tie.Need-shared-slice-read-first
-shared-slice-read-first c = search rules
-
-shared-slice-read-t : tie.Need-shared-slice-read-t
-shared-slice-read-t c = search rules
-
-read-as-requires : tie.Need-read-as-requires
-read-as-requires c κs = search rules
-
-returns-2 : tie.Need-returns-2
-returns-2 c =
-    let bytes = c.before.before.before.before.before.before.args.bytes.now in
-    c.read_as.ensures ∙ read-as-narrow bytes c.before.if2.true
-
-read-as-requires-2 : tie.Need-read-as-requires-2
-read-as-requires-2 c κs = search rules
-
-returns-3 : tie.Need-returns-3
-returns-3 c =
-    let bytes = c.before.before.before.before.before.before.args.bytes.now in
-    c.read-as2.ensures ∙ read-as-wide bytes c.before.if2.false
+returns c =
+    let bytes = c.args.bytes.now in
+    c.read_as-2.ensures ∙ read-as-wide bytes c.if-first-lt128.false
 
 pub read_spec : {M : Type 1} → statement M
 read_spec =
     tie.close
     (tie.spec
-    returns
-    shared-slice-read-first
-    shared-slice-read-t
-    read-as-requires
-    returns-2
-    read-as-requires-2
-    returns-3)
+    returns-then-bytes-lt2
+    bounds-bytes-0
+    bounds-bytes-1
+    read_as-requires
+    returns-then-first-lt128
+    read_as-requires-2
+    returns)

@@ -9,30 +9,35 @@ use Rattle.record.proofs.read_as.Statement.{statement}
 use Rattle.record.proofs.read_as.Tie as tie
 
 -- The sizes have passed.
-passed : (c : tie.Else1) → let a = c.before.before.before.args in sizes a.n a.t ≡ true
-passed c = sym c.before.sizes.ensures ∙ not-false _ c.if1.false
+passed : (c : tie.Else-not-sizes) → let a = c.args in sizes a.n a.t ≡ true
+passed c = sym c.sizes.ensures ∙ c.if-not-sizes.false
 
 sizes-requires : tie.Need-sizes-requires
 sizes-requires c κs = search rules
 
+returns-then-not-sizes : tie.Need-returns-then-not-sizes
+returns-then-not-sizes c = sym (as-size _ _ _ _ c.requires (sym c.sizes.ensures ∙ c.if-not-sizes.true))
+
+directory_right-requires : tie.Need-directory_right-requires
+directory_right-requires c κs = passed c
+
+returns-then-not-directory_right : tie.Need-returns-then-not-directory_right
+returns-then-not-directory_right c =
+    let s = c.before.before in
+    let d = c.directory_right in
+    sym (as-wrong _ _ _ _ s.requires (passed s) (sym d.ensures ∙ c.if-not-directory_right.true))
+
 returns : tie.Need-returns
-returns c = sym (as-size _ _ _ _ c.before.before.before.requires (sym c.before.sizes.ensures ∙ not-true _ c.if1.true))
-
-directory-right-requires : tie.Need-directory-right-requires
-directory-right-requires c κs = passed c
-
-returns-2 : tie.Need-returns-2
-returns-2 c =
+returns c =
     let s = c.before.before in
-    let d = c.before.directory-right in
-    sym (as-wrong _ _ _ _ s.before.before.before.requires (passed s) (sym d.ensures ∙ not-true _ c.if2.true))
+    let d = c.directory_right in
+    sym (as-fine _ _ _ _ s.requires (passed s) (sym d.ensures ∙ c.if-not-directory_right.false))
 
-returns-3 : tie.Need-returns-3
-returns-3 c =
-    let s = c.before.before in
-    let d = c.before.directory-right in
-    sym (as-fine _ _ _ _ s.before.before.before.requires (passed s) (sym d.ensures ∙ not-false _ c.if2.false))
-
-pub read-as-spec : {M : Type 1} → statement M
-read-as-spec =
-    tie.close (tie.spec sizes-requires returns directory-right-requires returns-2 returns-3)
+pub read_as_spec : {M : Type 1} → statement M
+read_as_spec =
+    tie.close (tie.spec
+    sizes-requires
+    returns-then-not-sizes
+    directory_right-requires
+    returns-then-not-directory_right
+    returns)

@@ -6,29 +6,29 @@ use borrow.Author.Rules.{rules}
 use Rattle.record.proofs.read_narrow.Statement.{statement}
 use Rattle.record.proofs.read_narrow.Tie as tie
 
+returns-then-bytes-lt2 : tie.Need-returns-then-bytes-lt2
+unfolding reading_narrow
+returns-then-bytes-lt2 c = sym (as_short _ _ _ _ c.if-bytes-lt2.true)
+
+bounds-bytes-0 : tie.Need-bounds-bytes-0
+bounds-bytes-0 c = search rules
+
+bounds-bytes-1 : tie.Need-bounds-bytes-1
+bounds-bytes-1 c = search rules
+
+read_as-requires : tie.Need-read_as-requires
+read_as-requires c κs = search rules
+
 returns : tie.Need-returns
 unfolding reading_narrow
-returns c = sym (as_short _ _ _ _ c.if1.true)
+returns c = c.read_as.ensures
 
-shared-slice-read-read-as : tie.Need-shared-slice-read-read-as
-shared-slice-read-read-as c = search rules
-
-shared-slice-read-read-as-2 : tie.Need-shared-slice-read-read-as-2
-shared-slice-read-read-as-2 c = search rules
-
-read-as-requires : tie.Need-read-as-requires
-read-as-requires c κs = search rules
-
-returns-2 : tie.Need-returns-2
-unfolding reading_narrow
-returns-2 c = c.read_as.ensures
-
-pub read-narrow-spec : {M : Type 1} → statement M
-read-narrow-spec =
+pub read_narrow_spec : {M : Type 1} → statement M
+read_narrow_spec =
     tie.close
     (tie.spec
-    returns
-    shared-slice-read-read-as
-    shared-slice-read-read-as-2
-    read-as-requires
-    returns-2)
+    returns-then-bytes-lt2
+    bounds-bytes-0
+    bounds-bytes-1
+    read_as-requires
+    returns)

@@ -8,59 +8,59 @@ use Rattle.record.proofs.Loops.{Standing, stand-start, stand-next, stand-no, sta
 use Rattle.record.proofs.stand_at.Statement.{statement}
 use Rattle.record.proofs.stand_at.Tie as tie
 
-abbrev invariant-loop : tie.invariant-loop
-invariant-loop bytes at list i₀ place₀ i place = Standing bytes at list i place
+abbrev invariant-loop-i : tie.invariant-loop-i
+invariant-loop-i bytes at list i₀ place₀ i place = Standing bytes at list i place
 
-abbrev decreases-loop : tie.decreases-loop
-decreases-loop bytes at list i₀ place₀ i place = length list - i
+abbrev decreases-loop-i : tie.decreases-loop-i
+decreases-loop-i bytes at list i₀ place₀ i place = length list - i
 
-loop-holds : tie.Need-loop-init invariant-loop decreases-loop
-loop-holds c = stand-start _ _ _
+loop-i-init : tie.Need-loop-i-init invariant-loop-i decreases-loop-i
+loop-i-init c = stand-start _ _ _
 
-number-at-requires : tie.Need-number-at-requires invariant-loop decreases-loop
-number-at-requires c κs = omega arith
+number_at-requires : tie.Need-number_at-requires invariant-loop-i decreases-loop-i
+number_at-requires c κs = omega arith
 
-mul-if1 : tie.Need-overflow-mul-if1 invariant-loop decreases-loop
-mul-if1 c = search rules
+offset_bounds-list-i : tie.Need-offset_bounds-list-i invariant-loop-i decreases-loop-i
+offset_bounds-list-i c = search rules
 
-shared-slice-read-if1 : tie.Need-shared-slice-read-if1 invariant-loop decreases-loop
-shared-slice-read-if1 c = search rules
+bounds-list-i : tie.Need-bounds-list-i invariant-loop-i decreases-loop-i
+bounds-list-i c = search rules
 
-returns : tie.Need-returns invariant-loop decreases-loop
-returns c =
-    let k = c.before.before.before.before.loop in
-    stand-no _ _ _ k.i k.place k.invariant (omega arith) (λ e. c.if1.true (c.before.before.number_at.ensures ∙ e))
+returns-then-number_at-list : tie.Need-returns-then-number_at-list invariant-loop-i decreases-loop-i
+returns-then-number_at-list c =
+    let k = c.loop-i in
+    stand-no _ _ _ k.i k.place k.invariant (omega arith) (λ e. c.if-number_at-list.true (c.number_at.ensures ∙ e))
 
-add-place : tie.Need-overflow-add-place invariant-loop decreases-loop
-add-place c = search rules
+overflow_add-place : tie.Need-overflow_add-place invariant-loop-i decreases-loop-i
+overflow_add-place c = search rules
 
-add-i : tie.Need-overflow-add-i invariant-loop decreases-loop
-add-i c = search rules
+overflow_add-i : tie.Need-overflow_add-i invariant-loop-i decreases-loop-i
+overflow_add-i c = search rules
 
-loop-less : tie.Need-loop-smaller invariant-loop decreases-loop
-loop-less c = search rules
+loop-i-smaller : tie.Need-loop-i-smaller invariant-loop-i decreases-loop-i
+loop-i-smaller c = search rules
 
-loop-again : tie.Need-loop-preserved invariant-loop decreases-loop
-loop-again c =
-    let k = c.before.before.before.before.loop in
-    stand-next _ _ _ k.i k.place k.invariant (omega arith) (sym c.before.before.number_at.ensures ∙ c.if1.false)
+loop-i-preserved : tie.Need-loop-i-preserved invariant-loop-i decreases-loop-i
+loop-i-preserved c =
+    let k = c.loop-i in
+    stand-next _ _ _ k.i k.place k.invariant (omega arith) (sym c.number_at.ensures ∙ c.if-number_at-list.false)
 
-returns-2 : tie.Need-returns-2 invariant-loop decreases-loop
-returns-2 c = let k = c.before.loop in stand-end _ _ _ k.i k.place k.invariant (omega arith)
+returns : tie.Need-returns invariant-loop-i decreases-loop-i
+returns c = let k = c.loop-i in stand-end _ _ _ k.i k.place k.invariant (omega arith)
 
-pub stand-at-spec : {M : Type 1} → statement M
-stand-at-spec =
+pub stand_at_spec : {M : Type 1} → statement M
+stand_at_spec =
     tie.close
     (tie.spec
-    invariant-loop
-    decreases-loop
-    loop-holds
-    number-at-requires
-    mul-if1
-    shared-slice-read-if1
-    returns
-    add-place
-    add-i
-    loop-less
-    loop-again
-    returns-2)
+    invariant-loop-i
+    decreases-loop-i
+    loop-i-init
+    number_at-requires
+    offset_bounds-list-i
+    bounds-list-i
+    returns-then-number_at-list
+    overflow_add-place
+    overflow_add-i
+    loop-i-smaller
+    loop-i-preserved
+    returns)

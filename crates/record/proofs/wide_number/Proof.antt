@@ -9,19 +9,23 @@ use borrow.Author.Rules.{rules}
 use Rattle.record.proofs.wide_number.Statement.{statement}
 use Rattle.record.proofs.wide_number.Tie as tie
 
+returns-then-part-k : tie.Need-returns-then-part-k
+returns-then-part-k c =
+    let long = length-numbers Wide c.args.part.now in
+    sym (get_or-eq_default (wide_numbers _) 0 (omega (arith, long, c.if-part-k.true)))
+
+overflow_mul-k : tie.Need-overflow_mul-k
+overflow_mul-k c = search rules
+
+wide_number_at-requires : tie.Need-wide_number_at-requires
+wide_number_at-requires c κs = search rules
+
 returns : tie.Need-returns
-returns c =
-    let long = length-numbers Wide c.before.before.args.part.now in
-    sym (get_or-eq_default (wide_numbers _) 0 (omega (arith, long, c.if1.true)))
+returns c = c.wide_number_at.ensures ∙ sym (wide-number-place _ _ (omega arith))
 
-mul-wide-number-at : tie.Need-overflow-mul-wide-number-at
-mul-wide-number-at c = search rules
-
-wide-number-at-requires : tie.Need-wide-number-at-requires
-wide-number-at-requires c κs = search rules
-
-returns-2 : tie.Need-returns-2
-returns-2 c = c.wide-number-at.ensures ∙ sym (wide-number-place _ _ (omega arith))
-
-pub wide-number-spec : {M : Type 1} → statement M
-wide-number-spec = tie.close (tie.spec returns mul-wide-number-at wide-number-at-requires returns-2)
+pub wide_number_spec : {M : Type 1} → statement M
+wide_number_spec = tie.close (tie.spec
+    returns-then-part-k
+    overflow_mul-k
+    wide_number_at-requires
+    returns)
