@@ -12,41 +12,41 @@ use borrow.Author.Rules.{rules}
 use Rattle.dealer.proofs.deal_wide.Statement.{statement}
 use Rattle.dealer.proofs.deal_wide.Tie as tie
 
-returns : tie.Need-returns
-returns c =
-    let a = c.before.before.before.args in
+returns-then-n-gt16 : tie.Need-returns-then-n-gt16
+returns-then-n-gt16 c =
+    let a = c.args in
     desk-by-many wide_modulus a.n a.t (one_to a.n) _ _ (omega arith)
 
-sixteen-requires : tie.Need-sixteen-requires
-sixteen-requires c κs = search rules
+sixteen-points-requires : tie.Need-sixteen-points-requires
+sixteen-points-requires c κs = search rules
 
-array-share-prefix-points : tie.Need-array-share-prefix-points
-array-share-prefix-points c = search rules
+slice_bounds-points-end : tie.Need-slice_bounds-points-end
+slice_bounds-points-end c = search rules
 
-slice-aggregate-deal-wide-with : tie.Need-slice-aggregate-deal-wide-with
-slice-aggregate-deal-wide-with c = sym (length-take-le _ _ (search rules))
+slice_bounds-deal_wide_with-end : tie.Need-slice_bounds-deal_wide_with-end
+slice_bounds-deal_wide_with-end c = sym (length-take-le _ _ (search rules))
 
-deal-wide-with-requires : tie.Need-deal-wide-with-requires
-deal-wide-with-requires c κs = search rules
+deal_wide_with-requires : tie.Need-deal_wide_with-requires
+deal_wide_with-requires c κs = search rules
 
-same_length : tie.Need-same-length
-same_length c = search rules
+shape_of-out : tie.Need-shape_of-out
+shape_of-out c = search rules
 
-returns-2 : tie.Need-returns-2
-returns-2 c =
-    let a = c.before.before.before.before.before.before.before.before.before.args in
-    c.before.before.deal-wide-with.ensures
+returns : tie.Need-returns
+returns c =
+    let a = c.args in
+    c.deal_wide_with.ensures
     ∙ ap (λ T. desk_with wide_modulus a.n a.t T a.list.now a.out.now)
-    (ap (take a.n) c.before.before.before.before.before.sixteen.ensures ∙ sixteen-front a.n (omega arith))
+    (ap (take a.n) c.sixteen-points.ensures ∙ sixteen-front a.n (omega arith))
 
-pub deal-wide-spec : {M : Type 1} → statement M
-deal-wide-spec =
+pub deal_wide_spec : {M : Type 1} → statement M
+deal_wide_spec =
     tie.close
     (tie.spec
-    returns
-    sixteen-requires
-    array-share-prefix-points
-    slice-aggregate-deal-wide-with
-    deal-wide-with-requires
-    same_length
-    returns-2)
+    returns-then-n-gt16
+    sixteen-points-requires
+    slice_bounds-points-end
+    slice_bounds-deal_wide_with-end
+    deal_wide_with-requires
+    shape_of-out
+    returns)

@@ -10,72 +10,72 @@ use borrow.Author.Rules.{rules}
 use Rattle.dealer.proofs.deal_wide_with.Statement.{statement}
 use Rattle.dealer.proofs.deal_wide_with.Tie as tie
 
-length-admission-requires : tie.Need-length-admission-requires
-length-admission-requires c κs = search rules
+length_admission-measured-requires : tie.Need-length_admission-measured-requires
+length_admission-measured-requires c κs = search rules
 
-enum-known-measured : tie.Need-enum-known-measured
-enum-known-measured c = search rules
+enum_known-measured : tie.Need-enum_known-measured
+enum_known-measured c = search rules
 
-enum_told : tie.Need-enum-told
-enum_told c = search rules
+enum_told-1 : tie.Need-enum_told-1
+enum_told-1 c = search rules
 
 -- The lengths are right.
-fits : (c : tie.After-enum-told) → let a = c.before.before.before.before.before.before.args in
+fits : (c : tie.In-Pass) → let a = c.args in
     lowest (length_tests a.n a.t (length a.list.now) (length a.out.now) (length a.table.now)) ≡ Pass
-fits c = sym c.before.before.length-admission.ensures ∙ c.enum_told.given.1
+fits c = sym c.length_admission-measured.ensures ∙ c.in-Pass.is
 
-content-admission-requires : tie.Need-content-admission-requires
-content-admission-requires c κs = search rules
+content_admission-admitted-requires : tie.Need-content_admission-admitted-requires
+content_admission-admitted-requires c κs = search rules
 
-enum-known-admitted : tie.Need-enum-known-admitted
-enum-known-admitted c = search rules
+enum_known-admitted : tie.Need-enum_known-admitted
+enum_known-admitted c = search rules
 
-enum-told-2 : tie.Need-enum-told-2
-enum-told-2 c = search rules
+enum_told-in-Pass-admitted : tie.Need-enum_told-in-Pass-admitted
+enum_told-in-Pass-admitted c = search rules
 
-add-write-wide-deals : tie.Need-overflow-add-write-wide-deals
-add-write-wide-deals c = search rules
+overflow_add-t : tie.Need-overflow_add-t
+overflow_add-t c = search rules
 
-write-wide-deals-requires : tie.Need-write-wide-deals-requires
-write-wide-deals-requires c κs =
-    let v = c.before.before.before in
-    let a = v.before.before.before.before.before.before.before.args in
-    to_write wide_modulus a.n a.t a.table.now a.list.now _ (fits v.before)
-    (sym v.content-admission.ensures ∙ c.before.enum-told2.given.1)
+write_wide_deals-requires : tie.Need-write_wide_deals-requires
+write_wide_deals-requires c κs =
+    let v = c.before.before in
+    let a = v.args in
+    to_write wide_modulus a.n a.t a.table.now a.list.now _ (fits c.before.before.before)
+    (sym v.content_admission-admitted.ensures ∙ c.in-Pass-admitted.is)
 
-returns : tie.Need-returns
-returns c =
-    let v = c.before.before.before in
-    desk-by-lengths wide_modulus _ _ _ _ _ _ (sym v.length-admission.ensures ∙ c.before.decreases.given.1)
+returns-in-Fail : tie.Need-returns-in-Fail
+returns-in-Fail c =
+    let v = c.before in
+    desk-by-lengths wide_modulus _ _ _ _ _ _ (sym v.length_admission-measured.ensures ∙ c.in-Fail.is)
 
-returns-2 : tie.Need-returns-2
-returns-2 c =
-    let v = c.before.before.before in
-    desk-by-bad-content wide_modulus _ _ _ _ _ (fits v.before) _ (sym v.content-admission.ensures ∙ c.before.admitted.given.1)
+returns-in-Fail-admitted : tie.Need-returns-in-Fail-admitted
+returns-in-Fail-admitted c =
+    let v = c.before in
+    desk-by-bad-content wide_modulus _ _ _ _ _ (fits c.before.before) _ (sym v.content_admission-admitted.ensures ∙ c.in-Fail-admitted.is)
 
-same_length : tie.Need-same-length
-same_length c = search rules
+shape_of-out : tie.Need-shape_of-out
+shape_of-out c = search rules
 
-returns-3 : tie.Need-returns-3
-returns-3 c =
+returns-in-Pass-admitted : tie.Need-returns-in-Pass-admitted
+returns-in-Pass-admitted c =
     let told = c.before.before.before.before in
-    let v = told.before.before in
-    desk-by-content wide_modulus _ _ _ _ _ (fits v.before) _ (sym v.content-admission.ensures ∙ told.enum-told2.given.1)
-    c.before.before.write-wide-deals.ensures
+    let v = told.before in
+    desk-by-content wide_modulus _ _ _ _ _ (fits c.before.before.before.before.before.before) _ (sym v.content_admission-admitted.ensures ∙ told.in-Pass-admitted.is)
+    c.write_wide_deals.ensures
 
-pub deal-wide-with-spec : {M : Type 1} → statement M
-deal-wide-with-spec =
+pub deal_wide_with_spec : {M : Type 1} → statement M
+deal_wide_with_spec =
     tie.close
     (tie.spec
-    length-admission-requires
-    enum-known-measured
-    enum_told
-    content-admission-requires
-    enum-known-admitted
-    enum-told-2
-    add-write-wide-deals
-    write-wide-deals-requires
-    returns
-    returns-2
-    same_length
-    returns-3)
+    length_admission-measured-requires
+    enum_known-measured
+    enum_told-1
+    content_admission-admitted-requires
+    enum_known-admitted
+    enum_told-in-Pass-admitted
+    overflow_add-t
+    write_wide_deals-requires
+    returns-in-Fail
+    returns-in-Fail-admitted
+    shape_of-out
+    returns-in-Pass-admitted)

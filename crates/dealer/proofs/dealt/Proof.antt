@@ -6,51 +6,51 @@ use borrow.Author.Rules.{rules}
 use Rattle.dealer.proofs.dealt.Statement.{statement}
 use Rattle.dealer.proofs.dealt.Tie as tie
 
-content-admission-requires : tie.Need-content-admission-requires
-content-admission-requires c κs = search rules
+content_admission-admitted-requires : tie.Need-content_admission-admitted-requires
+content_admission-admitted-requires c κs = search rules
 
-enum-known-admitted : tie.Need-enum-known-admitted
-enum-known-admitted c = search rules
+enum_known-admitted : tie.Need-enum_known-admitted
+enum_known-admitted c = search rules
 
-enum_told : tie.Need-enum-told
-enum_told c = search rules
+enum_told-1 : tie.Need-enum_told-1
+enum_told-1 c = search rules
 
-add-write-narrow-deals : tie.Need-overflow-add-write-narrow-deals
-add-write-narrow-deals c = search rules
+overflow_add-t : tie.Need-overflow_add-t
+overflow_add-t c = search rules
 
-write-narrow-deals-requires : tie.Need-write-narrow-deals-requires
-write-narrow-deals-requires c κs =
-    let v = c.before.before.before in
+write_narrow_deals-requires : tie.Need-write_narrow_deals-requires
+write_narrow_deals-requires c κs =
+    let v = c.before.before in
     let s = v.before.before.before.before in
     to_write modulus s.args.n s.args.t s.args.table.now s.args.list.now _ s.requires
-    (sym v.content-admission.ensures ∙ c.before.enum_told.given.1)
+    (sym v.content_admission-admitted.ensures ∙ c.in-Pass.is)
 
-returns : tie.Need-returns
-returns c =
-    let v = c.before.before.before in
-    desk-by-bad-content modulus _ _ _ _ _ v.before.before.before.before.requires _
-    (sym v.content-admission.ensures ∙ c.before.admitted.given.1)
+returns-in-Fail : tie.Need-returns-in-Fail
+returns-in-Fail c =
+    let v = c.before in
+    desk-by-bad-content modulus _ _ _ _ _ v.requires _
+    (sym v.content_admission-admitted.ensures ∙ c.in-Fail.is)
 
-same_length : tie.Need-same-length
-same_length c = search rules
+shape_of-out : tie.Need-shape_of-out
+shape_of-out c = search rules
 
-returns-2 : tie.Need-returns-2
-returns-2 c =
+returns-in-Pass : tie.Need-returns-in-Pass
+returns-in-Pass c =
     let told = c.before.before.before.before in
-    let v = told.before.before in
-    desk-by-content modulus _ _ _ _ _ v.before.before.before.before.requires _
-    (sym v.content-admission.ensures ∙ told.enum_told.given.1)
-    c.before.before.write-narrow-deals.ensures
+    let v = told.before in
+    desk-by-content modulus _ _ _ _ _ v.requires _
+    (sym v.content_admission-admitted.ensures ∙ told.in-Pass.is)
+    c.write_narrow_deals.ensures
 
-pub dealt-spec : {M : Type 1} → statement M
-dealt-spec =
+pub dealt_spec : {M : Type 1} → statement M
+dealt_spec =
     tie.close
     (tie.spec
-    content-admission-requires
-    enum-known-admitted
-    enum_told
-    add-write-narrow-deals
-    write-narrow-deals-requires
-    returns
-    same_length
-    returns-2)
+    content_admission-admitted-requires
+    enum_known-admitted
+    enum_told-1
+    overflow_add-t
+    write_narrow_deals-requires
+    returns-in-Fail
+    shape_of-out
+    returns-in-Pass)

@@ -8,18 +8,21 @@ use borrow.Author.Rules.{rules}
 use Rattle.dealer.proofs.length_admission.Statement.{statement}
 use Rattle.dealer.proofs.length_admission.Tie as tie
 
-size-admission-requires : tie.Need-size-admission-requires
-size-admission-requires c κs = search rules
+size_admission-measured-requires : tie.Need-size_admission-measured-requires
+size_admission-measured-requires c κs = search rules
 
 also-requires : tie.Need-also-requires
 also-requires c κs = search rules
 
 returns : tie.Need-returns
 returns c =
-    let a = c.before.before.args in
+    let a = c.args in
     c.also.ensures
-    ∙ ap (λ o. also o (eqb a.points a.n) WrongLength) c.before.size-admission.ensures
+    ∙ ap (λ o. also o (eqb a.points a.n) WrongLength) c.size_admission-measured.ensures
     ∙ sym (also-length a.n a.t a.size a.room a.points)
 
-pub length-admission-spec : {M : Type 1} → statement M
-length-admission-spec = tie.close (tie.spec size-admission-requires also-requires returns)
+pub length_admission_spec : {M : Type 1} → statement M
+length_admission_spec = tie.close (tie.spec
+    size_admission-measured-requires
+    also-requires
+    returns)

@@ -12,23 +12,23 @@ use borrow.Author.Rules.{rules}
 use Rattle.dealer.proofs.write_deal.Statement.{statement}
 use Rattle.dealer.proofs.write_deal.Tie as tie
 
-point-at-requires : tie.Need-point-at-requires
-point-at-requires c κs = search rules
+point_at-point-requires : tie.Need-point_at-point-requires
+point_at-point-requires c κs = search rules
 
-slice-relend-prefix-row : tie.Need-slice-relend-prefix-row
-slice-relend-prefix-row c = search rules
+slice_bounds-row-end : tie.Need-slice_bounds-row-end
+slice_bounds-row-end c = search rules
 
-slice-aggregate-row : tie.Need-slice-aggregate-row
-slice-aggregate-row c = sym (length-take-le _ _ (omega arith))
+slice_bounds-row-end-2 : tie.Need-slice_bounds-row-end-2
+slice_bounds-row-end-2 c = sym (length-take-le _ _ (omega arith))
 
 -- The point is a residue, as the coefficients are.
-point : (c : tie.After-point-at) → let s = c.before.before.before.before in
-    Residues (prime_of s.args.w) s.args.list.now × (c.point_at.result < prime_of s.args.w)
+point : (c : tie.After-point_at-point) → let s = c.before.before.before.before in
+    Residues (prime_of s.args.w) s.args.list.now × (c.point_at-point.result < prime_of s.args.w)
 point c =
     let s = c.before.before.before.before in
     let p = prime_of s.args.w in (
       s.requires.1.1,
-      subst (λ x. x < p) (sym c.point_at.ensures)
+      subst (λ x. x < p) (sym c.point_at-point.ensures)
           (point-below p s.args.table.now s.args.i (positive s.args.w) s.requires.1.0),
     )
 
@@ -38,29 +38,29 @@ row-requires c κs =
     let q = point c.before in
     (q.0, q.1, omega (arith, s.requires.0.0, length-take-le s.args.terms s.args.out.now (omega (arith, s.requires.0.2))))
 
-mul-column : tie.Need-overflow-mul-column
-mul-column c = search rules
+offset_bounds-out-terms : tie.Need-offset_bounds-out-terms
+offset_bounds-out-terms c = search rules
 
-sub-column : tie.Need-overflow-sub-column
-sub-column c = search rules
+slice_bounds-column-count : tie.Need-slice_bounds-column-count
+slice_bounds-column-count c = search rules
 
-part-column-start : tie.Need-slice-bounds-column-start
-part-column-start c = search rules
+slice_bounds-column-start : tie.Need-slice_bounds-column-start
+slice_bounds-column-start c = search rules
 
-part-column-end : tie.Need-slice-bounds-column-end
-part-column-end c = search rules
+slice_bounds-column-end : tie.Need-slice_bounds-column-end
+slice_bounds-column-end c = search rules
 
 column-requires : tie.Need-column-requires
 column-requires c κs =
     let r = c.before.before.before in
     let s = r.before.before.before.before.before.before in
     let a = s.args in
-    let q = point r.before.before in
+    let q = point c.before.before.before.before.before in
     let room = column-room _ a.terms a.table.now a.list.now _ a.out.now _ s.requires.0.1 s.requires.0.2 r.row.ensures in
     (q.0, q.1, omega (arith, s.requires.0.0, room))
 
-same_length : tie.Need-same-length
-same_length c = search rules
+shape_of-out : tie.Need-shape_of-out
+shape_of-out c = search rules
 
 returns : tie.Need-returns
 returns c =
@@ -68,21 +68,21 @@ returns c =
     let s = r.before.before.before.before.before.before in
     let a = s.args in
     both-written _ a.terms a.table.now a.list.now _ a.out.now _ s.requires.0.1 s.requires.0.2 r.row.ensures a.i _
-    r.before.before.point_at.ensures
-    c.before.before.column.ensures
+    r.point_at-point.ensures
+    c.column.ensures
 
-pub write-deal-spec : {M : Type 1} → statement M
-write-deal-spec =
+pub write_deal_spec : {M : Type 1} → statement M
+write_deal_spec =
     tie.close
     (tie.spec
-    point-at-requires
-    slice-relend-prefix-row
-    slice-aggregate-row
+    point_at-point-requires
+    slice_bounds-row-end
+    slice_bounds-row-end-2
     row-requires
-    mul-column
-    sub-column
-    part-column-start
-    part-column-end
+    offset_bounds-out-terms
+    slice_bounds-column-count
+    slice_bounds-column-start
+    slice_bounds-column-end
     column-requires
-    same_length
+    shape_of-out
     returns)

@@ -10,61 +10,61 @@ use borrow.Author.Rules.{rules}
 use Rattle.dealer.proofs.write_narrow_deal.Statement.{statement}
 use Rattle.dealer.proofs.write_narrow_deal.Tie as tie
 
-mul-deal : tie.Need-overflow-mul-deal
-mul-deal c = search rules
+overflow_mul-deal : tie.Need-overflow_mul-deal
+overflow_mul-deal c = search rules
 
-array-borrow-prefix-deal : tie.Need-array-borrow-prefix-deal
-array-borrow-prefix-deal c = search rules
+slice_bounds-deal-end : tie.Need-slice_bounds-deal-end
+slice_bounds-deal-end c = search rules
 
-slice-aggregate-write-deal : tie.Need-slice-aggregate-write-deal
-slice-aggregate-write-deal c = sym (length-take-le _ _ (omega arith))
+slice_bounds-write_deal-end : tie.Need-slice_bounds-write_deal-end
+slice_bounds-write_deal-end c = sym (length-take-le _ _ (omega arith))
 
-write-deal-requires : tie.Need-write-deal-requires
-write-deal-requires c κs =
+write_deal-requires : tie.Need-write_deal-requires
+write_deal-requires c κs =
     let s = c.before.before.before.before in
     ((s.requires.0.0, s.requires.0.1, length-take-le _ _ (omega arith)), s.requires.1)
 
-mul-deal-2 : tie.Need-overflow-mul-deal-2
-mul-deal-2 c = search rules
+overflow_mul-deal-2 : tie.Need-overflow_mul-deal-2
+overflow_mul-deal-2 c = search rules
 
-array-share-prefix-deal : tie.Need-array-share-prefix-deal
-array-share-prefix-deal c =
+slice_bounds-deal-end-2 : tie.Need-slice_bounds-deal-end-2
+slice_bounds-deal-end-2 c =
     let s = c.before.before.before.before.before.before in
-    front-within _ _ _ _ s.args.i _ _ s.requires.0.1 c.before.write-deal.ensures
+    front-within _ _ _ _ s.args.i _ _ s.requires.0.1 c.write_deal.ensures
 
-slice-aggregate-narrowed : tie.Need-slice-aggregate-narrowed
-slice-aggregate-narrowed c =
+slice_bounds-narrowed-end : tie.Need-slice_bounds-narrowed-end
+slice_bounds-narrowed-end c =
     let s = c.before.before.before.before.before.before.before in
-    sym (front-size _ _ _ _ s.args.i _ _ s.requires.0.1 c.before.before.write-deal.ensures)
+    sym (front-size _ _ _ _ s.args.i _ _ s.requires.0.1 c.write_deal.ensures)
 
 narrowed-requires : tie.Need-narrowed-requires
 narrowed-requires c κs =
     let s = c.before.before.before.before.before.before.before.before in
-    let e = c.before.before.before.write-deal.ensures in (
+    let e = c.write_deal.ensures in (
       front-size _ _ _ _ s.args.i _ _ s.requires.0.1 e ∙ sym s.requires.0.2,
       front-narrow _ _ _ _ s.args.i _ (drop (2 * s.args.terms) (replicate 8 0)) s.requires.0.1 e (lit< tt) (lit≤ tt),
     )
 
-same_length : tie.Need-same-length
-same_length c = search rules
+shape_of-out : tie.Need-shape_of-out
+shape_of-out c = search rules
 
 returns : tie.Need-returns
 returns c =
     let s = c.before.before.before.before.before.before.before.before.before.before.before in
-    c.before.before.narrowed.ensures
-    ∙ front-deal _ _ _ _ s.args.i _ _ s.requires.0.1 c.before.before.before.before.before.before.write-deal.ensures
+    c.narrowed.ensures
+    ∙ front-deal _ _ _ _ s.args.i _ _ s.requires.0.1 c.write_deal.ensures
 
-pub write-narrow-deal-spec : {M : Type 1} → statement M
-write-narrow-deal-spec =
+pub write_narrow_deal_spec : {M : Type 1} → statement M
+write_narrow_deal_spec =
     tie.close
     (tie.spec
-    mul-deal
-    array-borrow-prefix-deal
-    slice-aggregate-write-deal
-    write-deal-requires
-    mul-deal-2
-    array-share-prefix-deal
-    slice-aggregate-narrowed
+    overflow_mul-deal
+    slice_bounds-deal-end
+    slice_bounds-write_deal-end
+    write_deal-requires
+    overflow_mul-deal-2
+    slice_bounds-deal-end-2
+    slice_bounds-narrowed-end
     narrowed-requires
-    same_length
+    shape_of-out
     returns)

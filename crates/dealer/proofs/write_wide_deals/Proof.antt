@@ -8,79 +8,79 @@ use Rattle.dealer.proofs.Writing.{DealsLoop, deals-start, deals-room, deals-part
 use Rattle.dealer.proofs.write_wide_deals.Statement.{statement}
 use Rattle.dealer.proofs.write_wide_deals.Tie as tie
 
-abbrev invariant-loop : tie.invariant-loop
-invariant-loop n table list terms out₀ i₀ at₀ out i at = DealsLoop wide_modulus terms table list n out i at
+abbrev invariant-loop-i : tie.invariant-loop-i
+invariant-loop-i n table list terms out₀ i₀ at₀ out i at = DealsLoop wide_modulus terms table list n out i at
 
-abbrev decreases-loop : tie.decreases-loop
-decreases-loop n table list terms out₀ i₀ at₀ out i at = n - i
+abbrev decreases-loop-i : tie.decreases-loop-i
+decreases-loop-i n table list terms out₀ i₀ at₀ out i at = n - i
 
-loop-holds : tie.Need-loop-init invariant-loop decreases-loop
-loop-holds c = let s = c.before.before.before in deals-start _ _ _ _ _ _ s.requires.0.2 s.requires.0.3
+loop-i-init : tie.Need-loop-i-init invariant-loop-i decreases-loop-i
+loop-i-init c = let s = c.before.before.before in deals-start _ _ _ _ _ _ s.requires.0.2 s.requires.0.3
 
 -- There is room for one more deal.
-room : (c : tie.In-loop invariant-loop decreases-loop)
-    → c.before.loop.at + 2 * c.before.before.before.before.before.args.terms ≤ length c.before.loop.out
-room c = deals-room _ _ _ _ _ _ _ _ c.before.loop.invariant (omega arith)
+room : (c : tie.In-loop-i invariant-loop-i decreases-loop-i)
+    → c.loop-i.at + 2 * c.args.terms ≤ length c.loop-i.out
+room c = deals-room _ _ _ _ _ _ _ _ c.loop-i.invariant (omega arith)
 
-mul_next : tie.Need-overflow-mul-next invariant-loop decreases-loop
-mul_next c = omega (arith, room c)
+overflow_mul-next : tie.Need-overflow_mul-next invariant-loop-i decreases-loop-i
+overflow_mul-next c = omega (arith, room c)
 
-add-next : tie.Need-overflow-add-next invariant-loop decreases-loop
-add-next c = omega (arith, room c)
+overflow_add-next : tie.Need-overflow_add-next invariant-loop-i decreases-loop-i
+overflow_add-next c = omega (arith, room c)
 
-add-i : tie.Need-overflow-add-i invariant-loop decreases-loop
-add-i c = search rules
+overflow_add-i : tie.Need-overflow_add-i invariant-loop-i decreases-loop-i
+overflow_add-i c = search rules
 
-mul-write-deal : tie.Need-overflow-mul-write-deal invariant-loop decreases-loop
-mul-write-deal c = omega (arith, room c)
+offset_bounds-out-at : tie.Need-offset_bounds-out-at invariant-loop-i decreases-loop-i
+offset_bounds-out-at c = omega (arith, room c)
 
-sub-write-deal : tie.Need-overflow-sub-write-deal invariant-loop decreases-loop
-sub-write-deal c = omega (arith, room c)
+slice_bounds-write_deal-count : tie.Need-slice_bounds-write_deal-count invariant-loop-i decreases-loop-i
+slice_bounds-write_deal-count c = omega (arith, room c)
 
-part-write-deal-start : tie.Need-slice-bounds-write-deal-start invariant-loop decreases-loop
-part-write-deal-start c = omega (arith, room c)
+slice_bounds-write_deal-start : tie.Need-slice_bounds-write_deal-start invariant-loop-i decreases-loop-i
+slice_bounds-write_deal-start c = omega (arith, room c)
 
-part-write-deal-end : tie.Need-slice-bounds-write-deal-end invariant-loop decreases-loop
-part-write-deal-end c = omega (arith, room c)
+slice_bounds-write_deal-end : tie.Need-slice_bounds-write_deal-end invariant-loop-i decreases-loop-i
+slice_bounds-write_deal-end c = omega (arith, room c)
 
-write-deal-requires : tie.Need-write-deal-requires invariant-loop decreases-loop
-write-deal-requires c κs =
-    let k = c.before.before.loop in
+write_deal-requires : tie.Need-write_deal-requires invariant-loop-i decreases-loop-i
+write_deal-requires c κs =
+    let k = c.loop-i in
     let s = c.before.before.before.before.before.before in
     ((s.requires.0.1, k.invariant.square, deals-part _ _ _ _ _ _ _ _ k.invariant (omega arith)), s.requires.1)
 
-loop-less : tie.Need-loop-smaller invariant-loop decreases-loop
-loop-less c = search rules
+loop-i-smaller : tie.Need-loop-i-smaller invariant-loop-i decreases-loop-i
+loop-i-smaller c = search rules
 
-loop-again : tie.Need-loop-preserved invariant-loop decreases-loop
-loop-again c =
-    let k = c.before.before.before.before.before.loop in
-    deals-next _ _ _ _ _ k.out k.i k.at k.invariant _ (omega arith) c.before.before.write-deal.ensures
+loop-i-preserved : tie.Need-loop-i-preserved invariant-loop-i decreases-loop-i
+loop-i-preserved c =
+    let k = c.loop-i in
+    deals-next _ _ _ _ _ k.out k.i k.at k.invariant _ (omega arith) c.write_deal.ensures
 
-same_length : tie.Need-same-length invariant-loop decreases-loop
-same_length c = search rules
+shape_of-out : tie.Need-shape_of-out invariant-loop-i decreases-loop-i
+shape_of-out c = search rules
 
-returns : tie.Need-returns invariant-loop decreases-loop
+returns : tie.Need-returns invariant-loop-i decreases-loop-i
 returns c =
-    let k = c.before.loop in
+    let k = c.loop-i in
     deals-end _ _ _ _ _ k.out k.i k.at k.invariant (omega arith)
 
-pub write-wide-deals-spec : {M : Type 1} → statement M
-write-wide-deals-spec =
+pub write_wide_deals_spec : {M : Type 1} → statement M
+write_wide_deals_spec =
     tie.close
     (tie.spec
-    invariant-loop
-    decreases-loop
-    loop-holds
-    mul_next
-    add-next
-    add-i
-    mul-write-deal
-    sub-write-deal
-    part-write-deal-start
-    part-write-deal-end
-    write-deal-requires
-    loop-less
-    loop-again
-    same_length
+    invariant-loop-i
+    decreases-loop-i
+    loop-i-init
+    overflow_mul-next
+    overflow_add-next
+    overflow_add-i
+    offset_bounds-out-at
+    slice_bounds-write_deal-count
+    slice_bounds-write_deal-start
+    slice_bounds-write_deal-end
+    write_deal-requires
+    loop-i-smaller
+    loop-i-preserved
+    shape_of-out
     returns)

@@ -14,37 +14,37 @@ use Rattle.fit.proofs.again.Tie as tie
 nothing-requires : tie.Need-nothing-requires
 nothing-requires c κs = search rules
 
-returns : tie.Need-returns
-returns c =
+returns-then-s-xs : tie.Need-returns-then-s-xs
+returns-then-s-xs c =
     let s = c.before.before.before.before in
-    c.nothing.ensures ∙ ap result_of (sym (s.requires.4 c.before.if1.true))
+    c.nothing.ensures ∙ ap result_of (sym (s.requires.4 c.if-s-xs.true))
 
-nothing-requires-2 : tie.Need-nothing-requires-2
-nothing-requires-2 c κs = search rules
+nothing-requires-then-s-need : tie.Need-nothing-requires-then-s-need
+nothing-requires-then-s-need c κs = search rules
 
-returns-2 : tie.Need-returns-2
-returns-2 c =
+returns-then-s-need : tie.Need-returns-then-s-need
+returns-then-s-need c =
     let s = c.before.before.before.before.before in
-    c.nothing2.ensures
-    ∙ ap result_of (sym (first-too-few _ (prime-of s.args.w) _ s.args.xs.now _ _ (omega (arith, s.requires.2, c.before.if2.true))))
+    c.nothing-then-s-need.ensures
+    ∙ ap result_of (sym (first-too-few _ (prime-of s.args.w) _ s.args.xs.now _ _ (omega (arith, s.requires.2, c.if-s-need.true))))
 
-add-next : tie.Need-overflow-add-next
-add-next c = search rules
+overflow_add-t : tie.Need-overflow_add-t
+overflow_add-t c = search rules
 
 next-requires : tie.Need-next-requires
 next-requires c κs = search rules
 
-returns-3 : tie.Need-returns-3
-returns-3 c = search rules
+returns : tie.Need-returns
+returns c = search rules
 
 pub again_spec : {M : Type 1} → statement M
 again_spec =
     tie.close
     (tie.spec
     nothing-requires
-    returns
-    nothing-requires-2
-    returns-2
-    add-next
+    returns-then-s-xs
+    nothing-requires-then-s-need
+    returns-then-s-need
+    overflow_add-t
     next-requires
-    returns-3)
+    returns)

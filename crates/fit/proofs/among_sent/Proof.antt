@@ -15,84 +15,84 @@ use Rattle.fit.proofs.among_sent.Statement.{statement}
 use Rattle.fit.proofs.among_sent.Tie as tie
 
 -- The start, from where the values sent are counted, and from where the need that they have is known.
-abbrev start : tie.After-sent → tie.Start
+abbrev start : tie.After-sent-s → tie.Start
 start c = c.before.before.before.before
 
-abbrev known : tie.After-needed → tie.Start
+abbrev known : tie.After-needed-need → tie.Start
 known c = start c.before
 
 -- How many values were sent, and how many must agree.
-counts : (c : tie.After-sent) → let s = (start c).args in c.sent.result ≡ sent (prime_of s.w) s.ys.now
-counts c = c.sent.ensures ∙ ap (λ q. sent q (start c).args.ys.now) c.before.modulus.ensures
+counts : (c : tie.After-sent-s) → let s = (start c).args in c.sent-s.result ≡ sent (prime_of s.w) s.ys.now
+counts c = c.sent-s.ensures ∙ ap (λ q. sent q (start c).args.ys.now) c.modulus.ensures
 
-with-need : (c : tie.After-needed) → let s = (known c).args in
-    decoded (fit (prime_of s.w) s.t c.needed.result s.xs.now s.ys.now)
+with-need : (c : tie.After-needed-need) → let s = (known c).args in
+    decoded (fit (prime_of s.w) s.t c.needed-need.result s.xs.now s.ys.now)
     ≡ decoded (fit (prime_of s.w) s.t (needed s.t s.least (sent (prime_of s.w) s.ys.now)) s.xs.now s.ys.now)
 with-need c =
     let s = (known c).args in
     ap (λ need. decoded (fit (prime_of s.w) s.t need s.xs.now s.ys.now))
-    (c.needed.ensures ∙ ap (needed s.t s.least) (counts c.before))
+    (c.needed-need.ensures ∙ ap (needed s.t s.least) (counts c.before))
 
 -- At most one polynomial can fit.
-once : (c : tie.After-needed) → c.before.sent.result + (known c).args.t + 1 ≤ 2 * c.needed.result
+once : (c : tie.After-needed-need) → c.sent-s.result + (known c).args.t + 1 ≤ 2 * c.needed-need.result
 once c =
     let s = known c in
-    omega (arith, c.needed.ensures, needed-once s.args.t s.args.least c.before.sent.result s.pre.0.enough)
+    omega (arith, c.needed-need.ensures, needed-once s.args.t s.args.least c.sent-s.result s.requires.0.enough)
 
 modulus-requires : tie.Need-modulus-requires
 modulus-requires c κs = search rules
 
-sent-requires : tie.Need-sent-requires
-sent-requires c κs = search rules
+sent-s-requires : tie.Need-sent-s-requires
+sent-s-requires c κs = search rules
 
-needed-requires : tie.Need-needed-requires
-needed-requires c κs = search rules
+needed-need-requires : tie.Need-needed-need-requires
+needed-need-requires c κs = search rules
 
-again-requires : tie.Need-again-requires
-again-requires c κs =
+again-first-requires : tie.Need-again-first-requires
+again-first-requires c κs =
     let s = known c in (
-      s.pre.0.degree,
-      s.pre.0.bounded,
+      s.requires.0.degree,
+      s.requires.0.bounded,
       counts c.before,
-      s.pre.1.0,
+      s.requires.1.0,
       λ e.
           ap (λ need. tried (prime_of s.args.w) need s.args.xs.now s.args.ys.now 0 (s.args.t + 1) 0)
-          (c.needed.ensures ∙ ap (needed s.args.t s.args.least) e)
-          ∙ s.pre.2,
+          (c.needed-need.ensures ∙ ap (needed s.args.t s.args.least) e)
+          ∙ s.requires.2,
     )
 
 decoded-requires : tie.Need-decoded-requires
 decoded-requires c κs = search rules
 
-returns : tie.Need-returns
-returns c =
+returns-then-first : tie.Need-returns-then-first
+returns-then-first c =
     let called = c.before.before in
-    c.decoded.ensures ∙ fit-first _ _ _ _ _ _ called.again.ensures c.before.if1.true ∙ with-need called.before
+    c.decoded.ensures ∙ fit-first _ _ _ _ _ _ called.again-first.ensures c.if-first.true ∙ with-need c.before.before.before
 
 later-requires : tie.Need-later-requires
 later-requires c κs =
     let called = c.before in
-    let s = known called.before in (
-      s.pre.0.degree,
-      s.pre.0.bounded,
-      counts called.before.before,
-      once called.before,
-      result-not-found _ (sym (ap (λ w. w.found) called.again.ensures) ∙ c.if1.false),
-      s.pre.1,
+    let s = known c.before.before in (
+      s.requires.0.degree,
+      s.requires.0.bounded,
+      counts c.before.before.before,
+      once c.before.before,
+      result-not-found _ (sym (ap (λ w. w.found) called.again-first.ensures) ∙ c.if-first.false),
+      s.requires.1,
     )
 
-returns-2 : tie.Need-returns-2
-returns-2 c = c.later.ensures ∙ with-need c.before.before.before
+returns : tie.Need-returns
+returns c = c.later.ensures ∙ with-need c.before.before.before
 
-pub among-sent-spec : {M : Type 1} → statement M
-among-sent-spec =
+pub among_sent_spec : {M : Type 1} → statement M
+among_sent_spec =
     tie.close
     (tie.spec
     modulus-requires
-    sent-requires
-    needed-requires
-    again-requires
+    sent-s-requires
+    needed-need-requires
+    again-first-requires
     decoded-requires
-    returns
+    returns-then-first
     later-requires
-    returns-2)
+    returns)

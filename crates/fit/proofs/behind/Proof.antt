@@ -7,63 +7,63 @@ use Rattle.fit.proofs.Grouping.{Passing, passing-start, passing-sent, passing-un
 use Rattle.fit.proofs.behind.Statement.{statement}
 use Rattle.fit.proofs.behind.Tie as tie
 
-abbrev invariant-loop : tie.invariant-loop
-invariant-loop p ys i k j₀ more₀ j more = Passing p k ys i j more
+abbrev invariant-loop-j : tie.invariant-loop-j
+invariant-loop-j p ys i k j₀ more₀ j more = Passing p k ys i j more
 
-abbrev decreases-loop : tie.decreases-loop
-decreases-loop p ys i k j₀ more₀ j more = length ys - j
+abbrev decreases-loop-j : tie.decreases-loop-j
+decreases-loop-j p ys i k j₀ more₀ j more = length ys - j
 
-loop-holds : tie.Need-loop-init invariant-loop decreases-loop
-loop-holds c = passing-start _ _ _ _ (omega arith)
+loop-j-init : tie.Need-loop-j-init invariant-loop-j decreases-loop-j
+loop-j-init c = passing-start _ _ _ _ (omega arith)
 
-returns : tie.Need-returns invariant-loop decreases-loop
-returns c = let k = c.before.before.loop in passing-done _ _ _ _ k.j k.more k.invariant c.if1.true
+returns-then-more-eq0 : tie.Need-returns-then-more-eq0 invariant-loop-j decreases-loop-j
+returns-then-more-eq0 c = let k = c.loop-j in passing-done _ _ _ _ k.j k.more k.invariant c.if-more-eq0.true
 
-mul-y : tie.Need-overflow-mul-y invariant-loop decreases-loop
-mul-y c = search rules
+offset_bounds-ys-j : tie.Need-offset_bounds-ys-j invariant-loop-j decreases-loop-j
+offset_bounds-ys-j c = search rules
 
-shared-slice-read-y : tie.Need-shared-slice-read-y invariant-loop decreases-loop
-shared-slice-read-y c = search rules
+bounds-ys-j : tie.Need-bounds-ys-j invariant-loop-j decreases-loop-j
+bounds-ys-j c = search rules
 
-add-j : tie.Need-overflow-add-j invariant-loop decreases-loop
-add-j c = search rules
+overflow_add-j : tie.Need-overflow_add-j invariant-loop-j decreases-loop-j
+overflow_add-j c = search rules
 
-sub_more : tie.Need-overflow-sub-more invariant-loop decreases-loop
-sub_more c = search rules
+overflow_sub-more : tie.Need-overflow_sub-more invariant-loop-j decreases-loop-j
+overflow_sub-more c = search rules
 
-loop-less : tie.Need-loop-smaller invariant-loop decreases-loop
-loop-less c = search rules
+loop-j-smaller-then-y-p : tie.Need-loop-j-smaller-then-y-p invariant-loop-j decreases-loop-j
+loop-j-smaller-then-y-p c = search rules
 
-loop-again : tie.Need-loop-preserved invariant-loop decreases-loop
-loop-again c =
-    let k = c.before.before.before.before.loop in
-    passing-sent _ _ _ _ k.j k.more k.invariant (omega arith) c.before.before.if1.false c.if2.true
+loop-j-preserved-then-y-p : tie.Need-loop-j-preserved-then-y-p invariant-loop-j decreases-loop-j
+loop-j-preserved-then-y-p c =
+    let k = c.loop-j in
+    passing-sent _ _ _ _ k.j k.more k.invariant (omega arith) c.if-more-eq0.false c.if-y-p.true
 
-loop-less-2 : tie.Need-loop-smaller-2 invariant-loop decreases-loop
-loop-less-2 c = search rules
+loop-j-smaller : tie.Need-loop-j-smaller invariant-loop-j decreases-loop-j
+loop-j-smaller c = search rules
 
-loop-again-2 : tie.Need-loop-preserved-2 invariant-loop decreases-loop
-loop-again-2 c =
-    let k = c.before.before.before.before.loop in
-    passing-unsent _ _ _ _ k.j k.more k.invariant (omega arith) c.if2.false
+loop-j-preserved : tie.Need-loop-j-preserved invariant-loop-j decreases-loop-j
+loop-j-preserved c =
+    let k = c.loop-j in
+    passing-unsent _ _ _ _ k.j k.more k.invariant (omega arith) c.if-y-p.false
 
-returns-2 : tie.Need-returns-2 invariant-loop decreases-loop
-returns-2 c = let k = c.before.loop in passing-end _ _ _ _ k.j k.more k.invariant (omega arith)
+returns : tie.Need-returns invariant-loop-j decreases-loop-j
+returns c = let k = c.loop-j in passing-end _ _ _ _ k.j k.more k.invariant (omega arith)
 
-pub behind-spec : {M : Type 1} → statement M
-behind-spec =
+pub behind_spec : {M : Type 1} → statement M
+behind_spec =
     tie.close
     (tie.spec
-    invariant-loop
-    decreases-loop
-    loop-holds
-    returns
-    mul-y
-    shared-slice-read-y
-    add-j
-    sub_more
-    loop-less
-    loop-again
-    loop-less-2
-    loop-again-2
-    returns-2)
+    invariant-loop-j
+    decreases-loop-j
+    loop-j-init
+    returns-then-more-eq0
+    offset_bounds-ys-j
+    bounds-ys-j
+    overflow_add-j
+    overflow_sub-more
+    loop-j-smaller-then-y-p
+    loop-j-preserved-then-y-p
+    loop-j-smaller
+    loop-j-preserved
+    returns)

@@ -5,13 +5,15 @@ use Rattle.answers.specs.declared.Decoding.TheVariants.{Found, Nothing}
 use Rattle.fit.proofs.decoded.Statement.{statement}
 use Rattle.fit.proofs.decoded.Tie as tie
 
+returns-then-tried : tie.Need-returns-then-tried
+returns-then-tried c =
+    sym (ap (λ b. record { outcome = cond b Found Nothing; coefficients = c.args.tried.coefficients }) c.if-tried.true)
+
 returns : tie.Need-returns
 returns c =
-    sym (ap (λ b. record { outcome = cond b Found Nothing; coefficients = c.before.before.args.tried.coefficients }) c.if1.true)
+    sym (ap (λ b. record { outcome = cond b Found Nothing; coefficients = c.args.tried.coefficients }) c.if-tried.false)
 
-returns-2 : tie.Need-returns-2
-returns-2 c =
-    sym (ap (λ b. record { outcome = cond b Found Nothing; coefficients = c.before.before.args.tried.coefficients }) c.if1.false)
-
-pub decoded-spec : {M : Type 1} → statement M
-decoded-spec = tie.close (tie.spec returns returns-2)
+pub decoded_spec : {M : Type 1} → statement M
+decoded_spec = tie.close (tie.spec
+    returns-then-tried
+    returns)

@@ -8,111 +8,111 @@ use Rattle.fit.proofs.Gathering.{Gathering, gathering-start, gathering-short, ga
 use Rattle.fit.proofs.first_sent.Statement.{statement}
 use Rattle.fit.proofs.first_sent.Tie as tie
 
-abbrev invariant-loop : tie.invariant-loop
-invariant-loop p xs ys px₀ py₀ d₀ i₀ px py d i = Gathering p (length px₀) xs ys px py d i
+abbrev invariant-loop-d : tie.invariant-loop-d
+invariant-loop-d p xs ys px₀ py₀ d₀ i₀ px py d i = Gathering p (length px₀) xs ys px py d i
 
-abbrev decreases-loop : tie.decreases-loop
-decreases-loop p xs ys px₀ py₀ d₀ i₀ px py d i = length xs - i
+abbrev decreases-loop-d : tie.decreases-loop-d
+decreases-loop-d p xs ys px₀ py₀ d₀ i₀ px py d i = length xs - i
 
 -- The loop's turn in which a point is read.
-abbrev turn : tie.After-shared-slice-known2 invariant-loop decreases-loop → tie.At-loop invariant-loop decreases-loop
+abbrev turn : tie.After-shared_slice_known-in-loop-d-1 invariant-loop-d decreases-loop-d → tie.At-loop-d invariant-loop-d decreases-loop-d
 turn read = read.before.before.before.before
 
-loop-holds : tie.Need-loop-init invariant-loop decreases-loop
-loop-holds c = gathering-start _ _ _ _ _ _ refl c.requires.1
+loop-d-init : tie.Need-loop-d-init invariant-loop-d decreases-loop-d
+loop-d-init c = gathering-start _ _ _ _ _ _ refl c.requires.1
 
-same_length : tie.Need-same-length invariant-loop decreases-loop
-same_length c = omega (arith, c.before.before.loop.invariant.width-x)
+shape_of-px-then-xs-i : tie.Need-shape_of-px-then-xs-i invariant-loop-d decreases-loop-d
+shape_of-px-then-xs-i c = omega (arith, c.loop-d.invariant.width-x)
 
-same-length-2 : tie.Need-same-length-2 invariant-loop decreases-loop
-same-length-2 c = omega (arith, c.before.before.loop.invariant.width-y)
+shape_of-py-then-xs-i : tie.Need-shape_of-py-then-xs-i invariant-loop-d decreases-loop-d
+shape_of-py-then-xs-i c = omega (arith, c.loop-d.invariant.width-y)
 
-returns : tie.Need-returns invariant-loop decreases-loop
+returns-then-xs-i : tie.Need-returns-then-xs-i invariant-loop-d decreases-loop-d
+returns-then-xs-i c =
+    let k = c.loop-d in
+    absurd (gathering-short _ _ _ _ _ _ k.d k.i k.invariant c.requires.0.1 (omega arith) c.if-xs-i.true)
+
+offset_bounds-xs-i : tie.Need-offset_bounds-xs-i invariant-loop-d decreases-loop-d
+offset_bounds-xs-i c = search rules
+
+bounds-xs-i : tie.Need-bounds-xs-i invariant-loop-d decreases-loop-d
+bounds-xs-i c = search rules
+
+offset_bounds-ys-i : tie.Need-offset_bounds-ys-i invariant-loop-d decreases-loop-d
+offset_bounds-ys-i c = search rules
+
+bounds-ys-i : tie.Need-bounds-ys-i invariant-loop-d decreases-loop-d
+bounds-ys-i c = search rules
+
+overflow_add-i : tie.Need-overflow_add-i invariant-loop-d decreases-loop-d
+overflow_add-i c = search rules
+
+offset_bounds-px-d : tie.Need-offset_bounds-px-d invariant-loop-d decreases-loop-d
+offset_bounds-px-d c = search rules
+
+bounds-px-d : tie.Need-bounds-px-d invariant-loop-d decreases-loop-d
+bounds-px-d c = search rules
+
+offset_bounds-py-d : tie.Need-offset_bounds-py-d invariant-loop-d decreases-loop-d
+offset_bounds-py-d c = search rules
+
+bounds-py-d : tie.Need-bounds-py-d invariant-loop-d decreases-loop-d
+bounds-py-d c = search rules
+
+overflow_add-d : tie.Need-overflow_add-d invariant-loop-d decreases-loop-d
+overflow_add-d c = search rules
+
+loop-d-smaller-then-y-p : tie.Need-loop-d-smaller-then-y-p invariant-loop-d decreases-loop-d
+loop-d-smaller-then-y-p c = search rules
+
+loop-d-preserved-then-y-p : tie.Need-loop-d-preserved-then-y-p invariant-loop-d decreases-loop-d
+loop-d-preserved-then-y-p c =
+    let k = (turn c.before).loop-d in
+    gathering-sent _ _ _ _ _ _ k.d k.i k.invariant (omega arith) (omega arith) (omega arith) c.if-y-p.true
+
+loop-d-smaller : tie.Need-loop-d-smaller invariant-loop-d decreases-loop-d
+loop-d-smaller c = search rules
+
+loop-d-preserved : tie.Need-loop-d-preserved invariant-loop-d decreases-loop-d
+loop-d-preserved c =
+    let k = (turn c.before).loop-d in
+    gathering-unsent _ _ _ _ _ _ k.d k.i k.invariant (omega arith) (omega arith) c.if-y-p.false
+
+shape_of-px : tie.Need-shape_of-px invariant-loop-d decreases-loop-d
+shape_of-px c = omega (arith, c.loop-d.invariant.width-x)
+
+shape_of-py : tie.Need-shape_of-py invariant-loop-d decreases-loop-d
+shape_of-py c = omega (arith, c.loop-d.invariant.width-y)
+
+returns : tie.Need-returns invariant-loop-d decreases-loop-d
 returns c =
-    let k = c.before.before.loop in
-    absurd (gathering-short _ _ _ _ _ _ k.d k.i k.invariant c.before.before.before.requires.0.1 (omega arith) c.if1.true)
-
-mul-x : tie.Need-overflow-mul-x invariant-loop decreases-loop
-mul-x c = search rules
-
-shared-slice-read-x : tie.Need-shared-slice-read-x invariant-loop decreases-loop
-shared-slice-read-x c = search rules
-
-mul-y : tie.Need-overflow-mul-y invariant-loop decreases-loop
-mul-y c = search rules
-
-shared-slice-read-y : tie.Need-shared-slice-read-y invariant-loop decreases-loop
-shared-slice-read-y c = search rules
-
-add-i : tie.Need-overflow-add-i invariant-loop decreases-loop
-add-i c = search rules
-
-mul-px : tie.Need-overflow-mul-px invariant-loop decreases-loop
-mul-px c = search rules
-
-slice-write-px : tie.Need-slice-write-px invariant-loop decreases-loop
-slice-write-px c = search rules
-
-mul-py : tie.Need-overflow-mul-py invariant-loop decreases-loop
-mul-py c = search rules
-
-slice-write-py : tie.Need-slice-write-py invariant-loop decreases-loop
-slice-write-py c = search rules
-
-add-d : tie.Need-overflow-add-d invariant-loop decreases-loop
-add-d c = search rules
-
-loop-less : tie.Need-loop-smaller invariant-loop decreases-loop
-loop-less c = search rules
-
-loop-again : tie.Need-loop-preserved invariant-loop decreases-loop
-loop-again c =
-    let k = (turn c.before).loop in
-    gathering-sent _ _ _ _ _ _ k.d k.i k.inv (omega arith) (omega arith) (omega arith) c.if2.true
-
-loop-less-2 : tie.Need-loop-smaller-2 invariant-loop decreases-loop
-loop-less-2 c = search rules
-
-loop-again-2 : tie.Need-loop-preserved-2 invariant-loop decreases-loop
-loop-again-2 c =
-    let k = (turn c.before).loop in
-    gathering-unsent _ _ _ _ _ _ k.d k.i k.inv (omega arith) (omega arith) c.if2.false
-
-same-length-3 : tie.Need-same-length-3 invariant-loop decreases-loop
-same-length-3 c = omega (arith, c.before.loop.invariant.width-x)
-
-same-length-4 : tie.Need-same-length-4 invariant-loop decreases-loop
-same-length-4 c = omega (arith, c.before.loop.invariant.width-y)
-
-returns-2 : tie.Need-returns-2 invariant-loop decreases-loop
-returns-2 c =
-    let k = c.before.loop in
+    let k = c.loop-d in
     (gathering-done _ _ _ _ _ _ k.d k.i k.invariant (omega arith), k.invariant.width-x, k.invariant.width-y)
 
-pub first-sent-spec : {M : Type 1} → statement M
-first-sent-spec =
+pub first_sent_spec : {M : Type 1} → statement M
+first_sent_spec =
     tie.close
     (tie.spec
-    invariant-loop
-    decreases-loop
-    loop-holds
-    same_length
-    same-length-2
-    returns
-    mul-x
-    shared-slice-read-x
-    mul-y
-    shared-slice-read-y
-    add-i
-    mul-px
-    slice-write-px
-    mul-py
-    slice-write-py
-    add-d
-    loop-less
-    loop-again
-    loop-less-2
-    loop-again-2
-    same-length-3
-    same-length-4
-    returns-2)
+    invariant-loop-d
+    decreases-loop-d
+    loop-d-init
+    shape_of-px-then-xs-i
+    shape_of-py-then-xs-i
+    returns-then-xs-i
+    offset_bounds-xs-i
+    bounds-xs-i
+    offset_bounds-ys-i
+    bounds-ys-i
+    overflow_add-i
+    offset_bounds-px-d
+    bounds-px-d
+    offset_bounds-py-d
+    bounds-py-d
+    overflow_add-d
+    loop-d-smaller-then-y-p
+    loop-d-preserved-then-y-p
+    loop-d-smaller
+    loop-d-preserved
+    shape_of-px
+    shape_of-py
+    returns)

@@ -18,114 +18,114 @@ use Rattle.fit.proofs.fit.Statement.{statement}
 use Rattle.fit.proofs.fit.Tie as tie
 
 -- The start, from past the four tests; and that place, from where the first points were tried. What these give has the need of all.
-abbrev start : tie.Else4 → tie.Start
+abbrev start : tie.Else-least-t → tie.Start
 start e = e.before.before.before.before.before.before
 
-abbrev passed : tie.After-next → tie.Else4
+abbrev passed : tie.After-next-first → tie.Else-least-t
 passed c = c.before.before
 
-first_gives : (c : tie.After-next) → let a = (start (passed c)).args in
-    c.next.result
+first_gives : (c : tie.After-next-first) → let a = (start (passed c)).args in
+    c.next-first.result
     ≡ result_of (tried (prime_of a.w) (needed a.t a.least (length a.xs.now)) a.xs.now a.ys.now 0 (a.t + 1) 0)
 first_gives c =
     let a = (start (passed c)).args in
-    c.next.ensures
-    ∙ ap (λ all. result_of (tried (prime_of a.w) all a.xs.now a.ys.now 0 (a.t + 1) 0)) c.before.needed.ensures
+    c.next-first.ensures
+    ∙ ap (λ all. result_of (tried (prime_of a.w) all a.xs.now a.ys.now 0 (a.t + 1) 0)) c.needed-all.ensures
 
-admits : (e : tie.Else4) → let s = (start e).args in Admitted s.t s.least s.xs.now s.ys.now
+admits : (e : tie.Else-least-t) → let s = (start e).args in Admitted s.t s.least s.xs.now s.ys.now
 admits e = record {
-  degree = e.before.before.before.if1.false;
-  bounded = record { lengths = e.before.before.if2.false; most = e.before.if3.false };
-  enough = omega (arith, e.if4.false);
+  degree = e.if-t-gt3.false;
+  bounded = record { lengths = e.if-xs-ys.false; most = e.if-xs-gt16.false };
+  enough = omega (arith, e.if-least-t.false);
 }
 
-refused-fit-requires : tie.Need-refused-fit-requires
-refused-fit-requires c κs = search rules
+refused_fit-requires : tie.Need-refused_fit-requires
+refused_fit-requires c κs = search rules
 
-returns : tie.Need-returns
-returns c = c.refused-fit.ensures ∙ fit-degree _ _ _ _ _ c.before.if1.true
+returns-then-t-gt3 : tie.Need-returns-then-t-gt3
+returns-then-t-gt3 c = c.refused_fit.ensures ∙ fit-degree _ _ _ _ _ c.if-t-gt3.true
 
-refused-fit-requires-2 : tie.Need-refused-fit-requires-2
-refused-fit-requires-2 c κs = search rules
+refused_fit-requires-then-xs-ys : tie.Need-refused_fit-requires-then-xs-ys
+refused_fit-requires-then-xs-ys c κs = search rules
 
-returns-2 : tie.Need-returns-2
-returns-2 c = c.refused-fit2.ensures ∙ fit-lengths _ _ _ _ _ c.before.before.if1.false c.before.if2.true
+returns-then-xs-ys : tie.Need-returns-then-xs-ys
+returns-then-xs-ys c = c.refused_fit-then-xs-ys.ensures ∙ fit-lengths _ _ _ _ _ c.if-t-gt3.false c.if-xs-ys.true
 
-refused-fit-requires-3 : tie.Need-refused-fit-requires-3
-refused-fit-requires-3 c κs = search rules
+refused_fit-requires-then-xs-gt16 : tie.Need-refused_fit-requires-then-xs-gt16
+refused_fit-requires-then-xs-gt16 c κs = search rules
 
-returns-3 : tie.Need-returns-3
-returns-3 c =
+returns-then-xs-gt16 : tie.Need-returns-then-xs-gt16
+returns-then-xs-gt16 c =
     let e = c.before.before in
-    c.refused-fit3.ensures ∙ fit-many _ _ _ _ _ e.before.if1.false e.if2.false c.before.if3.true
+    c.refused_fit-then-xs-gt16.ensures ∙ fit-many _ _ _ _ _ e.if-t-gt3.false e.if-xs-ys.false c.if-xs-gt16.true
 
-mul-if4 : tie.Need-overflow-mul-if4
-mul-if4 c = search rules
+overflow_mul-t : tie.Need-overflow_mul-t
+overflow_mul-t c = search rules
 
-refused-fit-requires-4 : tie.Need-refused-fit-requires-4
-refused-fit-requires-4 c κs = search rules
+refused_fit-requires-then-least-t : tie.Need-refused_fit-requires-then-least-t
+refused_fit-requires-then-least-t c κs = search rules
 
-returns-4 : tie.Need-returns-4
-returns-4 c =
+returns-then-least-t : tie.Need-returns-then-least-t
+returns-then-least-t c =
     let e = c.before.before in
-    c.refused-fit4.ensures
-    ∙ fit-few _ _ _ _ _ e.before.before.if1.false e.before.if2.false e.if3.false (omega (arith, c.before.if4.true))
+    c.refused_fit-then-least-t.ensures
+    ∙ fit-few _ _ _ _ _ e.if-t-gt3.false e.if-xs-ys.false e.if-xs-gt16.false (omega (arith, c.if-least-t.true))
 
-needed-requires : tie.Need-needed-requires
-needed-requires c κs = search rules
+needed-all-requires : tie.Need-needed-all-requires
+needed-all-requires c κs = search rules
 
-add-next : tie.Need-overflow-add-next
-add-next c = search rules
+overflow_add-t : tie.Need-overflow_add-t
+overflow_add-t c = search rules
 
-next-requires : tie.Need-next-requires
-next-requires c κs =
+next-first-requires : tie.Need-next-first-requires
+next-first-requires c κs =
     let e = c.before in
     (((admits e).bounded, omega (arith, (admits e).degree)), (start e).requires.0)
 
 decoded-requires : tie.Need-decoded-requires
 decoded-requires c κs = search rules
 
-returns-5 : tie.Need-returns-5
-returns-5 c =
+returns-then-first : tie.Need-returns-then-first
+returns-then-first c =
     let called = c.before.before in
     let e = passed called in
     c.decoded.ensures
-    ∙ narrowed-first _ (prime-of (start e).args.w) _ _ _ _ (admits e).bounded.lengths (start e).pre (admits e).enough _
-    (first_gives called) c.before.if5.true
+    ∙ narrowed-first _ (prime-of (start e).args.w) _ _ _ _ (admits e).bounded.lengths (start e).requires (admits e).enough _
+    (first_gives called) c.if-first.true
     ∙ sym (fit-admitted _ _ _ _ _ (admits e))
 
-among-sent-requires : tie.Need-among-sent-requires
-among-sent-requires c κs =
+among_sent-requires : tie.Need-among_sent-requires
+among_sent-requires c κs =
     let called = c.before in
     let e = passed called in
-    (admits e, (start e).pre, result-not-found _ (sym (ap (λ w. w.found) (first_gives called)) ∙ c.if5.false))
+    (admits e, (start e).requires, result-not-found _ (sym (ap (λ w. w.found) (first_gives called)) ∙ c.if-first.false))
 
 copied-requires : tie.Need-copied-requires
 copied-requires c κs = search rules
 
-returns-6 : tie.Need-returns-6
-returns-6 c =
-    c.copied.ensures ∙ c.before.among-sent.ensures
+returns : tie.Need-returns
+returns c =
+    c.copied.ensures ∙ c.among_sent.ensures
     ∙ sym (fit-admitted _ _ _ _ _ (admits (passed c.before.before.before)))
 
 pub fit_spec : {M : Type 1} → statement M
 fit_spec =
     tie.close
     (tie.spec
-    refused-fit-requires
-    returns
-    refused-fit-requires-2
-    returns-2
-    refused-fit-requires-3
-    returns-3
-    mul-if4
-    refused-fit-requires-4
-    returns-4
-    needed-requires
-    add-next
-    next-requires
+    refused_fit-requires
+    returns-then-t-gt3
+    refused_fit-requires-then-xs-ys
+    returns-then-xs-ys
+    refused_fit-requires-then-xs-gt16
+    returns-then-xs-gt16
+    overflow_mul-t
+    refused_fit-requires-then-least-t
+    returns-then-least-t
+    needed-all-requires
+    overflow_add-t
+    next-first-requires
     decoded-requires
-    returns-5
-    among-sent-requires
+    returns-then-first
+    among_sent-requires
     copied-requires
-    returns-6)
+    returns)

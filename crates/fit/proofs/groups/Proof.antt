@@ -12,149 +12,149 @@ use Rattle.fit.proofs.Grouping.{groups-found, groups_none, groups-next, groups-l
 use Rattle.fit.proofs.groups.Statement.{statement}
 use Rattle.fit.proofs.groups.Tie as tie
 
-abbrev invariant-loop : tie.invariant-loop
-invariant-loop w t need xs ys sent spare p i₀ left₀ wrong₀ i left wrong = Grouping (prime_of w) t need xs ys i left wrong × (0 < wrong)
+abbrev invariant-loop-wrong : tie.invariant-loop-wrong
+invariant-loop-wrong w t need xs ys sent spare p i₀ left₀ wrong₀ i left wrong = Grouping (prime_of w) t need xs ys i left wrong × (0 < wrong)
 
-abbrev decreases-loop : tie.decreases-loop
-decreases-loop w t need xs ys sent spare p i₀ left₀ wrong₀ i left wrong = left
+abbrev decreases-loop-wrong : tie.decreases-loop-wrong
+decreases-loop-wrong w t need xs ys sent spare p i₀ left₀ wrong₀ i left wrong = left
 
 -- The places that the proof names: the loop's turn, the start.
-abbrev turn : tie.After-next invariant-loop decreases-loop → tie.At-loop invariant-loop decreases-loop
+abbrev turn : tie.After-next-group invariant-loop-wrong decreases-loop-wrong → tie.At-loop-wrong invariant-loop-wrong decreases-loop-wrong
 turn g = g.before.before.before
 
-abbrev start : tie.At-loop invariant-loop decreases-loop → tie.Start invariant-loop decreases-loop
+abbrev start : tie.At-loop-wrong invariant-loop-wrong decreases-loop-wrong → tie.Start invariant-loop-wrong decreases-loop-wrong
 start k = k.before.before.before.before
 
 -- The modulus is a prime.
-abbrev prime-at : (k : tie.At-loop invariant-loop decreases-loop) → Prime (prime_of (start k).args.w)
+abbrev prime-at : (k : tie.At-loop-wrong invariant-loop-wrong decreases-loop-wrong) → Prime (prime_of (start k).args.w)
 prime-at k = prime-of (start k).args.w
 
 -- The place behind the points that were tried, by the prime of the width.
-passed : (b : tie.After-behind invariant-loop decreases-loop)
+passed : (b : tie.After-behind-i invariant-loop-wrong decreases-loop-wrong)
     → let k = b.before.before in
     let s = (start k).args in
-    Behind (prime_of s.w) (s.t + 1) s.ys.now k.loop.i b.behind.result
+    Behind (prime_of s.w) (s.t + 1) s.ys.now k.loop-wrong.i b.behind-i.result
 passed b =
     let k = b.before.before in
     let s = (start k).args in
-    subst (λ q. Behind q (s.t + 1) s.ys.now k.loop.i b.behind.result) k.before.modulus.ensures b.behind.ensures
+    subst (λ q. Behind q (s.t + 1) s.ys.now k.loop-wrong.i b.behind-i.result) k.modulus-p.ensures b.behind-i.ensures
 
 -- A group has failed: behind it one point fewer is wrong.
-failed : (g : tie.After-next invariant-loop decreases-loop) → g.next.result.found ≡ false
-    → let k = (turn g).loop in
+failed : (g : tie.After-next-group invariant-loop-wrong decreases-loop-wrong) → g.next-group.result.found ≡ false
+    → let k = (turn g).loop-wrong in
     let s = (start (turn g)).args in
-    Grouping (prime_of s.w) s.t s.need s.xs.now s.ys.now g.before.behind.result (k.left - (s.t + 1)) (k.wrong - 1)
+    Grouping (prime_of s.w) s.t s.need s.xs.now s.ys.now g.behind-i.result (k.left - (s.t + 1)) (k.wrong - 1)
 failed g lost =
-    let k = (turn g).loop in
-    groups-next _ (prime-at (turn g)) _ _ _ _ k.i k.left k.wrong k.inv.0 _ _ (λ z. omega arith) (omega arith)
-    (passed g.before) g.next.ensures lost
+    let k = (turn g).loop-wrong in
+    groups-next _ (prime-at (turn g)) _ _ _ _ k.i k.left k.wrong k.invariant.0 _ _ (λ z. omega arith) (omega arith)
+    (passed g.before) g.next-group.ensures lost
 
-modulus-requires : tie.Need-modulus-requires invariant-loop decreases-loop
-modulus-requires c κs = search rules
+modulus-p-requires : tie.Need-modulus-p-requires invariant-loop-wrong decreases-loop-wrong
+modulus-p-requires c κs = search rules
 
-loop-holds : tie.Need-loop-init invariant-loop decreases-loop
-loop-holds c = c.before.before.before.requires
+loop-wrong-init : tie.Need-loop-wrong-init invariant-loop-wrong decreases-loop-wrong
+loop-wrong-init c = c.requires
 
-mul-loop : tie.Need-overflow-mul-loop invariant-loop decreases-loop
-mul-loop c = search rules
+overflow_mul-t : tie.Need-overflow_mul-t invariant-loop-wrong decreases-loop-wrong
+overflow_mul-t c = search rules
 
-add-loop : tie.Need-overflow-add-loop invariant-loop decreases-loop
-add-loop c = search rules
+overflow_add-t : tie.Need-overflow_add-t invariant-loop-wrong decreases-loop-wrong
+overflow_add-t c = search rules
 
-add-loop-2 : tie.Need-overflow-add-loop-2 invariant-loop decreases-loop
-add-loop-2 c = search rules
+overflow_add-t-in-loop-wrong : tie.Need-overflow_add-t-in-loop-wrong invariant-loop-wrong decreases-loop-wrong
+overflow_add-t-in-loop-wrong c = search rules
 
-add-behind : tie.Need-overflow-add-behind invariant-loop decreases-loop
-add-behind c = search rules
+overflow_add-t-in-loop-wrong-2 : tie.Need-overflow_add-t-in-loop-wrong-2 invariant-loop-wrong decreases-loop-wrong
+overflow_add-t-in-loop-wrong-2 c = search rules
 
-behind-requires : tie.Need-behind-requires invariant-loop decreases-loop
-behind-requires c κs = search rules
+behind-i-requires : tie.Need-behind-i-requires invariant-loop-wrong decreases-loop-wrong
+behind-i-requires c κs = search rules
 
-add_left : tie.Need-overflow-add-left invariant-loop decreases-loop
-add_left c = search rules
+overflow_add-left : tie.Need-overflow_add-left invariant-loop-wrong decreases-loop-wrong
+overflow_add-left c = search rules
 
-sub-left : tie.Need-overflow-sub-left invariant-loop decreases-loop
-sub-left c = search rules
+overflow_sub-left : tie.Need-overflow_sub-left invariant-loop-wrong decreases-loop-wrong
+overflow_sub-left c = search rules
 
-sub-wrong : tie.Need-overflow-sub-wrong invariant-loop decreases-loop
-sub-wrong c = search rules
+overflow_sub-wrong : tie.Need-overflow_sub-wrong invariant-loop-wrong decreases-loop-wrong
+overflow_sub-wrong c = search rules
 
-add-next : tie.Need-overflow-add-next invariant-loop decreases-loop
-add-next c = search rules
+overflow_add-t-in-loop-wrong-3 : tie.Need-overflow_add-t-in-loop-wrong-3 invariant-loop-wrong decreases-loop-wrong
+overflow_add-t-in-loop-wrong-3 c = search rules
 
-next-requires : tie.Need-next-requires invariant-loop decreases-loop
-next-requires c κs =
-    let k = c.before.before.loop.invariant.0 in
+next-group-requires : tie.Need-next-group-requires invariant-loop-wrong decreases-loop-wrong
+next-group-requires c κs =
+    let k = c.loop-wrong.invariant.0 in
     ((k.bounded, omega (arith, k.degree)), k.points.0)
 
-decoded-requires : tie.Need-decoded-requires invariant-loop decreases-loop
+decoded-requires : tie.Need-decoded-requires invariant-loop-wrong decreases-loop-wrong
 decoded-requires c κs = search rules
 
-returns : tie.Need-returns invariant-loop decreases-loop
-returns c =
+returns-then-group : tie.Need-returns-then-group invariant-loop-wrong decreases-loop-wrong
+returns-then-group c =
     let g = c.before.before in
-    let k = (turn g).loop in
+    let k = (turn g).loop-wrong in
     c.decoded.ensures
-    ∙ groups-found _ (prime-at (turn g)) _ _ _ _ k.i k.left k.wrong k.inv.0 0 g.before.behind.result _ g.next.ensures
-    c.before.if1.true
+    ∙ groups-found _ (prime-at (turn g)) _ _ _ _ k.i k.left k.wrong k.invariant.0 0 g.behind-i.result _ g.next-group.ensures
+    c.if-group.true
 
-nothing-requires : tie.Need-nothing-requires invariant-loop decreases-loop
+nothing-requires : tie.Need-nothing-requires invariant-loop-wrong decreases-loop-wrong
 nothing-requires c κs = search rules
 
-returns-2 : tie.Need-returns-2 invariant-loop decreases-loop
-returns-2 c =
+returns-then-wrong-eq0 : tie.Need-returns-then-wrong-eq0 invariant-loop-wrong decreases-loop-wrong
+returns-then-wrong-eq0 c =
     let g = c.before.before.before in
-    c.nothing.ensures ∙ groups_none _ (prime-at (turn g)) _ _ _ _ _ _ _ (failed g c.before.before.if1.false) c.before.if2.true
+    c.nothing.ensures ∙ groups_none _ (prime-at (turn g)) _ _ _ _ _ _ _ (failed g c.if-group.false) c.if-wrong-eq0.true
 
-loop-less : tie.Need-loop-smaller invariant-loop decreases-loop
-loop-less c = search rules
+loop-wrong-smaller : tie.Need-loop-wrong-smaller invariant-loop-wrong decreases-loop-wrong
+loop-wrong-smaller c = search rules
 
-loop-again : tie.Need-loop-preserved invariant-loop decreases-loop
-loop-again c = (failed c.before.before c.before.if1.false, omega arith)
+loop-wrong-preserved : tie.Need-loop-wrong-preserved invariant-loop-wrong decreases-loop-wrong
+loop-wrong-preserved c = (failed c.before.before c.if-group.false, omega arith)
 
-add-choices : tie.Need-overflow-add-choices invariant-loop decreases-loop
-add-choices c = search rules
+overflow_add-t-2 : tie.Need-overflow_add-t-2 invariant-loop-wrong decreases-loop-wrong
+overflow_add-t-2 c = search rules
 
-choices-requires : tie.Need-choices-requires invariant-loop decreases-loop
+choices-requires : tie.Need-choices-requires invariant-loop-wrong decreases-loop-wrong
 choices-requires c κs =
-    let k = c.before.loop.invariant.0 in
+    let k = c.loop-wrong.invariant.0 in
     ((k.bounded, omega (arith, k.degree)), k.points.0)
 
-decoded-requires-2 : tie.Need-decoded-requires-2 invariant-loop decreases-loop
+decoded-requires-2 : tie.Need-decoded-requires-2 invariant-loop-wrong decreases-loop-wrong
 decoded-requires-2 c κs = search rules
 
-returns-3 : tie.Need-returns-3 invariant-loop decreases-loop
-returns-3 c =
+returns : tie.Need-returns invariant-loop-wrong decreases-loop-wrong
+returns c =
     let turn = c.before.before.before in
-    let k = turn.loop in
-    c.decoded2.ensures
-    ∙ groups-last _ (prime-at turn) _ _ _ _ k.i k.left k.wrong k.invariant.0 _ c.before.choices.ensures
+    let k = turn.loop-wrong in
+    c.decoded-2.ensures
+    ∙ groups-last _ (prime-at turn) _ _ _ _ k.i k.left k.wrong k.invariant.0 _ c.choices.ensures
 
-pub groups-spec : {M : Type 1} → statement M
-groups-spec =
+pub groups_spec : {M : Type 1} → statement M
+groups_spec =
     tie.close
     (tie.spec
-    invariant-loop
-    decreases-loop
-    modulus-requires
-    loop-holds
-    mul-loop
-    add-loop
-    add-loop-2
-    add-behind
-    behind-requires
-    add_left
-    sub-left
-    sub-wrong
-    add-next
-    next-requires
+    invariant-loop-wrong
+    decreases-loop-wrong
+    modulus-p-requires
+    loop-wrong-init
+    overflow_mul-t
+    overflow_add-t
+    overflow_add-t-in-loop-wrong
+    overflow_add-t-in-loop-wrong-2
+    behind-i-requires
+    overflow_add-left
+    overflow_sub-left
+    overflow_sub-wrong
+    overflow_add-t-in-loop-wrong-3
+    next-group-requires
     decoded-requires
-    returns
+    returns-then-group
     nothing-requires
-    returns-2
-    loop-less
-    loop-again
-    add-choices
+    returns-then-wrong-eq0
+    loop-wrong-smaller
+    loop-wrong-preserved
+    overflow_add-t-2
     choices-requires
     decoded-requires-2
-    returns-3)
+    returns)

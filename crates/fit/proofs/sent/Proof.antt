@@ -9,59 +9,59 @@ use Rattle.fit.proofs.Counting.{sent-start, sent-more, sent-same}
 use Rattle.fit.proofs.sent.Statement.{statement}
 use Rattle.fit.proofs.sent.Tie as tie
 
-abbrev invariant-loop : tie.invariant-loop
-invariant-loop p ys n₀ i₀ n i = (i ≤ length ys) × (n + i ≤ length ys) × (n ≡ sent p (drop i ys))
+abbrev invariant-loop-i : tie.invariant-loop-i
+invariant-loop-i p ys n₀ i₀ n i = (i ≤ length ys) × (n + i ≤ length ys) × (n ≡ sent p (drop i ys))
 
-abbrev decreases-loop : tie.decreases-loop
-decreases-loop p ys n₀ i₀ n i = i
+abbrev decreases-loop-i : tie.decreases-loop-i
+decreases-loop-i p ys n₀ i₀ n i = i
 
-loop-holds : tie.Need-loop-init invariant-loop decreases-loop
-loop-holds c = (omega arith, omega arith, sent-start _ c.args.ys.now)
+loop-i-init : tie.Need-loop-i-init invariant-loop-i decreases-loop-i
+loop-i-init c = (omega arith, omega arith, sent-start _ c.args.ys.now)
 
-sub-i : tie.Need-overflow-sub-i invariant-loop decreases-loop
-sub-i c = search rules
+overflow_sub-i : tie.Need-overflow_sub-i invariant-loop-i decreases-loop-i
+overflow_sub-i c = search rules
 
-mul-if1 : tie.Need-overflow-mul-if1 invariant-loop decreases-loop
-mul-if1 c = search rules
+offset_bounds-ys-i : tie.Need-offset_bounds-ys-i invariant-loop-i decreases-loop-i
+offset_bounds-ys-i c = search rules
 
-shared-slice-read-if1 : tie.Need-shared-slice-read-if1 invariant-loop decreases-loop
-shared-slice-read-if1 c = search rules
+bounds-ys-i : tie.Need-bounds-ys-i invariant-loop-i decreases-loop-i
+bounds-ys-i c = search rules
 
-add-n : tie.Need-overflow-add-n invariant-loop decreases-loop
-add-n c = search rules
+overflow_add-n : tie.Need-overflow_add-n invariant-loop-i decreases-loop-i
+overflow_add-n c = search rules
 
-loop-less : tie.Need-loop-smaller invariant-loop decreases-loop
-loop-less c = search rules
+loop-i-smaller-then-ys-i : tie.Need-loop-i-smaller-then-ys-i invariant-loop-i decreases-loop-i
+loop-i-smaller-then-ys-i c = search rules
 
-loop-again : tie.Need-loop-preserved invariant-loop decreases-loop
-loop-again c =
-    let k = c.before.before.before.loop in
-    (omega arith, omega arith, sent-more _ _ k.i k.n (omega arith) (omega arith) k.invariant.2 c.if1.true)
+loop-i-preserved-then-ys-i : tie.Need-loop-i-preserved-then-ys-i invariant-loop-i decreases-loop-i
+loop-i-preserved-then-ys-i c =
+    let k = c.loop-i in
+    (omega arith, omega arith, sent-more _ _ k.i k.n (omega arith) (omega arith) k.invariant.2 c.if-ys-i.true)
 
-loop-less-2 : tie.Need-loop-smaller-2 invariant-loop decreases-loop
-loop-less-2 c = search rules
+loop-i-smaller : tie.Need-loop-i-smaller invariant-loop-i decreases-loop-i
+loop-i-smaller c = search rules
 
-loop-again-2 : tie.Need-loop-preserved-2 invariant-loop decreases-loop
-loop-again-2 c =
-    let k = c.before.before.before.loop in
-    (omega arith, omega arith, sent-same _ _ k.i k.n (omega arith) (omega arith) k.invariant.2 c.if1.false)
+loop-i-preserved : tie.Need-loop-i-preserved invariant-loop-i decreases-loop-i
+loop-i-preserved c =
+    let k = c.loop-i in
+    (omega arith, omega arith, sent-same _ _ k.i k.n (omega arith) (omega arith) k.invariant.2 c.if-ys-i.false)
 
-returns : tie.Need-returns invariant-loop decreases-loop
-returns c = let z : c.before.loop.i ≡ 0 = omega arith in rw z at c.before.loop.invariant.2
+returns : tie.Need-returns invariant-loop-i decreases-loop-i
+returns c = let z : c.loop-i.i ≡ 0 = omega arith in rw z at c.loop-i.invariant.2
 
-pub sent-spec : {M : Type 1} → statement M
-sent-spec =
+pub sent_spec : {M : Type 1} → statement M
+sent_spec =
     tie.close
     (tie.spec
-    invariant-loop
-    decreases-loop
-    loop-holds
-    sub-i
-    mul-if1
-    shared-slice-read-if1
-    add-n
-    loop-less
-    loop-again
-    loop-less-2
-    loop-again-2
+    invariant-loop-i
+    decreases-loop-i
+    loop-i-init
+    overflow_sub-i
+    offset_bounds-ys-i
+    bounds-ys-i
+    overflow_add-n
+    loop-i-smaller-then-ys-i
+    loop-i-preserved-then-ys-i
+    loop-i-smaller
+    loop-i-preserved
     returns)

@@ -12,30 +12,30 @@ use Rattle.writer.proofs.fill.Statement.{statement}
 use Rattle.writer.proofs.fill.Tie as tie
 
 -- ---- The way back from each place: to where the lists are known, and to the start
-abbrev start : tie.After-slice-known → tie.Start
+abbrev start : tie.After-slice_known-1 → tie.Start
 start c = c.before.before.before.before.before
 
-abbrev fitted₁ : tie.After-put-head → tie.After-slice-known
+abbrev fitted₁ : tie.After-put_head-first → tie.After-slice_known-1
 fitted₁ c = c.before.before
 
-abbrev fitted₂ : tie.After-put → tie.After-slice-known
+abbrev fitted₂ : tie.After-put-second → tie.After-slice_known-1
 fitted₂ c = fitted₁ c.before.before.before.before
 
-abbrev fitted₃ : tie.After-put2 → tie.After-slice-known
+abbrev fitted₃ : tie.After-put-third → tie.After-slice_known-1
 fitted₃ c = fitted₂ c.before.before.before.before
 
-abbrev fitted₄ : tie.After-put3 → tie.After-slice-known
+abbrev fitted₄ : tie.After-put-fourth → tie.After-slice_known-1
 fitted₄ c = fitted₃ c.before.before.before.before
 
-abbrev fitted₅ : tie.After-put4 → tie.After-slice-known
+abbrev fitted₅ : tie.After-put → tie.After-slice_known-1
 fitted₅ c = fitted₄ c.before.before.before.before
 
 -- ---- All is writable
-fit : (c : tie.After-slice-known) → let a = (start c).args in
+fit : (c : tie.After-slice_known-1) → let a = (start c).args in
     Writable Narrow a.n a.t a.deals.now a.pairs.now a.reports.now a.shares.now (length a.out.now)
 fit c = writable-facts _ _ _ _ _ _ _ _ (start c).requires
 
-room : (c : tie.After-slice-known) → 18 ≤ length (start c).args.out.now
+room : (c : tie.After-slice_known-1) → 18 ≤ length (start c).args.out.now
 room c = let s = start c in omega (arith, (fit c).whole, record-head Narrow s.args.n s.args.t)
 
 -- ---- The buffer after the directory, and after each section
@@ -57,63 +57,63 @@ upto-reports s = upto-pairs s ++ bytes_of s.args.reports.now
 abbrev upto-shares : tie.Start → List ℕ
 upto-shares s = upto-reports s ++ bytes_of s.args.shares.now
 
-stage₁ : (c : tie.After-put-head) → let s = start (fitted₁ c) in At s (head s) 0 c.put-head.result c.put-head.new.1.1.1.0
-stage₁ c = stage-head Narrow _ _ _ (fit (fitted₁ c)).whole _ _ c.put-head.ensures.0 c.put-head.ensures.1
+stage₁ : (c : tie.After-put_head-first) → let s = start (fitted₁ c) in At s (head s) 0 c.put_head-first.result c.put_head-first.new.out
+stage₁ c = stage-head Narrow _ _ _ (fit (fitted₁ c)).whole _ _ c.put_head-first.ensures.0 c.put_head-first.ensures.1
 
-stage₂ : (c : tie.After-put) → let s = start (fitted₂ c) in At s (upto-deals s) 1 c.put.result c.put.new.1.1.0
+stage₂ : (c : tie.After-put-second) → let s = start (fitted₂ c) in At s (upto-deals s) 1 c.put-second.result c.put-second.new.out
 stage₂ c =
     let f = fit (fitted₂ c) in
-    let e = c.put.ensures in
+    let e = c.put-second.ensures in
     stage-next Narrow _ _ _ f.whole _ 0 _ _ (stage₁ c.before.before.before.before) (omega arith) _ f.first _ _ e.0 e.1
 
-stage₃ : (c : tie.After-put2) → let s = start (fitted₃ c) in At s (upto-pairs s) 2 c.put2.result c.put2.new.1.1.0
+stage₃ : (c : tie.After-put-third) → let s = start (fitted₃ c) in At s (upto-pairs s) 2 c.put-third.result c.put-third.new.out
 stage₃ c =
     let f = fit (fitted₃ c) in
-    let e = c.put2.ensures in
+    let e = c.put-third.ensures in
     stage-next Narrow _ _ _ f.whole _ 1 _ _ (stage₂ c.before.before.before.before) (omega arith) _ f.second _ _ e.0 e.1
 
-stage₄ : (c : tie.After-put3) → let s = start (fitted₄ c) in At s (upto-reports s) 3 c.put3.result c.put3.new.1.1.0
+stage₄ : (c : tie.After-put-fourth) → let s = start (fitted₄ c) in At s (upto-reports s) 3 c.put-fourth.result c.put-fourth.new.out
 stage₄ c =
     let f = fit (fitted₄ c) in
-    let e = c.put3.ensures in
+    let e = c.put-fourth.ensures in
     stage-next Narrow _ _ _ f.whole _ 2 _ _ (stage₃ c.before.before.before.before) (omega arith) _ f.third _ _ e.0 e.1
 
-stage₅ : (c : tie.After-put4) → let s = start (fitted₅ c) in At s (upto-shares s) 4 c.put4.result c.put4.new.1.1.0
+stage₅ : (c : tie.After-put) → let s = start (fitted₅ c) in At s (upto-shares s) 4 c.put.result c.put.new.out
 stage₅ c =
     let f = fit (fitted₅ c) in
-    let e = c.put4.ensures in
+    let e = c.put.ensures in
     stage-next Narrow _ _ _ f.whole _ 3 _ _ (stage₄ c.before.before.before.before) (omega arith) _ f.fourth _ _ e.0 e.1
 
 -- ---- The needs
-put-head-requires : tie.Need-put-head-requires
-put-head-requires c κs = let e = c.before in ((fit e).size, room e)
+put_head-first-requires : tie.Need-put_head-first-requires
+put_head-first-requires c κs = let e = c.before in ((fit e).size, room e)
 
-put-requires : tie.Need-put-requires
-put-requires c κs =
+put-second-requires : tie.Need-put-second-requires
+put-second-requires c κs =
     let p = c.before.before.before in
     let e = fitted₁ p in
     stage-room Narrow _ _ _ (fit e).whole _ 0 _ _ (stage₁ p) (omega arith) (start e).args.deals.now (fit e).first
 
-put-requires-2 : tie.Need-put-requires-2
-put-requires-2 c κs =
+put-third-requires : tie.Need-put-third-requires
+put-third-requires c κs =
     let p = c.before.before.before in
     let e = fitted₂ p in
     stage-room Narrow _ _ _ (fit e).whole _ 1 _ _ (stage₂ p) (omega arith) (start e).args.pairs.now (fit e).second
 
-put-requires-3 : tie.Need-put-requires-3
-put-requires-3 c κs =
+put-fourth-requires : tie.Need-put-fourth-requires
+put-fourth-requires c κs =
     let p = c.before.before.before in
     let e = fitted₃ p in
     stage-room Narrow _ _ _ (fit e).whole _ 2 _ _ (stage₃ p) (omega arith) (start e).args.reports.now (fit e).third
 
-put-requires-4 : tie.Need-put-requires-4
-put-requires-4 c κs =
+put-requires : tie.Need-put-requires
+put-requires c κs =
     let p = c.before.before.before in
     let e = fitted₄ p in
     stage-room Narrow _ _ _ (fit e).whole _ 3 _ _ (stage₄ p) (omega arith) (start e).args.shares.now (fit e).fourth
 
-same_length : tie.Need-same-length
-same_length c = begun-length _ _ _ _ (stage₅ c.before.before).begun
+shape_of-out : tie.Need-shape_of-out
+shape_of-out c = begun-length _ _ _ _ (stage₅ c.before.before).begun
 
 returns : tie.Need-returns
 returns c = stage-end Narrow _ _ _ _ _ _ _ (fit (fitted₅ c.before.before)) _ _ (stage₅ c.before.before)
@@ -122,10 +122,10 @@ pub fill_spec : {M : Type 1} → statement M
 fill_spec =
     tie.close
     (tie.spec
-    put-head-requires
+    put_head-first-requires
+    put-second-requires
+    put-third-requires
+    put-fourth-requires
     put-requires
-    put-requires-2
-    put-requires-3
-    put-requires-4
-    same_length
+    shape_of-out
     returns)

@@ -7,23 +7,28 @@ use borrow.Author.Rules.{rules}
 use Rattle.writer.proofs.first_byte.Statement.{statement}
 use Rattle.writer.proofs.first_byte.Tie as tie
 
-enum_told : tie.Need-enum-told
-enum_told c = search rules
+enum_told-1 : tie.Need-enum_told-1
+enum_told-1 c = search rules
 
-enum-told-2 : tie.Need-enum-told-2
-enum-told-2 c = search rules
+enum_told-in-Wide : tie.Need-enum_told-in-Wide
+enum_told-in-Wide c = search rules
 
-add-result : tie.Need-overflow-add-result
-add-result c = search rules
+overflow_add-result : tie.Need-overflow_add-result
+overflow_add-result c = search rules
 
-returns : tie.Need-returns
-returns c =
-    let n : ℕ = c.before.before.args.n in
+returns-in-Narrow : tie.Need-returns-in-Narrow
+returns-in-Narrow c =
+    let n : ℕ = c.args.n in
     let same : n ≡ 0 + n = omega arith in
-    same ∙ sym (ap (λ v. mark v + n) c.enum_told.given.1)
+    same ∙ sym (ap (λ v. mark v + n) c.in-Narrow.is)
 
-returns-2 : tie.Need-returns-2
-returns-2 c = sym (ap (λ v. mark v + c.before.before.args.n) c.enum-told2.given.1)
+returns-in-Wide : tie.Need-returns-in-Wide
+returns-in-Wide c = sym (ap (λ v. mark v + c.args.n) c.in-Wide.is)
 
-pub first-byte-spec : {M : Type 1} → statement M
-first-byte-spec = tie.close (tie.spec enum_told enum-told-2 add-result returns returns-2)
+pub first_byte_spec : {M : Type 1} → statement M
+first_byte_spec = tie.close (tie.spec
+    enum_told-1
+    enum_told-in-Wide
+    overflow_add-result
+    returns-in-Narrow
+    returns-in-Wide)

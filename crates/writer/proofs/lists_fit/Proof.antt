@@ -12,105 +12,105 @@ use borrow.Author.Rules.{rules}
 use Rattle.writer.proofs.lists_fit.Statement.{statement}
 use Rattle.writer.proofs.lists_fit.Tie as tie
 
-mul-if1 : tie.Need-overflow-mul-if1
-mul-if1 c = search rules
+overflow_mul-size : tie.Need-overflow_mul-size
+overflow_mul-size c = search rules
 
-add-if1 : tie.Need-overflow-add-if1
-add-if1 c = search rules
+overflow_add-t : tie.Need-overflow_add-t
+overflow_add-t c = search rules
 
-mul-if1-2 : tie.Need-overflow-mul-if1-2
-mul-if1-2 c = omega (arith, counts-small _ _ c.requires)
+overflow_mul-size-2 : tie.Need-overflow_mul-size-2
+overflow_mul-size-2 c = omega (arith, counts-small _ _ c.requires)
 
-returns : tie.Need-returns
+returns-then-deals-size : tie.Need-returns-then-deals-size
 unfolding lists_fit
-returns c = simp (ne_eqb _ _ c.if1.true)
+returns-then-deals-size c = simp (ne_eqb _ _ c.if-deals-size.true)
 
-mul-if2 : tie.Need-overflow-mul-if2
-mul-if2 c = search rules
+overflow_mul-size-3 : tie.Need-overflow_mul-size-3
+overflow_mul-size-3 c = search rules
 
-mul-if2-2 : tie.Need-overflow-mul-if2-2
-mul-if2-2 c = omega (arith, counts-small _ _ c.before.requires)
+overflow_mul-size-4 : tie.Need-overflow_mul-size-4
+overflow_mul-size-4 c = omega (arith, counts-small _ _ c.requires)
 
-returns-2 : tie.Need-returns-2
+returns-then-pairs-size : tie.Need-returns-then-pairs-size
 unfolding lists_fit
-returns-2 c = simp (eq-eqb _ _ c.before.if1.false, ne_eqb _ _ c.if2.true)
+returns-then-pairs-size c = simp (eq-eqb _ _ c.if-deals-size.false, ne_eqb _ _ c.if-pairs-size.true)
 
-returns-3 : tie.Need-returns-3
+returns-then-reports-size : tie.Need-returns-then-reports-size
 unfolding lists_fit
-returns-3 c = simp (eq-eqb _ _ c.before.before.if1.false, eq-eqb _ _ c.before.if2.false, ne_eqb _ _ c.if3.true)
+returns-then-reports-size c = simp (eq-eqb _ _ c.if-deals-size.false, eq-eqb _ _ c.if-pairs-size.false, ne_eqb _ _ c.if-reports-size.true)
 
-returns-4 : tie.Need-returns-4
+returns-then-shares-size : tie.Need-returns-then-shares-size
 unfolding lists_fit
-returns-4 c =
+returns-then-shares-size c =
     let d = c.before.before in
-    simp (eq-eqb _ _ d.before.if1.false, eq-eqb _ _ d.if2.false, eq-eqb _ _ c.before.if3.false, ne_eqb _ _ c.if4.true)
+    simp (eq-eqb _ _ d.if-deals-size.false, eq-eqb _ _ d.if-pairs-size.false, eq-eqb _ _ c.if-reports-size.false, ne_eqb _ _ c.if-shares-size.true)
 
 -- The sum of the lengths is small, and so is its product.
-small : (c : tie.After-number-bytes) → let s = c.before.before.before.before.before.args in
+small : (c : tie.After-number_bytes-each) → let s = c.args in
     let all : ℕ = s.deals + s.pairs + s.n in
-    (s.deals ≤ 128) × (s.pairs ≤ 512) × (s.n ≤ 16) × (c.number-bytes.result * all ≤ 2624)
+    (s.deals ≤ 128) × (s.pairs ≤ 512) × (s.n ≤ 16) × (c.number_bytes-each.result * all ≤ 2624)
 small c =
     let s = c.before.before.before.before.before in
     let all : ℕ = s.args.deals + s.args.pairs + s.args.n in
     let (deals, pairs, each) = counts-small _ _ s.requires in
-    let d : s.args.deals ≤ 128 = omega (arith, c.before.before.before.before.if1.false, deals) in
-    let p : s.args.pairs ≤ 512 = omega (arith, c.before.before.before.if2.false, pairs) in
-    (d, p, each, mul-le-mul {n₁ = c.number-bytes.result} {m₁ = all} {n₂ = 4} {m₂ = 656} c.number-bytes.ensures.1 (omega arith))
+    let d : s.args.deals ≤ 128 = omega (arith, c.if-deals-size.false, deals) in
+    let p : s.args.pairs ≤ 512 = omega (arith, c.if-pairs-size.false, pairs) in
+    (d, p, each, mul-le-mul {n₁ = c.number_bytes-each.result} {m₁ = all} {n₂ = 4} {m₂ = 656} c.number_bytes-each.ensures.1 (omega arith))
 
-number-bytes-requires : tie.Need-number-bytes-requires
-number-bytes-requires c κs = search rules
+number_bytes-each-requires : tie.Need-number_bytes-each-requires
+number_bytes-each-requires c κs = search rules
 
-cast-each : tie.Need-overflow-cast-each
-cast-each c = search rules
+overflow_cast-each : tie.Need-overflow_cast-each
+overflow_cast-each c = search rules
 
-add-result : tie.Need-overflow-add-result
-add-result c = omega (arith, small c)
+overflow_add-result : tie.Need-overflow_add-result
+overflow_add-result c = omega (arith, small c)
 
-add-result-2 : tie.Need-overflow-add-result-2
-add-result-2 c = omega (arith, small c)
+overflow_add-result-2 : tie.Need-overflow_add-result-2
+overflow_add-result-2 c = omega (arith, small c)
 
-mul-result : tie.Need-overflow-mul-result
-mul-result c = omega (arith, small c)
+overflow_mul-result : tie.Need-overflow_mul-result
+overflow_mul-result c = omega (arith, small c)
 
-add-result-3 : tie.Need-overflow-add-result-3
-add-result-3 c = omega (arith, small c)
+overflow_add-result-3 : tie.Need-overflow_add-result-3
+overflow_add-result-3 c = omega (arith, small c)
 
-mul-result-2 : tie.Need-overflow-mul-result-2
-mul-result-2 c = omega (arith, small c)
+overflow_mul-result-2 : tie.Need-overflow_mul-result-2
+overflow_mul-result-2 c = omega (arith, small c)
 
-add-result-4 : tie.Need-overflow-add-result-4
-add-result-4 c = omega (arith, small c)
+overflow_add-result-4 : tie.Need-overflow_add-result-4
+overflow_add-result-4 c = omega (arith, small c)
 
-returns-5 : tie.Need-returns-5
+returns : tie.Need-returns
 unfolding lists_fit
-returns-5 c =
+returns c =
     let f = c.before in
     let d = f.before.before in
-    let s = d.before.before.args in
-    let first = d.before.if1.false in
-    let second = d.if2.false in
-    simp (eq-eqb _ _ first, eq-eqb _ _ second, eq-eqb _ _ f.before.if3.false, eq-eqb _ _ f.if4.false)
-    (ap (λ z. leb z s.room) (room-sum s.w _ _ _ _ _ first second c.number-bytes.ensures.0))
+    let s = d.args in
+    let first = d.if-deals-size.false in
+    let second = d.if-pairs-size.false in
+    simp (eq-eqb _ _ first, eq-eqb _ _ second, eq-eqb _ _ f.if-reports-size.false, eq-eqb _ _ f.if-shares-size.false)
+    (ap (λ z. leb z s.room) (room-sum s.w _ _ _ _ _ first second c.number_bytes-each.ensures.0))
 
-pub lists-fit-spec : {M : Type 1} → statement M
-lists-fit-spec =
+pub lists_fit_spec : {M : Type 1} → statement M
+lists_fit_spec =
     tie.close
     (tie.spec
-    mul-if1
-    add-if1
-    mul-if1-2
-    returns
-    mul-if2
-    mul-if2-2
-    returns-2
-    returns-3
-    returns-4
-    number-bytes-requires
-    cast-each
-    add-result
-    add-result-2
-    mul-result
-    add-result-3
-    mul-result-2
-    add-result-4
-    returns-5)
+    overflow_mul-size
+    overflow_add-t
+    overflow_mul-size-2
+    returns-then-deals-size
+    overflow_mul-size-3
+    overflow_mul-size-4
+    returns-then-pairs-size
+    returns-then-reports-size
+    returns-then-shares-size
+    number_bytes-each-requires
+    overflow_cast-each
+    overflow_add-result
+    overflow_add-result-2
+    overflow_mul-result
+    overflow_add-result-3
+    overflow_mul-result-2
+    overflow_add-result-4
+    returns)

@@ -8,73 +8,73 @@ use Rattle.writer.proofs.Loops.{Putting, put-start, put_next, put-end}
 use Rattle.writer.proofs.put.Statement.{statement}
 use Rattle.writer.proofs.put.Tie as tie
 
-abbrev invariant-loop : tie.invariant-loop
-invariant-loop list at out₀ i₀ place₀ out i place = Putting Narrow list at out₀ out i place
+abbrev invariant-loop-i : tie.invariant-loop-i
+invariant-loop-i list at out₀ i₀ place₀ out i place = Putting Narrow list at out₀ out i place
 
-abbrev decreases-loop : tie.decreases-loop
-decreases-loop list at out₀ i₀ place₀ out i place = length list - i
+abbrev decreases-loop-i : tie.decreases-loop-i
+decreases-loop-i list at out₀ i₀ place₀ out i place = length list - i
 
-loop-holds : tie.Need-loop-init invariant-loop decreases-loop
-loop-holds c = put-start Narrow _ _ _ c.before.before.requires
+loop-i-init : tie.Need-loop-i-init invariant-loop-i decreases-loop-i
+loop-i-init c = put-start Narrow _ _ _ c.requires
 
-mul-x : tie.Need-overflow-mul-x invariant-loop decreases-loop
-mul-x c = search rules
+offset_bounds-list-i : tie.Need-offset_bounds-list-i invariant-loop-i decreases-loop-i
+offset_bounds-list-i c = search rules
 
-shared-slice-read-x : tie.Need-shared-slice-read-x invariant-loop decreases-loop
-shared-slice-read-x c = search rules
+bounds-list-i : tie.Need-bounds-list-i invariant-loop-i decreases-loop-i
+bounds-list-i c = search rules
 
-high-requires : tie.Need-high-requires invariant-loop decreases-loop
+high-requires : tie.Need-high-requires invariant-loop-i decreases-loop-i
 high-requires c κs = search rules
 
-slice-write-out : tie.Need-slice-write-out invariant-loop decreases-loop
-slice-write-out c = search rules
+bounds-out-place : tie.Need-bounds-out-place invariant-loop-i decreases-loop-i
+bounds-out-place c = search rules
 
-low-requires : tie.Need-low-requires invariant-loop decreases-loop
+low-requires : tie.Need-low-requires invariant-loop-i decreases-loop-i
 low-requires c κs = search rules
 
-add-out : tie.Need-overflow-add-out invariant-loop decreases-loop
-add-out c = search rules
+overflow_add-out : tie.Need-overflow_add-out invariant-loop-i decreases-loop-i
+overflow_add-out c = search rules
 
-slice-write-out-2 : tie.Need-slice-write-out-2 invariant-loop decreases-loop
-slice-write-out-2 c = let k = c.before.before.before.before.loop in simp length-set (omega arith)
+bounds-out-place-in-loop-i : tie.Need-bounds-out-place-in-loop-i invariant-loop-i decreases-loop-i
+bounds-out-place-in-loop-i c = let k = c.loop-i in simp length-set (omega arith)
 
-add-place : tie.Need-overflow-add-place invariant-loop decreases-loop
-add-place c = search rules
+overflow_add-place : tie.Need-overflow_add-place invariant-loop-i decreases-loop-i
+overflow_add-place c = search rules
 
-add-i : tie.Need-overflow-add-i invariant-loop decreases-loop
-add-i c = search rules
+overflow_add-i : tie.Need-overflow_add-i invariant-loop-i decreases-loop-i
+overflow_add-i c = search rules
 
-loop-less : tie.Need-loop-smaller invariant-loop decreases-loop
-loop-less c = search rules
+loop-i-smaller : tie.Need-loop-i-smaller invariant-loop-i decreases-loop-i
+loop-i-smaller c = search rules
 
-loop-again : tie.Need-loop-preserved invariant-loop decreases-loop
-loop-again c =
-    let k = c.before.before.before.before.loop in
-    put_next _ _ _ k.out k.i k.place k.invariant _ _ (omega arith) c.before.high.ensures c.low.ensures
+loop-i-preserved : tie.Need-loop-i-preserved invariant-loop-i decreases-loop-i
+loop-i-preserved c =
+    let k = c.loop-i in
+    put_next _ _ _ k.out k.i k.place k.invariant _ _ (omega arith) c.high.ensures c.low.ensures
 
-same_length : tie.Need-same-length invariant-loop decreases-loop
-same_length c = search rules
+shape_of-out : tie.Need-shape_of-out invariant-loop-i decreases-loop-i
+shape_of-out c = search rules
 
-returns : tie.Need-returns invariant-loop decreases-loop
-returns c = let k = c.before.loop in put-end Narrow _ _ _ k.out k.i k.place k.invariant (omega arith)
+returns : tie.Need-returns invariant-loop-i decreases-loop-i
+returns c = let k = c.loop-i in put-end Narrow _ _ _ k.out k.i k.place k.invariant (omega arith)
 
 pub put_spec : {M : Type 1} → statement M
 put_spec =
     tie.close
     (tie.spec
-    invariant-loop
-    decreases-loop
-    loop-holds
-    mul-x
-    shared-slice-read-x
+    invariant-loop-i
+    decreases-loop-i
+    loop-i-init
+    offset_bounds-list-i
+    bounds-list-i
     high-requires
-    slice-write-out
+    bounds-out-place
     low-requires
-    add-out
-    slice-write-out-2
-    add-place
-    add-i
-    loop-less
-    loop-again
-    same_length
+    overflow_add-out
+    bounds-out-place-in-loop-i
+    overflow_add-place
+    overflow_add-i
+    loop-i-smaller
+    loop-i-preserved
+    shape_of-out
     returns)

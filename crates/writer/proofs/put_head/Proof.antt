@@ -11,34 +11,34 @@ use Rattle.writer.proofs.put_head.Statement.{statement}
 use Rattle.writer.proofs.put_head.Tie as tie
 
 -- The sizes are legal, and the directory has eight numbers.
-whole : (c : tie.After-directory) → let a = c.before.before.before.args in
-    c.directory.result ≡ directory a.w a.n a.t
-whole c = c.directory.ensures ∙ directory-legal _ _ _ c.before.before.before.requires.0
+whole : (c : tie.After-directory-numbers) → let a = c.args in
+    c.directory-numbers.result ≡ directory a.w a.n a.t
+whole c = c.directory-numbers.ensures ∙ directory-legal _ _ _ c.requires.0
 
-eight : (c : tie.After-directory) → length c.directory.result ≡ 8
-eight c = let a = c.before.before.before.args in ap length (whole c) ∙ length-directory a.w a.n a.t
+eight : (c : tie.After-directory-numbers) → length c.directory-numbers.result ≡ 8
+eight c = let a = c.args in ap length (whole c) ∙ length-directory a.w a.n a.t
 
-first-byte-requires : tie.Need-first-byte-requires
-first-byte-requires c κs = (sizes-facts _ _ c.before.requires.0).3
+first_byte-requires : tie.Need-first_byte-requires
+first_byte-requires c κs = (sizes-facts _ _ c.requires.0).3
 
-slice-write-out : tie.Need-slice-write-out
-slice-write-out c = search rules
+bounds-out-0 : tie.Need-bounds-out-0
+bounds-out-0 c = search rules
 
-slice-write-out-2 : tie.Need-slice-write-out-2
-slice-write-out-2 c = simp length-set (omega arith)
+bounds-out-1 : tie.Need-bounds-out-1
+bounds-out-1 c = simp length-set (omega arith)
 
-directory-requires : tie.Need-directory-requires
-directory-requires c κs = search rules
+directory-numbers-requires : tie.Need-directory-numbers-requires
+directory-numbers-requires c κs = search rules
 
-slice-aggregate-put : tie.Need-slice-aggregate-put
-slice-aggregate-put c = search rules
+slice_bounds-put-end : tie.Need-slice_bounds-put-end
+slice_bounds-put-end c = search rules
 
 put-requires : tie.Need-put-requires
 put-requires c κs = simp length-set (omega (arith, eight c.before.before))
 
 -- What the two stores and the directory leave.
-left : (c : tie.After-put) → let a = c.before.before.before.before.before.before.args in
-    Headed a.w a.n a.t a.out.now c.put.result c.put.new.1.1.0
+left : (c : tie.After-put) → let a = c.args in
+    Headed a.w a.n a.t a.out.now c.put.result c.put.new.out
 left c =
     let d = c.before.before.before in
     let f = d.before in
@@ -46,21 +46,21 @@ left c =
     head-put s.args.w s.args.n s.args.t s.args.out.now s.requires.1 _ _ _ _ f.first_byte.ensures (whole d)
     c.put.ensures.0 c.put.ensures.1
 
-same_length : tie.Need-same-length
-same_length c = (left c.before.before).0
+shape_of-out : tie.Need-shape_of-out
+shape_of-out c = (left c.before.before).0
 
 returns : tie.Need-returns
 returns c = (left c.before.before).1
 
-pub put-head-spec : {M : Type 1} → statement M
-put-head-spec =
+pub put_head_spec : {M : Type 1} → statement M
+put_head_spec =
     tie.close
     (tie.spec
-    first-byte-requires
-    slice-write-out
-    slice-write-out-2
-    directory-requires
-    slice-aggregate-put
+    first_byte-requires
+    bounds-out-0
+    bounds-out-1
+    directory-numbers-requires
+    slice_bounds-put-end
     put-requires
-    same_length
+    shape_of-out
     returns)

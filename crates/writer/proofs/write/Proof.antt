@@ -20,37 +20,37 @@ abbrev start : tie.After-sizes → tie.Start
 start c = c.before.before.before.before.before.before
 
 -- The sizes have passed.
-sized : (c : tie.Else1) → let a = (start c.before).args in sizes a.n a.t ≡ true
-sized c = sym c.before.sizes.ensures ∙ not-false _ c.if1.false
+sized : (c : tie.Else-not-sizes) → let a = (start c.before).args in sizes a.n a.t ≡ true
+sized c = sym c.sizes.ensures ∙ c.if-not-sizes.false
 
 -- The lengths have passed, too.
-fit : (c : tie.Else2) → let a = (start c.before.before.before).args in
+fit : (c : tie.Else-not-lists_fit) → let a = (start c.before.before.before).args in
     writable Narrow a.n a.t a.deals.now a.pairs.now a.reports.now a.shares.now (length a.out.now) ≡ true
 unfolding writable
-fit c = simp (sized c.before.before, sym c.before.lists-fit.ensures ∙ not-false _ c.if2.false)
+fit c = simp (sized c.before.before, sym c.lists_fit.ensures ∙ c.if-not-lists_fit.false)
 
 sizes-requires : tie.Need-sizes-requires
 sizes-requires c κs = search rules
 
-returns : tie.Need-returns
-returns c = sym (writing-size _ _ _ _ _ _ _ _ (sym c.before.sizes.ensures ∙ not-true _ c.if1.true))
+returns-then-not-sizes : tie.Need-returns-then-not-sizes
+returns-then-not-sizes c = sym (writing-size _ _ _ _ _ _ _ _ (sym c.sizes.ensures ∙ c.if-not-sizes.true))
 
-lists-fit-requires : tie.Need-lists-fit-requires
-lists-fit-requires c κs = sized c
+lists_fit-requires : tie.Need-lists_fit-requires
+lists_fit-requires c κs = sized c
 
-returns-2 : tie.Need-returns-2
-returns-2 c =
-    sym (writing-length _ _ _ _ _ _ _ _ (sized c.before.before) (sym c.before.lists-fit.ensures ∙ not-true _ c.if2.true))
+returns-then-not-lists_fit : tie.Need-returns-then-not-lists_fit
+returns-then-not-lists_fit c =
+    sym (writing-length _ _ _ _ _ _ _ _ (sized c.before.before) (sym c.lists_fit.ensures ∙ c.if-not-lists_fit.true))
 
 fill-requires : tie.Need-fill-requires
 fill-requires c κs = fit c.before
 
-same_length : tie.Need-same-length
-same_length c = search rules
+shape_of-out : tie.Need-shape_of-out
+shape_of-out c = search rules
 
-returns-3 : tie.Need-returns-3
-returns-3 c =
-    ap₂ {C = List ℕ × Writing} (λ a b. (a, Written b)) c.before.before.fill.ensures.1 c.before.before.fill.ensures.0
+returns : tie.Need-returns
+returns c =
+    ap₂ {C = List ℕ × Writing} (λ a b. (a, Written b)) c.fill.ensures.1 c.fill.ensures.0
     ∙ sym (writing-written _ _ _ _ _ _ _ _ (fit c.before.before.before.before))
 
 pub write_spec : {M : Type 1} → statement M
@@ -58,9 +58,9 @@ write_spec =
     tie.close
     (tie.spec
     sizes-requires
-    returns
-    lists-fit-requires
-    returns-2
+    returns-then-not-sizes
+    lists_fit-requires
+    returns-then-not-lists_fit
     fill-requires
-    same_length
-    returns-3)
+    shape_of-out
+    returns)

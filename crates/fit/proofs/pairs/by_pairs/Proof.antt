@@ -12,137 +12,137 @@ use Rattle.fit.proofs.FivePairs.{Trying, apart, trying_start, trying-next, tryin
 use Rattle.fit.proofs.pairs.by_pairs.Statement.{statement}
 use Rattle.fit.proofs.pairs.by_pairs.Tie as tie
 
-abbrev invariant-loop : tie.invariant-loop
-invariant-loop w xs ys need sent px py firsts seconds k₀ k = Trying (prime_of w) need xs ys px py k
+abbrev invariant-loop-k : tie.invariant-loop-k
+invariant-loop-k w xs ys need sent px py firsts seconds k₀ k = Trying (prime_of w) need xs ys px py k
 
-abbrev decreases-loop : tie.decreases-loop
-decreases-loop w xs ys need sent px py firsts seconds k₀ k = 9 - k
+abbrev decreases-loop-k : tie.decreases-loop-k
+decreases-loop-k w xs ys need sent px py firsts seconds k₀ k = 9 - k
 
 -- The places that the proof names: the loop's turn, the ten points gathered, the start.
-abbrev turn : tie.After-test-pairs invariant-loop decreases-loop → tie.At-loop invariant-loop decreases-loop
+abbrev turn : tie.After-test_pairs-tested invariant-loop-k decreases-loop-k → tie.At-loop-k invariant-loop-k decreases-loop-k
 turn tested = tested.before.before.before.before
 
-abbrev gathered : tie.At-loop invariant-loop decreases-loop → tie.After-first-sent invariant-loop decreases-loop
+abbrev gathered : tie.At-loop-k invariant-loop-k decreases-loop-k → tie.After-first_sent invariant-loop-k decreases-loop-k
 gathered k = k.before.before.before
 
-abbrev start : tie.After-first-sent invariant-loop decreases-loop → tie.Start invariant-loop decreases-loop
+abbrev start : tie.After-first_sent invariant-loop-k decreases-loop-k → tie.Start invariant-loop-k decreases-loop-k
 start ten = ten.before.before.before.before.before.before
 
 -- The modulus is a prime.
-abbrev prime-at : (ten : tie.After-first-sent invariant-loop decreases-loop) → Prime (prime_of (start ten).args.w)
+abbrev prime-at : (ten : tie.After-first_sent invariant-loop-k decreases-loop-k) → Prime (prime_of (start ten).args.w)
 prime-at ten = prime-of (start ten).args.w
 
-modulus-requires : tie.Need-modulus-requires invariant-loop decreases-loop
+modulus-requires : tie.Need-modulus-requires invariant-loop-k decreases-loop-k
 modulus-requires c κs = search rules
 
-slice-aggregate-first-sent : tie.Need-slice-aggregate-first-sent invariant-loop decreases-loop
-slice-aggregate-first-sent c = search rules
+slice_bounds-first_sent-end : tie.Need-slice_bounds-first_sent-end invariant-loop-k decreases-loop-k
+slice_bounds-first_sent-end c = search rules
 
-slice-aggregate-first-sent-2 : tie.Need-slice-aggregate-first-sent-2 invariant-loop decreases-loop
-slice-aggregate-first-sent-2 c = search rules
+slice_bounds-first_sent-end-2 : tie.Need-slice_bounds-first_sent-end-2 invariant-loop-k decreases-loop-k
+slice_bounds-first_sent-end-2 c = search rules
 
-first-sent-requires : tie.Need-first-sent-requires invariant-loop decreases-loop
-first-sent-requires c κs =
+first_sent-requires : tie.Need-first_sent-requires invariant-loop-k decreases-loop-k
+first_sent-requires c κs =
     let called = c.before.before in
     let s = called.before.before.before in
     let same = ap (λ q. length (points_sent q s.args.xs.now s.args.ys.now)) called.modulus.ensures in
     ((s.requires.0.bounded.lengths, omega (arith, same, s.requires.0.size, s.requires.1)), omega arith)
 
-loop-holds : tie.Need-loop-init invariant-loop decreases-loop
-loop-holds c =
+loop-k-init : tie.Need-loop-k-init invariant-loop-k decreases-loop-k
+loop-k-init c =
     let ten = c.before.before in
     let s = start ten in
-    trying_start _ (prime-at ten) _ _ _ _ _ s.args.sent s.pre.0 s.pre.1 (omega arith) (omega arith)
-    (ten.first-sent.ensures.0
-    ∙ ap (λ q. take 10 (points_sent q s.args.xs.now s.args.ys.now)) ten.before.before.before.modulus.ensures)
+    trying_start _ (prime-at ten) _ _ _ _ _ s.args.sent s.requires.0 s.requires.1 (omega arith) (omega arith)
+    (ten.first_sent.ensures.0
+    ∙ ap (λ q. take 10 (points_sent q s.args.xs.now s.args.ys.now)) ten.modulus.ensures)
 
-mul-a : tie.Need-overflow-mul-a invariant-loop decreases-loop
-mul-a c = search rules
+offset_bounds-firsts-k : tie.Need-offset_bounds-firsts-k invariant-loop-k decreases-loop-k
+offset_bounds-firsts-k c = search rules
 
-array-read-a : tie.Need-array-read-a invariant-loop decreases-loop
-array-read-a c = search rules
+bounds-firsts-k : tie.Need-bounds-firsts-k invariant-loop-k decreases-loop-k
+bounds-firsts-k c = search rules
 
-mul-b : tie.Need-overflow-mul-b invariant-loop decreases-loop
-mul-b c = search rules
+offset_bounds-seconds-k : tie.Need-offset_bounds-seconds-k invariant-loop-k decreases-loop-k
+offset_bounds-seconds-k c = search rules
 
-array-read-b : tie.Need-array-read-b invariant-loop decreases-loop
-array-read-b c = search rules
+bounds-seconds-k : tie.Need-bounds-seconds-k invariant-loop-k decreases-loop-k
+bounds-seconds-k c = search rules
 
-test-pairs-requires : tie.Need-test-pairs-requires invariant-loop decreases-loop
-test-pairs-requires c κs =
+test_pairs-tested-requires : tie.Need-test_pairs-tested-requires invariant-loop-k decreases-loop-k
+test_pairs-tested-requires c κs =
     let k = c.before.before.before in
     let ten = gathered k in
     let s = start ten in
-    let far = apart k.loop.k (omega arith) in
-    let px = ten.first-sent.last.1.1.1.0 in
-    let py = ten.first-sent.last.1.1.1.1.0 in
-    let four = four-residues _ (prime-at ten) _ _ _ px py s.args.sent s.pre.0 s.pre.1 (omega arith) (omega arith)
-    k.loop.invariant.ten _ _ far.0 far.1 in
-    ((s.pre.0.bounded, omega (arith, far.0, far.1), far.1), (s.pre.0.points.0, four.0, four.1))
+    let far = apart k.loop-k.k (omega arith) in
+    let px = ten.first_sent.new.px in
+    let py = ten.first_sent.new.py in
+    let four = four-residues _ (prime-at ten) _ _ _ px py s.args.sent s.requires.0 s.requires.1 (omega arith) (omega arith)
+    k.loop-k.invariant.ten _ _ far.0 far.1 in
+    ((s.requires.0.bounded, omega (arith, far.0, far.1), far.1), (s.requires.0.points.0, four.0, four.1))
 
-decoded-requires : tie.Need-decoded-requires invariant-loop decreases-loop
+decoded-requires : tie.Need-decoded-requires invariant-loop-k decreases-loop-k
 decoded-requires c κs = search rules
 
-returns : tie.Need-returns invariant-loop decreases-loop
-returns c =
+returns-then-tested : tie.Need-returns-then-tested invariant-loop-k decreases-loop-k
+returns-then-tested c =
     let tested = c.before.before in
-    let k = (turn tested).loop in
+    let k = (turn tested).loop-k in
     let ten = gathered (turn tested) in
     let s = start ten in
     let far = apart k.k (omega arith) in
-    let px = ten.first-sent.last.1.1.1.0 in
-    let py = ten.first-sent.last.1.1.1.1.0 in
+    let px = ten.first_sent.new.px in
+    let py = ten.first_sent.new.py in
     c.decoded.ensures
-    ∙ pairs-found _ (prime-at ten) _ _ _ px py s.args.sent s.pre.0 s.pre.1 (omega arith) (omega arith) k.inv.ten _ _
-    far.0 far.1 _ tested.test-pairs.ensures c.before.if1.true
+    ∙ pairs-found _ (prime-at ten) _ _ _ px py s.args.sent s.requires.0 s.requires.1 (omega arith) (omega arith) k.invariant.ten _ _
+    far.0 far.1 _ tested.test_pairs-tested.ensures c.if-tested.true
 
-add-k : tie.Need-overflow-add-k invariant-loop decreases-loop
-add-k c = search rules
+overflow_add-k : tie.Need-overflow_add-k invariant-loop-k decreases-loop-k
+overflow_add-k c = search rules
 
-loop-less : tie.Need-loop-smaller invariant-loop decreases-loop
-loop-less c = search rules
+loop-k-smaller : tie.Need-loop-k-smaller invariant-loop-k decreases-loop-k
+loop-k-smaller c = search rules
 
-loop-again : tie.Need-loop-preserved invariant-loop decreases-loop
-loop-again c =
+loop-k-preserved : tie.Need-loop-k-preserved invariant-loop-k decreases-loop-k
+loop-k-preserved c =
     let tested = c.before in
-    let k = (turn tested).loop in
+    let k = (turn tested).loop-k in
     let ten = gathered (turn tested) in
     let s = start ten in
-    trying-next _ (prime-at ten) _ _ _ _ _ s.args.sent s.pre.0 s.pre.1 (omega arith) (omega arith) k.k k.inv (omega arith)
-    _ tested.test-pairs.ensures c.if1.false
+    trying-next _ (prime-at ten) _ _ _ _ _ s.args.sent s.requires.0 s.requires.1 (omega arith) (omega arith) k.k k.invariant (omega arith)
+    _ tested.test_pairs-tested.ensures c.if-tested.false
 
-nothing-requires : tie.Need-nothing-requires invariant-loop decreases-loop
+nothing-requires : tie.Need-nothing-requires invariant-loop-k decreases-loop-k
 nothing-requires c κs = search rules
 
-returns-2 : tie.Need-returns-2 invariant-loop decreases-loop
-returns-2 c =
+returns : tie.Need-returns invariant-loop-k decreases-loop-k
+returns c =
     let k = c.before.before in
     let ten = gathered k in
     let s = start ten in
     c.nothing.ensures
-    ∙ trying-end _ (prime-at ten) _ _ _ _ _ s.args.sent s.pre.0 s.pre.1 (omega arith) (omega arith) k.loop.k k.loop.invariant
+    ∙ trying-end _ (prime-at ten) _ _ _ _ _ s.args.sent s.requires.0 s.requires.1 (omega arith) (omega arith) k.loop-k.k k.loop-k.invariant
     (omega arith)
 
-pub by-pairs-spec : {M : Type 1} → statement M
-by-pairs-spec =
+pub by_pairs_spec : {M : Type 1} → statement M
+by_pairs_spec =
     tie.close
     (tie.spec
-    invariant-loop
-    decreases-loop
+    invariant-loop-k
+    decreases-loop-k
     modulus-requires
-    slice-aggregate-first-sent
-    slice-aggregate-first-sent-2
-    first-sent-requires
-    loop-holds
-    mul-a
-    array-read-a
-    mul-b
-    array-read-b
-    test-pairs-requires
+    slice_bounds-first_sent-end
+    slice_bounds-first_sent-end-2
+    first_sent-requires
+    loop-k-init
+    offset_bounds-firsts-k
+    bounds-firsts-k
+    offset_bounds-seconds-k
+    bounds-seconds-k
+    test_pairs-tested-requires
     decoded-requires
-    returns
-    add-k
-    loop-less
-    loop-again
+    returns-then-tested
+    overflow_add-k
+    loop-k-smaller
+    loop-k-preserved
     nothing-requires
-    returns-2)
+    returns)
