@@ -16,52 +16,52 @@ use Rattle.locator.proofs.all_zero.Tie as tie
 abbrev fine : ℕ → List ℕ → Bool
 fine a rest = eqb a 0
 
-abbrev invariant-loop : tie.invariant-loop
-invariant-loop list i₀ i = Passed all_zero list i
+abbrev invariant-loop-i : tie.invariant-loop-i
+invariant-loop-i list i₀ i = Passed all_zero list i
 
-abbrev decreases-loop : tie.decreases-loop
-decreases-loop list i₀ i = i
+abbrev decreases-loop-i : tie.decreases-loop-i
+decreases-loop-i list i₀ i = i
 
-loop-holds : tie.Need-loop-init invariant-loop decreases-loop
-loop-holds c = passed_start fine all_zero refl (λ a xs. refl) c.args.list.now
+loop-i-init : tie.Need-loop-i-init invariant-loop-i decreases-loop-i
+loop-i-init c = passed_start fine all_zero refl (λ a xs. refl) c.args.list.now
 
-sub-i : tie.Need-overflow-sub-i invariant-loop decreases-loop
-sub-i c = search rules
+overflow_sub-i : tie.Need-overflow_sub-i invariant-loop-i decreases-loop-i
+overflow_sub-i c = search rules
 
-mul-if1 : tie.Need-overflow-mul-if1 invariant-loop decreases-loop
-mul-if1 c = search rules
+offset_bounds-list-i : tie.Need-offset_bounds-list-i invariant-loop-i decreases-loop-i
+offset_bounds-list-i c = search rules
 
-shared-slice-read-if1 : tie.Need-shared-slice-read-if1 invariant-loop decreases-loop
-shared-slice-read-if1 c = search rules
+bounds-list-i : tie.Need-bounds-list-i invariant-loop-i decreases-loop-i
+bounds-list-i c = search rules
 
-returns : tie.Need-returns invariant-loop decreases-loop
-returns c =
-    let k = c.before.before.before.loop in
-    passed-not fine all_zero refl (λ a xs. refl) c.before.before.before.before.args.list.now k.i (omega arith) k.invariant.within
-    (ne_eqb _ 0 c.if1.true)
+returns-then-list-i-ne0 : tie.Need-returns-then-list-i-ne0 invariant-loop-i decreases-loop-i
+returns-then-list-i-ne0 c =
+    let k = c.loop-i in
+    passed-not fine all_zero refl (λ a xs. refl) c.args.list.now k.i (omega arith) k.invariant.within
+    (ne_eqb _ 0 c.if-list-i-ne0.true)
 
-loop-less : tie.Need-loop-smaller invariant-loop decreases-loop
-loop-less c = search rules
+loop-i-smaller : tie.Need-loop-i-smaller invariant-loop-i decreases-loop-i
+loop-i-smaller c = search rules
 
-loop-again : tie.Need-loop-preserved invariant-loop decreases-loop
-loop-again c =
-    let k = c.before.before.before.loop in
-    passed-next fine all_zero refl (λ a xs. refl) _ k.i (omega arith) k.invariant.within k.invariant.rest (eq-eqb _ 0 c.if1.false)
+loop-i-preserved : tie.Need-loop-i-preserved invariant-loop-i decreases-loop-i
+loop-i-preserved c =
+    let k = c.loop-i in
+    passed-next fine all_zero refl (λ a xs. refl) _ k.i (omega arith) k.invariant.within k.invariant.rest (eq-eqb _ 0 c.if-list-i-ne0.false)
 
-returns-2 : tie.Need-returns-2 invariant-loop decreases-loop
-returns-2 c = let k = c.before.loop in passed-end fine all_zero refl (λ a xs. refl) _ k.i (omega arith) k.invariant
+returns : tie.Need-returns invariant-loop-i decreases-loop-i
+returns c = let k = c.loop-i in passed-end fine all_zero refl (λ a xs. refl) _ k.i (omega arith) k.invariant
 
-pub all-zero-spec : {M : Type 1} → statement M
-all-zero-spec =
+pub all_zero_spec : {M : Type 1} → statement M
+all_zero_spec =
     tie.close
     (tie.spec
-    invariant-loop
-    decreases-loop
-    loop-holds
-    sub-i
-    mul-if1
-    shared-slice-read-if1
-    returns
-    loop-less
-    loop-again
-    returns-2)
+    invariant-loop-i
+    decreases-loop-i
+    loop-i-init
+    overflow_sub-i
+    offset_bounds-list-i
+    bounds-list-i
+    returns-then-list-i-ne0
+    loop-i-smaller
+    loop-i-preserved
+    returns)

@@ -28,7 +28,7 @@ use Rattle.locator.proofs.by_locator.Tie as tie
 sizes : (s : tie.Start) → let m = s.args.t + 1 + 2 * s.args.spare in (m ≤ 10) × (s.args.t + 1 ≤ 4)
 sizes s = (omega (arith, s.requires.0.0, s.requires.1.2), omega (arith, s.requires.0.0))
 
-module _ (c : tie.After-first-sent) where
+module _ (c : tie.After-first_sent) where
   abbrev s : tie.Start
   s = c.before.before.before.before.before.before
 
@@ -45,31 +45,31 @@ module _ (c : tie.After-first-sent) where
   ys = s.args.ys.now
 
   abbrev px : List ℕ
-  px = c.first-sent.new.1.1.1.0
+  px = c.first_sent.new.px
 
   abbrev py : List ℕ
-  py = c.first-sent.new.1.1.1.1.0
+  py = c.first_sent.new.py
 
   lent : length (take m (replicate {A = ℕ} 10 0)) ≡ m
   lent = length-take-le m (replicate 10 0) (sizes s).0
 
   size-x : length px ≡ m
-  size-x = c.first-sent.ensures.1 ∙ lent
+  size-x = c.first_sent.ensures.1 ∙ lent
 
   size-y : length py ≡ m
-  size-y = c.first-sent.ensures.2 ∙ lent
+  size-y = c.first_sent.ensures.2 ∙ lent
 
   gathered : points_of px py ≡ take m (points_sent p xs ys)
   gathered =
-      c.first-sent.ensures.0
-      ∙ ap (λ n. take n (points_sent c.before.before.before.modulus.result xs ys)) lent
-      ∙ ap (λ q. take m (points_sent q xs ys)) c.before.before.before.modulus.ensures
+      c.first_sent.ensures.0
+      ∙ ap (λ n. take n (points_sent c.modulus.result xs ys)) lent
+      ∙ ap (λ q. take m (points_sent q xs ys)) c.modulus.ensures
 
   fine : Points p px
-  fine = gathered-points p xs ys s.pre.0.2 m px py size-x size-y gathered
+  fine = gathered-points p xs ys s.requires.0.2 m px py size-x size-y gathered
 
   values : Residues p py
-  values = gathered-values p xs ys s.pre.0.2 m px py size-x size-y gathered
+  values = gathered-values p xs ys s.requires.0.2 m px py size-x size-y gathered
 
   -- The arrays that hold it in front, and what is lent of them.
   abbrev ax : List ℕ
@@ -106,81 +106,81 @@ module _ (c : tie.After-first-sent) where
     subst (Residues p) (sym (front-some m py size-y (sizes s).0 k (omega arith))) (all_take (λ c. c < p) k py values),
   )
 
-add-m : tie.Need-overflow-add-m
-add-m c = search rules
+overflow_add-m : tie.Need-overflow_add-m
+overflow_add-m c = search rules
 
-mul-m : tie.Need-overflow-mul-m
-mul-m c = search rules
+overflow_mul-m : tie.Need-overflow_mul-m
+overflow_mul-m c = search rules
 
-add-m-2 : tie.Need-overflow-add-m-2
-add-m-2 c = search rules
+overflow_add-m-2 : tie.Need-overflow_add-m-2
+overflow_add-m-2 c = search rules
 
 modulus-requires : tie.Need-modulus-requires
 modulus-requires c κs = search rules
 
-array-borrow-prefix-px : tie.Need-array-borrow-prefix-px
-array-borrow-prefix-px c = search rules
+slice_bounds-px-end : tie.Need-slice_bounds-px-end
+slice_bounds-px-end c = search rules
 
-slice-aggregate-first-sent : tie.Need-slice-aggregate-first-sent
-slice-aggregate-first-sent c = sym (length-take-le _ (replicate 10 0) (sizes c.before.before.before.before).0)
+slice_bounds-first_sent-end : tie.Need-slice_bounds-first_sent-end
+slice_bounds-first_sent-end c = sym (length-take-le _ (replicate 10 0) (sizes c.before.before.before.before).0)
 
-array-borrow-prefix-py : tie.Need-array-borrow-prefix-py
-array-borrow-prefix-py c = search rules
+slice_bounds-py-end : tie.Need-slice_bounds-py-end
+slice_bounds-py-end c = search rules
 
-slice-aggregate-first-sent-2 : tie.Need-slice-aggregate-first-sent-2
-slice-aggregate-first-sent-2 c = sym (length-take-le _ (replicate 10 0) (sizes c.before.before.before.before.before).0)
+slice_bounds-first_sent-end-2 : tie.Need-slice_bounds-first_sent-end-2
+slice_bounds-first_sent-end-2 c = sym (length-take-le _ (replicate 10 0) (sizes c.before.before.before.before.before).0)
 
-first-sent-requires : tie.Need-first-sent-requires
-first-sent-requires c κs =
+first_sent-requires : tie.Need-first_sent-requires
+first_sent-requires c κs =
     let s = c.before.before.before.before.before in
     let r = s.requires in
     let m = s.args.t + 1 + 2 * s.args.spare in
     let lent = length-take-le m (replicate {A = ℕ} 10 0) (sizes s).0 in
     let all = points-sent-all (prime_of s.args.w) s.args.xs.now s.args.ys.now r.0.1.lengths in
-    let same = ap (λ q. length (points_sent q s.args.xs.now s.args.ys.now)) c.before.before.modulus.ensures in
+    let same = ap (λ q. length (points_sent q s.args.xs.now s.args.ys.now)) c.modulus.ensures in
     ((r.0.1.lengths, omega (arith, lent, all, same, r.1.0, r.1.1, r.1.2)), refl)
 
-add-px : tie.Need-overflow-add-px
-add-px c = search rules
+overflow_add-px : tie.Need-overflow_add-px
+overflow_add-px c = search rules
 
-array-share-prefix-px : tie.Need-array-share-prefix-px
-array-share-prefix-px c = let g = c.before.before in omega (arith, (long g).0, (sizes (s g)).1)
+slice_bounds-px-end-2 : tie.Need-slice_bounds-px-end-2
+slice_bounds-px-end-2 c = let g = c.before.before in omega (arith, (long g).0, (sizes (s g)).1)
 
-slice-aggregate-next : tie.Need-slice-aggregate-next
-slice-aggregate-next c = sym (first-size c.before.before.before).0
+slice_bounds-next-end : tie.Need-slice_bounds-next-end
+slice_bounds-next-end c = sym (first-size c.before.before.before).0
 
-add-py : tie.Need-overflow-add-py
-add-py c = search rules
+overflow_add-py : tie.Need-overflow_add-py
+overflow_add-py c = search rules
 
-array-share-prefix-py : tie.Need-array-share-prefix-py
-array-share-prefix-py c = let g = c.before.before.before in omega (arith, (long g).1, (sizes (s g)).1)
+slice_bounds-py-end-2 : tie.Need-slice_bounds-py-end-2
+slice_bounds-py-end-2 c = let g = c.before.before.before in omega (arith, (long g).1, (sizes (s g)).1)
 
-slice-aggregate-next-2 : tie.Need-slice-aggregate-next-2
-slice-aggregate-next-2 c = sym (first-size c.before.before.before.before).1
+slice_bounds-next-end-2 : tie.Need-slice_bounds-next-end-2
+slice_bounds-next-end-2 c = sym (first-size c.before.before.before.before).1
 
-add-next : tie.Need-overflow-add-next
-add-next c = search rules
+overflow_add-t : tie.Need-overflow_add-t
+overflow_add-t c = search rules
 
-next-requires : tie.Need-next-requires
-next-requires c κs =
+next-first-requires : tie.Need-next-first-requires
+next-first-requires c κs =
     let g = c.before.before.before.before in
     let n = first-size g in
     ((record { lengths = n.0 ∙ sym n.1; most = omega (arith, n.0, (sizes (s g)).1) }, (sizes (s g)).1), (first_fine g).0)
 
-array-share-prefix-px-2 : tie.Need-array-share-prefix-px-2
-array-share-prefix-px-2 c = let g = c.before.before.before.before.before.before in omega (arith, (sizes (s g)).0, (long g).0)
+slice_bounds-px-end-3 : tie.Need-slice_bounds-px-end-3
+slice_bounds-px-end-3 c = let g = c.before.before.before.before.before.before in omega (arith, (sizes (s g)).0, (long g).0)
 
-slice-aggregate-solve : tie.Need-slice-aggregate-solve
-slice-aggregate-solve c = sym (lent-all c.before.before.before.before.before.before.before).0
+slice_bounds-solve-end : tie.Need-slice_bounds-solve-end
+slice_bounds-solve-end c = sym (lent-all c.before.before.before.before.before.before.before).0
 
-array-share-prefix-py-2 : tie.Need-array-share-prefix-py-2
-array-share-prefix-py-2 c = let g = c.before.before.before.before.before.before.before in omega (arith, (sizes (s g)).0, (long g).1)
+slice_bounds-py-end-3 : tie.Need-slice_bounds-py-end-3
+slice_bounds-py-end-3 c = let g = c.before.before.before.before.before.before.before in omega (arith, (sizes (s g)).0, (long g).1)
 
-slice-aggregate-solve-2 : tie.Need-slice-aggregate-solve-2
-slice-aggregate-solve-2 c = sym (lent-all c.before.before.before.before.before.before.before.before).1
+slice_bounds-solve-end-2 : tie.Need-slice_bounds-solve-end-2
+slice_bounds-solve-end-2 c = sym (lent-all c.before.before.before.before.before.before.before.before).1
 
-solve-requires : tie.Need-solve-requires
-solve-requires c κs =
+solve-solved-requires : tie.Need-solve-solved-requires
+solve-solved-requires c κs =
     let g = c.before.before.before.before.before.before.before.before in
     let r = (s g).requires in
     let n = lent-all g in
@@ -194,7 +194,7 @@ solve-requires c κs =
         omega (arith, n.0, r.1.2, r.0.0),
       ),
       ap (λ (v : Tried). v.coefficients)
-          (c.before.before.before.next.ensures
+          (c.next-first.ensures
           ∙ ap result_of (tried-through (p g) (k g) (take (k g) (ax g)) (take (k g) (ay g)) (first_fine g).1 z.0 z.1))
           ∙ ap₂ (λ u v. pad 4 (interpolate (p g) u v)) (first g).0 (first g).1,
     )
@@ -203,14 +203,14 @@ judged-requires : tie.Need-judged-requires
 judged-requires c κs =
     let g = c.before.before.before.before.before.before.before.before.before.before.before in
     let r = (s g).requires in
-    let pair = c.before.before.solve.ensures.pair in
-    let d = c.before.before.solve.result.degree in
+    let pair = c.solve-solved.ensures.pair in
+    let d = c.solve-solved.result.degree in
     let t = (s g).args.t in (
       (r.0.0, omega (arith, r.0.0, r.1.2), r.0.1.lengths, r.0.2.0),
       (
-        subst (λ n. Residues (p g) (take n c.before.before.solve.result.numerator)) (sym (add-one (d + t)))
+        subst (λ n. Residues (p g) (take n c.solve-solved.result.numerator)) (sym (add-one (d + t)))
             pair.two.numerator.residues,
-        subst (λ n. Residues (p g) (take n c.before.before.solve.result.locator)) (sym (add-one d)) pair.two.locator.residues,
+        subst (λ n. Residues (p g) (take n c.solve-solved.result.locator)) (sym (add-one d)) pair.two.locator.residues,
       ),
     )
 
@@ -218,7 +218,7 @@ returns : tie.Need-returns
 returns c =
     let g = c.before.before.before.before.before.before.before.before.before.before.before.before in
     let r = (s g).requires in
-    let v = c.before.before.before.solve in
+    let v = c.solve-solved in
     let solved : Solved (p g) (s g).args.t (px g) (py g) v.result =
     subst (λ z. Solved (p g) (s g).args.t z (py g) v.result) (all g).0
     (subst (λ z. Solved (p g) (s g).args.t (take (m g) (ax g)) z v.result) (all g).1 v.ensures) in
@@ -227,31 +227,31 @@ returns c =
     (located-fit (p g) (prime-of (s g).args.w) (s g).args.t (s g).args.need (s g).args.spare (xs g) (ys g) r.0.1.lengths
     r.0.2 r.1.0 r.1.1 r.1.2 (px g) (py g) (gathered g) (size-x g) (size-y g ∙ sym (size-x g)) (fine g) _ solved)
 
-pub by-locator-spec : {M : Type 1} → statement M
-by-locator-spec =
+pub by_locator_spec : {M : Type 1} → statement M
+by_locator_spec =
     tie.close
     (tie.spec
-    add-m
-    mul-m
-    add-m-2
+    overflow_add-m
+    overflow_mul-m
+    overflow_add-m-2
     modulus-requires
-    array-borrow-prefix-px
-    slice-aggregate-first-sent
-    array-borrow-prefix-py
-    slice-aggregate-first-sent-2
-    first-sent-requires
-    add-px
-    array-share-prefix-px
-    slice-aggregate-next
-    add-py
-    array-share-prefix-py
-    slice-aggregate-next-2
-    add-next
-    next-requires
-    array-share-prefix-px-2
-    slice-aggregate-solve
-    array-share-prefix-py-2
-    slice-aggregate-solve-2
-    solve-requires
+    slice_bounds-px-end
+    slice_bounds-first_sent-end
+    slice_bounds-py-end
+    slice_bounds-first_sent-end-2
+    first_sent-requires
+    overflow_add-px
+    slice_bounds-px-end-2
+    slice_bounds-next-end
+    overflow_add-py
+    slice_bounds-py-end-2
+    slice_bounds-next-end-2
+    overflow_add-t
+    next-first-requires
+    slice_bounds-px-end-3
+    slice_bounds-solve-end
+    slice_bounds-py-end-3
+    slice_bounds-solve-end-2
+    solve-solved-requires
     judged-requires
     returns)

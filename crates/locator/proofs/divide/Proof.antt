@@ -7,86 +7,86 @@ use Rattle.locator.proofs.Dividing.{Divided, divided-start, divided-lent, divide
 use Rattle.locator.proofs.divide.Statement.{statement}
 use Rattle.locator.proofs.divide.Tie as tie
 
-abbrev invariant-loop : tie.invariant-loop
-invariant-loop w n inverse e q₀ size f₀ s₀ q f s = Divided (prime_of w) inverse e n q₀ f q s
+abbrev invariant-loop-s : tie.invariant-loop-s
+invariant-loop-s w n inverse e q₀ size f₀ s₀ q f s = Divided (prime_of w) inverse e n q₀ f q s
 
-abbrev decreases-loop : tie.decreases-loop
-decreases-loop w n inverse e q₀ size f₀ s₀ q f s = s
+abbrev decreases-loop-s : tie.decreases-loop-s
+decreases-loop-s w n inverse e q₀ size f₀ s₀ q f s = s
 
 -- The start, from the loop.
-abbrev start : tie.At-loop invariant-loop decreases-loop → tie.Start invariant-loop decreases-loop
+abbrev start : tie.At-loop-s invariant-loop-s decreases-loop-s → tie.Start invariant-loop-s decreases-loop-s
 start l = l.before.before.before
 
-loop-holds : tie.Need-loop-init invariant-loop decreases-loop
-loop-holds c = let s = c.before.before in let r = s.requires in divided-start _ _ _ _ _ r.0.1 r.0.2 r.0.0 r.1.1
+loop-s-init : tie.Need-loop-s-init invariant-loop-s decreases-loop-s
+loop-s-init c = let s = c.before.before in let r = s.requires in divided-start _ _ _ _ _ r.0.1 r.0.2 r.0.0 r.1.1
 
-sub-s : tie.Need-overflow-sub-s invariant-loop decreases-loop
-sub-s c = search rules
+overflow_sub-s : tie.Need-overflow_sub-s invariant-loop-s decreases-loop-s
+overflow_sub-s c = search rules
 
-add-next-coefficient : tie.Need-overflow-add-next-coefficient invariant-loop decreases-loop
-add-next-coefficient c = search rules
+overflow_add-s : tie.Need-overflow_add-s invariant-loop-s decreases-loop-s
+overflow_add-s c = search rules
 
-mul-next-coefficient : tie.Need-overflow-mul-next-coefficient invariant-loop decreases-loop
-mul-next-coefficient c = search rules
+offset_bounds-q-s : tie.Need-offset_bounds-q-s invariant-loop-s decreases-loop-s
+offset_bounds-q-s c = search rules
 
-sub-next-coefficient : tie.Need-overflow-sub-next-coefficient invariant-loop decreases-loop
-sub-next-coefficient c = search rules
+slice_bounds-next_coefficient-count : tie.Need-slice_bounds-next_coefficient-count invariant-loop-s decreases-loop-s
+slice_bounds-next_coefficient-count c = search rules
 
-part-next-coefficient-start : tie.Need-slice-bounds-next-coefficient-start invariant-loop decreases-loop
-part-next-coefficient-start c = search rules
+slice_bounds-next_coefficient-start : tie.Need-slice_bounds-next_coefficient-start invariant-loop-s decreases-loop-s
+slice_bounds-next_coefficient-start c = search rules
 
-part-next-coefficient-end : tie.Need-slice-bounds-next-coefficient-end invariant-loop decreases-loop
-part-next-coefficient-end c = search rules
+slice_bounds-next_coefficient-end : tie.Need-slice_bounds-next_coefficient-end invariant-loop-s decreases-loop-s
+slice_bounds-next_coefficient-end c = search rules
 
-next-coefficient-requires : tie.Need-next-coefficient-requires invariant-loop decreases-loop
-next-coefficient-requires c κs =
+next_coefficient-requires : tie.Need-next_coefficient-requires invariant-loop-s decreases-loop-s
+next_coefficient-requires c κs =
     let l = c.before.before in
     let r = (start l).requires in
-    let lent = divided-lent _ _ _ _ _ r.0.1 r.0.2 r.0.0 _ _ _ l.loop.invariant (omega arith) in
+    let lent = divided-lent _ _ _ _ _ r.0.1 r.0.2 r.0.0 _ _ _ l.loop-s.invariant (omega arith) in
     ((sym lent.0, r.1.0, lent.1, r.1.2), r.0.1)
 
-mul-f : tie.Need-overflow-mul-f invariant-loop decreases-loop
-mul-f c = search rules
+offset_bounds-f-s : tie.Need-offset_bounds-f-s invariant-loop-s decreases-loop-s
+offset_bounds-f-s c = search rules
 
-array-write-f : tie.Need-array-write-f invariant-loop decreases-loop
-array-write-f c = search rules
+bounds-f-s : tie.Need-bounds-f-s invariant-loop-s decreases-loop-s
+bounds-f-s c = search rules
 
-loop-less : tie.Need-loop-smaller invariant-loop decreases-loop
-loop-less c = search rules
+loop-s-smaller : tie.Need-loop-s-smaller invariant-loop-s decreases-loop-s
+loop-s-smaller c = search rules
 
-loop-again : tie.Need-loop-preserved invariant-loop decreases-loop
-loop-again c =
+loop-s-preserved : tie.Need-loop-s-preserved invariant-loop-s decreases-loop-s
+loop-s-preserved c =
     let l = c.before.before.before.before.before in
     let r = (start l).requires in
-    let h = c.before.before.next-coefficient.ensures in
-    divided-next _ _ _ _ _ r.0.1 r.0.2 r.0.0 _ _ _ l.loop.invariant (omega arith) _ h.0 _ h.2 h.3
+    let h = c.next_coefficient.ensures in
+    divided-next _ _ _ _ _ r.0.1 r.0.2 r.0.0 _ _ _ l.loop-s.invariant (omega arith) _ h.0 _ h.2 h.3
 
-same_length : tie.Need-same-length invariant-loop decreases-loop
-same_length c = search rules
+shape_of-q : tie.Need-shape_of-q invariant-loop-s decreases-loop-s
+shape_of-q c = search rules
 
-returns : tie.Need-returns invariant-loop decreases-loop
+returns : tie.Need-returns invariant-loop-s decreases-loop-s
 returns c =
     let l = c.before in
     let r = (start l).requires in
-    divided-end _ _ _ _ _ r.0.1 r.0.2 r.0.0 _ _ _ l.loop.invariant (omega arith)
+    divided-end _ _ _ _ _ r.0.1 r.0.2 r.0.0 _ _ _ l.loop-s.invariant (omega arith)
 
-pub divide-spec : {M : Type 1} → statement M
-divide-spec =
+pub divide_spec : {M : Type 1} → statement M
+divide_spec =
     tie.close
     (tie.spec
-    invariant-loop
-    decreases-loop
-    loop-holds
-    sub-s
-    add-next-coefficient
-    mul-next-coefficient
-    sub-next-coefficient
-    part-next-coefficient-start
-    part-next-coefficient-end
-    next-coefficient-requires
-    mul-f
-    array-write-f
-    loop-less
-    loop-again
-    same_length
+    invariant-loop-s
+    decreases-loop-s
+    loop-s-init
+    overflow_sub-s
+    overflow_add-s
+    offset_bounds-q-s
+    slice_bounds-next_coefficient-count
+    slice_bounds-next_coefficient-start
+    slice_bounds-next_coefficient-end
+    next_coefficient-requires
+    offset_bounds-f-s
+    bounds-f-s
+    loop-s-smaller
+    loop-s-preserved
+    shape_of-q
     returns)

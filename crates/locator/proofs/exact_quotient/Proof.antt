@@ -8,51 +8,51 @@ use Rattle.locator.proofs.Judging.{exact-not, exact-found}
 use Rattle.locator.proofs.exact_quotient.Statement.{statement}
 use Rattle.locator.proofs.exact_quotient.Tie as tie
 
-divide-requires : tie.Need-divide-requires
-divide-requires c κs = search rules
+divide-f-requires : tie.Need-divide-f-requires
+divide-f-requires c κs = search rules
 
-sub-degree : tie.Need-overflow-sub-degree
-sub-degree c = search rules
+overflow_sub-degree : tie.Need-overflow_sub-degree
+overflow_sub-degree c = search rules
 
-slice-reshare-prefix-all-zero : tie.Need-slice-reshare-prefix-all-zero
-slice-reshare-prefix-all-zero c = search rules
+slice_bounds-all_zero-end : tie.Need-slice_bounds-all_zero-end
+slice_bounds-all_zero-end c = search rules
 
-slice-aggregate-all-zero : tie.Need-slice-aggregate-all-zero
-slice-aggregate-all-zero c = sym (length-take-le _ _ (search rules))
+slice_bounds-all_zero-end-2 : tie.Need-slice_bounds-all_zero-end-2
+slice_bounds-all_zero-end-2 c = sym (length-take-le _ _ (search rules))
 
-all-zero-requires : tie.Need-all-zero-requires
-all-zero-requires c κs = search rules
+all_zero-requires : tie.Need-all_zero-requires
+all_zero-requires c κs = search rules
 
-same_length : tie.Need-same-length
-same_length c = search rules
+shape_of-q-then-all_zero : tie.Need-shape_of-q-then-all_zero
+shape_of-q-then-all_zero c = search rules
 
-returns : tie.Need-returns
-returns c =
-    let e = c.before.before.before.before.before.divide.ensures in
-    exact-found _ _ _ _ _ _ e.1 (sym c.before.all-zero.ensures ∙ c.if1.true) _ e.0
+returns-then-all_zero : tie.Need-returns-then-all_zero
+returns-then-all_zero c =
+    let e = c.divide-f.ensures in
+    exact-found _ _ _ _ _ _ e.1 (sym c.all_zero.ensures ∙ c.if-all_zero.true) _ e.0
 
 nothing-requires : tie.Need-nothing-requires
 nothing-requires c κs = search rules
 
-same-length-2 : tie.Need-same-length-2
-same-length-2 c = search rules
+shape_of-q : tie.Need-shape_of-q
+shape_of-q c = search rules
 
-returns-2 : tie.Need-returns-2
-returns-2 c =
-    let e = c.before.before.before.before.before.before.divide.ensures in
-    c.nothing.ensures ∙ exact-not _ _ _ _ _ _ e.1 (sym c.before.before.all-zero.ensures ∙ c.before.if1.false)
+returns : tie.Need-returns
+returns c =
+    let e = c.divide-f.ensures in
+    c.nothing.ensures ∙ exact-not _ _ _ _ _ _ e.1 (sym c.all_zero.ensures ∙ c.if-all_zero.false)
 
-pub exact-quotient-spec : {M : Type 1} → statement M
-exact-quotient-spec =
+pub exact_quotient_spec : {M : Type 1} → statement M
+exact_quotient_spec =
     tie.close
     (tie.spec
-    divide-requires
-    sub-degree
-    slice-reshare-prefix-all-zero
-    slice-aggregate-all-zero
-    all-zero-requires
-    same_length
-    returns
+    divide-f-requires
+    overflow_sub-degree
+    slice_bounds-all_zero-end
+    slice_bounds-all_zero-end-2
+    all_zero-requires
+    shape_of-q-then-all_zero
+    returns-then-all_zero
     nothing-requires
-    same-length-2
-    returns-2)
+    shape_of-q
+    returns)

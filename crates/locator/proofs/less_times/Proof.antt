@@ -12,77 +12,77 @@ use Rattle.polynomial.proofs.Below.{set-residues}
 use Rattle.locator.proofs.less_times.Statement.{statement}
 use Rattle.locator.proofs.less_times.Tie as tie
 
-abbrev invariant-loop : tie.invariant-loop
-invariant-loop w h e r₀ i₀ r i = Zipping (λ d c. sub (prime_of w) c (mul (prime_of w) h d)) e r₀ r i × Residues (prime_of w) r
+abbrev invariant-loop-i : tie.invariant-loop-i
+invariant-loop-i w h e r₀ i₀ r i = Zipping (λ d c. sub (prime_of w) c (mul (prime_of w) h d)) e r₀ r i × Residues (prime_of w) r
 
-abbrev decreases-loop : tie.decreases-loop
-decreases-loop w h e r₀ i₀ r i = length e - i
+abbrev decreases-loop-i : tie.decreases-loop-i
+decreases-loop-i w h e r₀ i₀ r i = length e - i
 
-loop-holds : tie.Need-loop-init invariant-loop decreases-loop
-loop-holds c = let s = c.before.before in (zip_start _ _ _ s.requires.0, s.requires.2)
+loop-i-init : tie.Need-loop-i-init invariant-loop-i decreases-loop-i
+loop-i-init c = let s = c.before.before in (zip_start _ _ _ s.requires.0, s.requires.2)
 
-mul-mul-sub : tie.Need-overflow-mul-mul-sub invariant-loop decreases-loop
-mul-mul-sub c = search rules
+offset_bounds-e-i : tie.Need-offset_bounds-e-i invariant-loop-i decreases-loop-i
+offset_bounds-e-i c = search rules
 
-shared-slice-read-mul-sub : tie.Need-shared-slice-read-mul-sub invariant-loop decreases-loop
-shared-slice-read-mul-sub c = search rules
+bounds-e-i : tie.Need-bounds-e-i invariant-loop-i decreases-loop-i
+bounds-e-i c = search rules
 
-mul-mul-sub-2 : tie.Need-overflow-mul-mul-sub-2 invariant-loop decreases-loop
-mul-mul-sub-2 c = search rules
+offset_bounds-r-i : tie.Need-offset_bounds-r-i invariant-loop-i decreases-loop-i
+offset_bounds-r-i c = search rules
 
-slice-read-mul-sub : tie.Need-slice-read-mul-sub invariant-loop decreases-loop
-slice-read-mul-sub c = search rules
+bounds-r-i : tie.Need-bounds-r-i invariant-loop-i decreases-loop-i
+bounds-r-i c = search rules
 
-mul-sub-requires : tie.Need-mul-sub-requires invariant-loop decreases-loop
-mul-sub-requires c κs =
+mul_sub-requires : tie.Need-mul_sub-requires invariant-loop-i decreases-loop-i
+mul_sub-requires c κs =
     let s = c.before.before.before.before.before.before in
-    let k = c.before.before.before.loop in
+    let k = c.loop-i in
     let p = prime_of s.args.w in (
       s.requires.3,
       all-get_or (λ c. c < p) s.args.e.now k.i 0 (omega arith) s.requires.1,
       all-get_or (λ c. c < p) k.r k.i 0 (omega (arith, k.invariant.0.sizes)) k.invariant.1,
     )
 
-mul-r : tie.Need-overflow-mul-r invariant-loop decreases-loop
-mul-r c = search rules
+offset_bounds-r-i-in-loop-i : tie.Need-offset_bounds-r-i-in-loop-i invariant-loop-i decreases-loop-i
+offset_bounds-r-i-in-loop-i c = search rules
 
-slice-write-r : tie.Need-slice-write-r invariant-loop decreases-loop
-slice-write-r c = search rules
+bounds-r-i-in-loop-i : tie.Need-bounds-r-i-in-loop-i invariant-loop-i decreases-loop-i
+bounds-r-i-in-loop-i c = search rules
 
-add-i : tie.Need-overflow-add-i invariant-loop decreases-loop
-add-i c = search rules
+overflow_add-i : tie.Need-overflow_add-i invariant-loop-i decreases-loop-i
+overflow_add-i c = search rules
 
-loop-less : tie.Need-loop-smaller invariant-loop decreases-loop
-loop-less c = search rules
+loop-i-smaller : tie.Need-loop-i-smaller invariant-loop-i decreases-loop-i
+loop-i-smaller c = search rules
 
-loop-again : tie.Need-loop-preserved invariant-loop decreases-loop
-loop-again c =
-    let k = c.before.before.before.before.loop in
-    let e = c.mul-sub.ensures in
+loop-i-preserved : tie.Need-loop-i-preserved invariant-loop-i decreases-loop-i
+loop-i-preserved c =
+    let k = c.loop-i in
+    let e = c.mul_sub.ensures in
     (zip-next _ _ _ k.r k.i _ 0 0 k.invariant.0 (omega arith) e.0, set-residues _ k.r k.i _ e.1 k.invariant.1)
 
-same_length : tie.Need-same-length invariant-loop decreases-loop
-same_length c = search rules
+shape_of-r : tie.Need-shape_of-r invariant-loop-i decreases-loop-i
+shape_of-r c = search rules
 
-returns : tie.Need-returns invariant-loop decreases-loop
-returns c = let k = c.before.loop in (zip_end _ _ _ k.r k.i k.invariant.0 (omega arith), k.invariant.1)
+returns : tie.Need-returns invariant-loop-i decreases-loop-i
+returns c = let k = c.loop-i in (zip_end _ _ _ k.r k.i k.invariant.0 (omega arith), k.invariant.1)
 
-pub less-times-spec : {M : Type 1} → statement M
-less-times-spec =
+pub less_times_spec : {M : Type 1} → statement M
+less_times_spec =
     tie.close
     (tie.spec
-    invariant-loop
-    decreases-loop
-    loop-holds
-    mul-mul-sub
-    shared-slice-read-mul-sub
-    mul-mul-sub-2
-    slice-read-mul-sub
-    mul-sub-requires
-    mul-r
-    slice-write-r
-    add-i
-    loop-less
-    loop-again
-    same_length
+    invariant-loop-i
+    decreases-loop-i
+    loop-i-init
+    offset_bounds-e-i
+    bounds-e-i
+    offset_bounds-r-i
+    bounds-r-i
+    mul_sub-requires
+    offset_bounds-r-i-in-loop-i
+    bounds-r-i-in-loop-i
+    overflow_add-i
+    loop-i-smaller
+    loop-i-preserved
+    shape_of-r
     returns)

@@ -7,44 +7,44 @@ use Rattle.locator.proofs.located.Statement.{statement}
 use Rattle.locator.proofs.located.Tie as tie
 
 -- What passes the tests is admitted.
-admits : (c : tie.After-enum-told) → let a = c.before.before.before.before.before.args in
+admits : (c : tie.In-Pass) → let a = c.args in
     Admitted a.t a.least a.xs.now a.ys.now
 admits c =
-    let v = c.before.before in
-    let a = v.before.before.before.args in
-    (tests-pass a.t a.least a.xs.now a.ys.now).1 (sym v.admission.ensures ∙ c.enum_told.given.1)
+    let v = c.before in
+    let a = v.args in
+    (tests-pass a.t a.least a.xs.now a.ys.now).1 (sym v.admission.ensures ∙ c.in-Pass.is)
 
 admission-requires : tie.Need-admission-requires
 admission-requires c κs = search rules
 
-enum-known-why : tie.Need-enum-known-why
-enum-known-why c = search rules
+enum_known-why : tie.Need-enum_known-why
+enum_known-why c = search rules
 
-refused-fit-requires : tie.Need-refused-fit-requires
-refused-fit-requires c κs = search rules
+refused_fit-requires : tie.Need-refused_fit-requires
+refused_fit-requires c κs = search rules
 
-enum_told : tie.Need-enum-told
-enum_told c = search rules
+enum_told-1 : tie.Need-enum_told-1
+enum_told-1 c = search rules
 
 admitted-requires : tie.Need-admitted-requires
-admitted-requires c κs = (admits c, c.before.before.before.before.before.requires)
+admitted-requires c κs = (admits c, c.requires)
 
-returns : tie.Need-returns
-returns c =
-    let v = c.before.before.before.before in
-    c.refused-fit.ensures ∙ fit_refused _ _ _ _ _ _ (sym v.admission.ensures ∙ c.before.before.why.given.1)
+returns-in-Fail : tie.Need-returns-in-Fail
+returns-in-Fail c =
+    let v = c.before.before in
+    c.refused_fit.ensures ∙ fit_refused _ _ _ _ _ _ (sym v.admission.ensures ∙ c.in-Fail.is)
 
-returns-2 : tie.Need-returns-2
-returns-2 c = c.admitted.ensures ∙ sym (fit-admitted _ _ _ _ _ (admits c.before))
+returns-in-Pass : tie.Need-returns-in-Pass
+returns-in-Pass c = c.admitted.ensures ∙ sym (fit-admitted _ _ _ _ _ (admits c.before))
 
-pub located-spec : {M : Type 1} → statement M
-located-spec =
+pub located_spec : {M : Type 1} → statement M
+located_spec =
     tie.close
     (tie.spec
     admission-requires
-    enum-known-why
-    refused-fit-requires
-    enum_told
+    enum_known-why
+    refused_fit-requires
+    enum_told-1
     admitted-requires
-    returns
-    returns-2)
+    returns-in-Fail
+    returns-in-Pass)

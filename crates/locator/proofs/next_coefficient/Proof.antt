@@ -11,17 +11,17 @@ use Rattle.field.proofs.Ring.{add_nothing}
 use Rattle.locator.proofs.next_coefficient.Statement.{statement}
 use Rattle.locator.proofs.next_coefficient.Tie as tie
 
-sub-top : tie.Need-overflow-sub-top
-sub-top c = search rules
+overflow_sub-top : tie.Need-overflow_sub-top
+overflow_sub-top c = search rules
 
-mul-mul-add : tie.Need-overflow-mul-mul-add
-mul-mul-add c = search rules
+offset_bounds-r-top : tie.Need-offset_bounds-r-top
+offset_bounds-r-top c = search rules
 
-slice-read-mul-add : tie.Need-slice-read-mul-add
-slice-read-mul-add c = search rules
+bounds-r-top : tie.Need-bounds-r-top
+bounds-r-top c = search rules
 
-mul-add-requires : tie.Need-mul-add-requires
-mul-add-requires c κs =
+mul_add-h-requires : tie.Need-mul_add-h-requires
+mul_add-h-requires c κs =
     let s = c.before.before.before in
     let p = prime_of s.args.w in (
       omega (arith, s.requires.0.3),
@@ -29,26 +29,26 @@ mul-add-requires c κs =
       positive s.args.w,
     )
 
-less-times-requires : tie.Need-less-times-requires
-less-times-requires c κs = search rules
+less_times-requires : tie.Need-less_times-requires
+less_times-requires c κs = search rules
 
-same_length : tie.Need-same-length
-same_length c = search rules
+shape_of-r : tie.Need-shape_of-r
+shape_of-r c = search rules
 
 returns : tie.Need-returns
 returns c =
-    let h = c.before.before.before.before.mul-add.ensures in
-    let e = c.before.before.less-times.ensures in
+    let h = c.mul_add-h.ensures in
+    let e = c.less_times.ensures in
     (h.0 ∙ add_nothing _ _ _, h.1, e.0, e.1)
 
-pub next-coefficient-spec : {M : Type 1} → statement M
-next-coefficient-spec =
+pub next_coefficient_spec : {M : Type 1} → statement M
+next_coefficient_spec =
     tie.close
     (tie.spec
-    sub-top
-    mul-mul-add
-    slice-read-mul-add
-    mul-add-requires
-    less-times-requires
-    same_length
+    overflow_sub-top
+    offset_bounds-r-top
+    bounds-r-top
+    mul_add-h-requires
+    less_times-requires
+    shape_of-r
     returns)

@@ -13,98 +13,98 @@ use Rattle.recovery.proofs.Arrays.{heard_at, length-heard, get_or-heard, heard-m
 use Rattle.recovery.proofs.heard_from.Statement.{statement}
 use Rattle.recovery.proofs.heard_from.Tie as tie
 
-abbrev invariant-loop : tie.invariant-loop
-invariant-loop n set heard list₀ unsent k₀ list k = (k ≤ n) × (list ≡ filled (heard_at unsent set heard) 0 16 k)
+abbrev invariant-loop-k : tie.invariant-loop-k
+invariant-loop-k n set heard list₀ unsent k₀ list k = (k ≤ n) × (list ≡ filled (heard_at unsent set heard) 0 16 k)
 
-abbrev decreases-loop : tie.decreases-loop
-decreases-loop n set heard list₀ unsent k₀ list k = n - k
+abbrev decreases-loop-k : tie.decreases-loop-k
+decreases-loop-k n set heard list₀ unsent k₀ list k = n - k
 
-not-sent-requires : tie.Need-not-sent-requires invariant-loop decreases-loop
-not-sent-requires c κs = search rules
+not_sent-unsent-requires : tie.Need-not_sent-unsent-requires invariant-loop-k decreases-loop-k
+not_sent-unsent-requires c κs = search rules
 
-loop-holds : tie.Need-loop-init invariant-loop decreases-loop
-loop-holds c = let a = c.before.args in (search rules, fill_start (heard_at c.not-sent.result a.set a.t4) 16)
+loop-k-init : tie.Need-loop-k-init invariant-loop-k decreases-loop-k
+loop-k-init c = let a = c.args in (search rules, fill_start (heard_at c.not_sent-unsent.result a.set a.heard) 16)
 
-cast-place : tie.Need-overflow-cast-place invariant-loop decreases-loop
-cast-place c = search rules
+overflow_cast-place : tie.Need-overflow_cast-place invariant-loop-k decreases-loop-k
+overflow_cast-place c = search rules
 
-cast-if1 : tie.Need-overflow-cast-if1 invariant-loop decreases-loop
-cast-if1 c = search rules
+overflow_cast-k : tie.Need-overflow_cast-k invariant-loop-k decreases-loop-k
+overflow_cast-k c = search rules
 
-shr-if1 : tie.Need-overflow-shr-if1 invariant-loop decreases-loop
-shr-if1 c = search rules
+overflow_shr-set : tie.Need-overflow_shr-set invariant-loop-k decreases-loop-k
+overflow_shr-set c = search rules
 
-mul-list : tie.Need-overflow-mul-list invariant-loop decreases-loop
-mul-list c = search rules
+offset_bounds-heard-place : tie.Need-offset_bounds-heard-place invariant-loop-k decreases-loop-k
+offset_bounds-heard-place c = search rules
 
-array-read-list : tie.Need-array-read-list invariant-loop decreases-loop
-array-read-list c = search rules
+bounds-heard-place : tie.Need-bounds-heard-place invariant-loop-k decreases-loop-k
+bounds-heard-place c = search rules
 
-mul-list-2 : tie.Need-overflow-mul-list-2 invariant-loop decreases-loop
-mul-list-2 c = search rules
+offset_bounds-list-place : tie.Need-offset_bounds-list-place invariant-loop-k decreases-loop-k
+offset_bounds-list-place c = search rules
 
-array-write-list : tie.Need-array-write-list invariant-loop decreases-loop
-array-write-list c = search rules
+bounds-list-place : tie.Need-bounds-list-place invariant-loop-k decreases-loop-k
+bounds-list-place c = search rules
 
-mul-list-3 : tie.Need-overflow-mul-list-3 invariant-loop decreases-loop
-mul-list-3 c = search rules
+offset_bounds-list-place-else-set-k-eq1 : tie.Need-offset_bounds-list-place-else-set-k-eq1 invariant-loop-k decreases-loop-k
+offset_bounds-list-place-else-set-k-eq1 c = search rules
 
-array-write-list-2 : tie.Need-array-write-list-2 invariant-loop decreases-loop
-array-write-list-2 c = search rules
+bounds-list-place-else-set-k-eq1 : tie.Need-bounds-list-place-else-set-k-eq1 invariant-loop-k decreases-loop-k
+bounds-list-place-else-set-k-eq1 c = search rules
 
-add-k : tie.Need-overflow-add-k invariant-loop decreases-loop
-add-k c = search rules
+overflow_step-k : tie.Need-overflow_step-k invariant-loop-k decreases-loop-k
+overflow_step-k c = search rules
 
-loop-less : tie.Need-loop-smaller invariant-loop decreases-loop
-loop-less c = search rules
+loop-k-smaller : tie.Need-loop-k-smaller invariant-loop-k decreases-loop-k
+loop-k-smaller c = search rules
 
-loop-again : tie.Need-loop-preserved invariant-loop decreases-loop
-loop-again c =
-    let k = c.before.before.loop in
+loop-k-preserved : tie.Need-loop-k-preserved invariant-loop-k decreases-loop-k
+loop-k-preserved c =
+    let k = c.loop-k in
     let v = c.before.before.before in
-    let a = v.before.args in
-    let mark = v.not-sent.result in
-    let told : ℕ → ℕ = heard_at mark a.set a.t4 in
+    let a = v.args in
+    let mark = v.not_sent-unsent.result in
+    let told : ℕ → ℕ = heard_at mark a.set a.heard in
     let turn : (v : ℕ) → v ≡ told k.k → set k.list k.k v ≡ filled told 0 16 (k.k + 1) =
     λ v e. fill-next told 16 k.list k.k v k.invariant.1 (omega arith) e in (
       search rules,
       ⊎_elim
-          (λ w. w.1 ∙ turn _ (heard-member mark a.set a.t4 k.k w.0.taken))
-          (λ w. w.1 ∙ turn _ (heard-other mark a.set a.t4 k.k w.0.left))
-          c.if1.branch,
+          (λ w. w.1 ∙ turn _ (heard-member mark a.set a.heard k.k w.0.taken))
+          (λ w. w.1 ∙ turn _ (heard-other mark a.set a.heard k.k w.0.left))
+          c.if-set-k-eq1.branch,
     )
 
-returns : tie.Need-returns invariant-loop decreases-loop
+returns : tie.Need-returns invariant-loop-k decreases-loop-k
 returns c =
     let v = c.before.before in
-    let a = v.before.args in
-    let k = c.before.loop in
-    let mark = v.not-sent.result in
-    let inside : a.n ≤ length a.t4 = omega arith in
-    let told : ℕ → ℕ = heard_at mark a.set a.t4 in
-    fill-front told 16 k.list k.k a.n (hide mark (tabulate (bit a.set) a.n) (take a.n a.t4)) k.invariant.1
+    let a = v.args in
+    let k = c.loop-k in
+    let mark = v.not_sent-unsent.result in
+    let inside : a.n ≤ length a.heard = omega arith in
+    let told : ℕ → ℕ = heard_at mark a.set a.heard in
+    fill-front told 16 k.list k.k a.n (hide mark (tabulate (bit a.set) a.n) (take a.n a.heard)) k.invariant.1
     (omega arith)
-    (length-heard mark a.set a.n a.t4 inside) (get_or-heard mark a.set a.n a.t4 inside)
-    ∙ ap (λ m. hide m (tabulate (bit a.set) a.n) (take a.n a.t4)) v.not-sent.ensures
+    (length-heard mark a.set a.n a.heard inside) (get_or-heard mark a.set a.n a.heard inside)
+    ∙ ap (λ m. hide m (tabulate (bit a.set) a.n) (take a.n a.heard)) v.not_sent-unsent.ensures
 
-pub heard-from-spec : {M : Type 1} → statement M
-heard-from-spec =
+pub heard_from_spec : {M : Type 1} → statement M
+heard_from_spec =
     tie.close
     (tie.spec
-    invariant-loop
-    decreases-loop
-    not-sent-requires
-    loop-holds
-    cast-place
-    cast-if1
-    shr-if1
-    mul-list
-    array-read-list
-    mul-list-2
-    array-write-list
-    mul-list-3
-    array-write-list-2
-    add-k
-    loop-less
-    loop-again
+    invariant-loop-k
+    decreases-loop-k
+    not_sent-unsent-requires
+    loop-k-init
+    overflow_cast-place
+    overflow_cast-k
+    overflow_shr-set
+    offset_bounds-heard-place
+    bounds-heard-place
+    offset_bounds-list-place
+    bounds-list-place
+    offset_bounds-list-place-else-set-k-eq1
+    bounds-list-place-else-set-k-eq1
+    overflow_step-k
+    loop-k-smaller
+    loop-k-preserved
     returns)

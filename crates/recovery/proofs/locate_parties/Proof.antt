@@ -6,11 +6,11 @@ use borrow.Author.Rules.{rules}
 use Rattle.recovery.proofs.locate_parties.Statement.{statement}
 use Rattle.recovery.proofs.locate_parties.Tie as tie
 
-array-share-prefix-table : tie.Need-array-share-prefix-table
-array-share-prefix-table c = search rules
+slice_bounds-table-end : tie.Need-slice_bounds-table-end
+slice_bounds-table-end c = search rules
 
-slice-aggregate-located : tie.Need-slice-aggregate-located
-slice-aggregate-located c = let s = c.before.before in sym s.requires.4.size
+slice_bounds-located-end : tie.Need-slice_bounds-located-end
+slice_bounds-located-end c = let s = c.before.before in sym s.requires.4.size
 
 located-requires : tie.Need-located-requires
 located-requires c κs = let s = c.before.before in table-points _ _ _ s.requires.4
@@ -23,5 +23,9 @@ returns c =
     ∙ fit-lent _ a.n a.t a.least _ _ a.values.now s.requires.0 s.requires.1 s.requires.2 s.requires.3
     s.requires.4.size refl
 
-pub locate-parties-spec : {M : Type 1} → statement M
-locate-parties-spec = tie.close (tie.spec array-share-prefix-table slice-aggregate-located located-requires returns)
+pub locate_parties_spec : {M : Type 1} → statement M
+locate_parties_spec = tie.close (tie.spec
+    slice_bounds-table-end
+    slice_bounds-located-end
+    located-requires
+    returns)

@@ -7,21 +7,25 @@ use Rattle.recovery.proofs.Fitting.{published-admitted}
 use Rattle.recovery.proofs.located.Statement.{statement}
 use Rattle.recovery.proofs.located.Tie as tie
 
-mul-locate-parties : tie.Need-overflow-mul-locate-parties
-mul-locate-parties c = search rules
+overflow_mul-t : tie.Need-overflow_mul-t
+overflow_mul-t c = search rules
 
-add-locate-parties : tie.Need-overflow-add-locate-parties
-add-locate-parties c = search rules
+overflow_add-t : tie.Need-overflow_add-t
+overflow_add-t c = search rules
 
-locate-parties-requires : tie.Need-locate-parties-requires
-locate-parties-requires c κs =
+locate_parties-requires : tie.Need-locate_parties-requires
+locate_parties-requires c κs =
     let s = c.before in
     let f = sizes-facts s.args.n s.args.t s.requires.0 in
     (f.3, omega (arith, f.0, f.1, f.2, f.3), omega arith, s.requires.1, s.requires.2)
 
 returns : tie.Need-returns
-returns c = let s = c.before.before in c.locate-parties.ensures ∙ sym (published-admitted _ _ _ _ _ s.requires.0 s.requires.1)
+returns c = let s = c.before.before in c.locate_parties.ensures ∙ sym (published-admitted _ _ _ _ _ s.requires.0 s.requires.1)
 
-pub located-spec : {M : Type 1} → statement M
-located-spec =
-    tie.close (tie.spec mul-locate-parties add-locate-parties locate-parties-requires returns)
+pub located_spec : {M : Type 1} → statement M
+located_spec =
+    tie.close (tie.spec
+    overflow_mul-t
+    overflow_add-t
+    locate_parties-requires
+    returns)

@@ -21,124 +21,124 @@ use Rattle.recovery.proofs.repair.Statement.{statement}
 use Rattle.recovery.proofs.repair.Tie as tie
 
 -- Past the first test the sizes are right, past the second the set has none but the n parties.
-abbrev start : tie.Else1 → tie.Start
+abbrev start : tie.Else-not-sizes → tie.Start
 start e = e.before.before
 
-abbrev second : tie.Else2 → tie.Else1
+abbrev second : tie.Else-not-within → tie.Else-not-sizes
 second e = e.before.before
 
-sized : (e : tie.Else1) → sizes (start e).args.n (start e).args.t ≡ true
-sized e = sym e.before.sizes.ensures ∙ not-false e.before.sizes.result e.if1.false
+sized : (e : tie.Else-not-sizes) → sizes (start e).args.n (start e).args.t ≡ true
+sized e = sym e.sizes.ensures ∙ e.if-not-sizes.false
 
-small : (e : tie.Else1) → ((start e).args.n ≤ 16) × ((start e).args.t ≤ 3)
+small : (e : tie.Else-not-sizes) → ((start e).args.n ≤ 16) × ((start e).args.t ≤ 3)
 small e = let f = sizes-facts (start e).args.n (start e).args.t (sized e) in (omega arith, omega arith)
 
-inside : (e : tie.Else2) → ltb (start (second e)).args.set (2 ^ (start (second e)).args.n) ≡ true
-inside e = sym e.before.within.ensures ∙ not-false e.before.within.result e.if2.false
+inside : (e : tie.Else-not-within) → ltb (start (second e)).args.set (2 ^ (start (second e)).args.n) ≡ true
+inside e = sym e.within.ensures ∙ e.if-not-within.false
 
 -- Past the third they are enough.
-abbrev third : tie.Else3 → tie.Else2
+abbrev third : tie.Else-count-fewest → tie.Else-not-within
 third e = e.before.before
 
 sizes-requires : tie.Need-sizes-requires
 sizes-requires c κs = search rules
 
-refused-fit-requires : tie.Need-refused-fit-requires
-refused-fit-requires c κs = search rules
+refused_fit-requires : tie.Need-refused_fit-requires
+refused_fit-requires c κs = search rules
 
-returns : tie.Need-returns
-returns c =
+returns-then-not-sizes : tie.Need-returns-then-not-sizes
+returns-then-not-sizes c =
     let s = c.before.before in
-    c.refused-fit.ensures ∙ repair-size _ _ _ _ _ _ (sym s.sizes.ensures ∙ not-true s.sizes.result c.before.if1.true)
+    c.refused_fit.ensures ∙ repair-size _ _ _ _ _ _ (sym s.sizes.ensures ∙ c.if-not-sizes.true)
 
 within-requires : tie.Need-within-requires
 within-requires c κs = (small c).0
 
-refused-fit-requires-2 : tie.Need-refused-fit-requires-2
-refused-fit-requires-2 c κs = search rules
+refused_fit-requires-then-not-within : tie.Need-refused_fit-requires-then-not-within
+refused_fit-requires-then-not-within c κs = search rules
 
-returns-2 : tie.Need-returns-2
-returns-2 c =
+returns-then-not-within : tie.Need-returns-then-not-within
+returns-then-not-within c =
     let w = c.before.before in
-    c.refused-fit2.ensures
-    ∙ repair-number _ _ _ _ _ _ (sized w.before) (sym w.within.ensures ∙ not-true w.within.result c.before.if2.true)
+    c.refused_fit-then-not-within.ensures
+    ∙ repair-number _ _ _ _ _ _ (sized c.before.before.before) (sym w.within.ensures ∙ c.if-not-within.true)
 
-count-requires : tie.Need-count-requires
-count-requires c κs = search rules
+count-count-requires : tie.Need-count-count-requires
+count-count-requires c κs = search rules
 
-cast-count : tie.Need-overflow-cast-count
-cast-count c = search rules
+overflow_cast-count : tie.Need-overflow_cast-count
+overflow_cast-count c = search rules
 
-mul-fewest : tie.Need-overflow-mul-fewest
-mul-fewest c = search rules
+overflow_mul-fewest : tie.Need-overflow_mul-fewest
+overflow_mul-fewest c = search rules
 
-add-fewest : tie.Need-overflow-add-fewest
-add-fewest c = search rules
+overflow_add-fewest : tie.Need-overflow_add-fewest
+overflow_add-fewest c = search rules
 
-refused-fit-requires-3 : tie.Need-refused-fit-requires-3
-refused-fit-requires-3 c κs = search rules
+refused_fit-requires-then-count-fewest : tie.Need-refused_fit-requires-then-count-fewest
+refused_fit-requires-then-count-fewest c κs = search rules
 
-returns-3 : tie.Need-returns-3
-returns-3 c =
+returns-then-count-fewest : tie.Need-returns-then-count-fewest
+returns-then-count-fewest c =
     let counted = c.before.before in
     let e = counted.before in
-    let few : counted.count.result < 3 * (start (second e)).args.t + 1 = c.before.if3.true in
-    c.refused-fit3.ensures
-    ∙ repair-few _ _ _ _ _ _ (sized (second e)) (inside e) (omega (arith, counted.count.ensures))
+    let few : counted.count-count.result < 3 * (start (second e)).args.t + 1 = c.if-count-fewest.true in
+    c.refused_fit-then-count-fewest.ensures
+    ∙ repair-few _ _ _ _ _ _ (sized (second e)) (inside e) (omega (arith, counted.count-count.ensures))
 
-heard-from-requires : tie.Need-heard-from-requires
-heard-from-requires c κs = (small (second (third c))).0
+heard_from-values-requires : tie.Need-heard_from-values-requires
+heard_from-values-requires c κs = (small (second (third c))).0
 
-sub-fit-parties : tie.Need-overflow-sub-fit-parties
-sub-fit-parties c = search rules
+overflow_sub-count : tie.Need-overflow_sub-count
+overflow_sub-count c = search rules
 
-array-share-prefix-values : tie.Need-array-share-prefix-values
-array-share-prefix-values c = omega (arith, small (second (third c.before)))
+slice_bounds-values-end : tie.Need-slice_bounds-values-end
+slice_bounds-values-end c = omega (arith, small (second (third c.before)))
 
-slice-aggregate-fit-parties : tie.Need-slice-aggregate-fit-parties
-slice-aggregate-fit-parties c = sym (length-take-le _ _ (omega (arith, small (second (third c.before.before)))))
+slice_bounds-fit_parties-end : tie.Need-slice_bounds-fit_parties-end
+slice_bounds-fit_parties-end c = sym (length-take-le _ _ (omega (arith, small (second (third c.before.before)))))
 
-fit-parties-requires : tie.Need-fit-parties-requires
-fit-parties-requires c κs =
+fit_parties-requires : tie.Need-fit_parties-requires
+fit_parties-requires c κs =
     let f = small (second (third c.before.before)) in
     (f.0, f.1, omega arith, length-take-le _ _ (omega arith), (start (second (third c.before.before))).requires)
 
-returns-4 : tie.Need-returns-4
-returns-4 c =
+returns : tie.Need-returns
+returns c =
     let h = c.before.before in
-    let e = third h.before in
+    let e = third c.before.before.before in
     let counted = h.before.before in
     let a = (start (second e)).args in
     let p = prime_of a.w in
     let T = take a.n a.table in
     let within = ltb-true a.set (2 ^ a.n) (inside e) in
-    c.fit-parties.ensures
+    c.fit_parties.ensures
     ∙ ap₂ (λ m ys. decoded (fit p a.t (needed a.t m (sent p ys)) T ys))
-    (ap (λ k. k - a.t) counted.count.ensures) h.heard-from.ensures
+    (ap (λ k. k - a.t) counted.count-count.ensures) h.heard_from-values.ensures
     ∙ ap decoded (repair-needed p a.n a.t T a.set a.heard (positive a.w) within)
     ∙ sym
     (repair-admitted p a.n a.t T a.set a.heard (sized (second e)) within
-    (omega (arith, counted.count.ensures, h.before.if3.false)))
+    (omega (arith, counted.count-count.ensures, h.if-count-fewest.false)))
 
-pub repair-spec : {M : Type 1} → statement M
-repair-spec =
+pub repair_spec : {M : Type 1} → statement M
+repair_spec =
     tie.close
     (tie.spec
     sizes-requires
-    refused-fit-requires
-    returns
+    refused_fit-requires
+    returns-then-not-sizes
     within-requires
-    refused-fit-requires-2
-    returns-2
-    count-requires
-    cast-count
-    mul-fewest
-    add-fewest
-    refused-fit-requires-3
-    returns-3
-    heard-from-requires
-    sub-fit-parties
-    array-share-prefix-values
-    slice-aggregate-fit-parties
-    fit-parties-requires
-    returns-4)
+    refused_fit-requires-then-not-within
+    returns-then-not-within
+    count-count-requires
+    overflow_cast-count
+    overflow_mul-fewest
+    overflow_add-fewest
+    refused_fit-requires-then-count-fewest
+    returns-then-count-fewest
+    heard_from-values-requires
+    overflow_sub-count
+    slice_bounds-values-end
+    slice_bounds-fit_parties-end
+    fit_parties-requires
+    returns)

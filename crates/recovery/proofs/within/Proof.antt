@@ -18,11 +18,13 @@ none_above S d positive =
     (λ e. lt-ltb S d (omega (arith, iff.0 (omega (arith, eqb-true (S / d) 0 e)))))
     (λ e. eq-eqb (S / d) 0 (omega (arith, iff.1 (omega (arith, ltb-true S d e)))))
 
-shr-result : tie.Need-overflow-shr-result
-shr-result c = search rules
+overflow_shr-result : tie.Need-overflow_shr-result
+overflow_shr-result c = search rules
 
 returns : tie.Need-returns
 returns c = none_above c.args.set _ (pow_pos c.args.n)
 
-pub within-spec : {M : Type 1} → statement M
-within-spec = tie.close (tie.spec shr-result returns)
+pub within_spec : {M : Type 1} → statement M
+within_spec = tie.close (tie.spec
+    overflow_shr-result
+    returns)

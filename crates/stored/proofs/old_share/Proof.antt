@@ -5,8 +5,8 @@ use borrow.Author.Rules.{rules}
 use Rattle.stored.proofs.old_share.Statement.{statement}
 use Rattle.stored.proofs.old_share.Tie as tie
 
-returns : tie.Need-returns
-returns c = sym (old-length _ c.if1.true)
+returns-then-bytes-ne2 : tie.Need-returns-then-bytes-ne2
+returns-then-bytes-ne2 c = sym (old-length _ c.if-bytes-ne2.true)
 
 number-requires : tie.Need-number-requires
 number-requires c κs = search rules
@@ -14,15 +14,20 @@ number-requires c κs = search rules
 wide-requires : tie.Need-wide-requires
 wide-requires c κs = search rules
 
-share-of-requires : tie.Need-share-of-requires
-share-of-requires c κs = search rules
+share_of-requires : tie.Need-share_of-requires
+share_of-requires c κs = search rules
 
-returns-2 : tie.Need-returns-2
-returns-2 c =
-    let two = c.before.before.before.if1.false in
-    let number = c.before.wide.ensures ∙ c.before.before.number.ensures in
-    c.share-of.ensures ∙ sym (old-named _ two _ number)
+returns : tie.Need-returns
+returns c =
+    let two = c.if-bytes-ne2.false in
+    let number = c.wide.ensures ∙ c.number.ensures in
+    c.share_of.ensures ∙ sym (old-named _ two _ number)
 
-pub old-share-spec : {M : Type 1} → statement M
-old-share-spec =
-    tie.close (tie.spec returns number-requires wide-requires share-of-requires returns-2)
+pub old_share_spec : {M : Type 1} → statement M
+old_share_spec =
+    tie.close (tie.spec
+    returns-then-bytes-ne2
+    number-requires
+    wide-requires
+    share_of-requires
+    returns)

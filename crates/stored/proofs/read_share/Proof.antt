@@ -7,66 +7,66 @@ use borrow.Author.Rules.{rules}
 use Rattle.stored.proofs.read_share.Statement.{statement}
 use Rattle.stored.proofs.read_share.Tie as tie
 
+returns-then-bytes-ne6 : tie.Need-returns-then-bytes-ne6
+returns-then-bytes-ne6 c = sym (read_length _ c.if-bytes-ne6.true)
+
+bounds-bytes-0 : tie.Need-bounds-bytes-0
+bounds-bytes-0 c = search rules
+
+returns-then-bytes-gt1 : tie.Need-returns-then-bytes-gt1
+returns-then-bytes-gt1 c = sym (read-prime _ c.if-bytes-ne6.false (omega arith))
+
+bounds-bytes-1 : tie.Need-bounds-bytes-1
+bounds-bytes-1 c = search rules
+
+returns-then-bytes-ne0 : tie.Need-returns-then-bytes-ne0
+returns-then-bytes-ne0 c = sym (read-zero _ c.if-bytes-ne6.false (omega arith) c.if-bytes-ne0.true)
+
+bounds-bytes-0-2 : tie.Need-bounds-bytes-0-2
+bounds-bytes-0-2 c = search rules
+
+width_named-w-requires : tie.Need-width_named-w-requires
+width_named-w-requires c κs = search rules
+
+slice_bounds-wide_number-count : tie.Need-slice_bounds-wide_number-count
+slice_bounds-wide_number-count c = search rules
+
+slice_bounds-wide_number-start : tie.Need-slice_bounds-wide_number-start
+slice_bounds-wide_number-start c = search rules
+
+slice_bounds-wide_number-end : tie.Need-slice_bounds-wide_number-end
+slice_bounds-wide_number-end c = search rules
+
+wide_number-requires : tie.Need-wide_number-requires
+wide_number-requires c κs = search rules
+
+share_of-requires : tie.Need-share_of-requires
+share_of-requires c κs = search rules
+
 returns : tie.Need-returns
-returns c = sym (read_length _ c.if1.true)
-
-shared-slice-read-if2 : tie.Need-shared-slice-read-if2
-shared-slice-read-if2 c = search rules
-
-returns-2 : tie.Need-returns-2
-returns-2 c = sym (read-prime _ c.before.before.if1.false (omega arith))
-
-shared-slice-read-if3 : tie.Need-shared-slice-read-if3
-shared-slice-read-if3 c = search rules
-
-returns-3 : tie.Need-returns-3
-returns-3 c = sym (read-zero _ c.before.before.before.before.if1.false (omega arith) c.if3.true)
-
-shared-slice-read-width-named : tie.Need-shared-slice-read-width-named
-shared-slice-read-width-named c = search rules
-
-width-named-requires : tie.Need-width-named-requires
-width-named-requires c κs = search rules
-
-sub-wide-number : tie.Need-overflow-sub-wide-number
-sub-wide-number c = search rules
-
-part-wide-number-start : tie.Need-slice-bounds-wide-number-start
-part-wide-number-start c = search rules
-
-part-wide-number-end : tie.Need-slice-bounds-wide-number-end
-part-wide-number-end c = search rules
-
-wide-number-requires : tie.Need-wide-number-requires
-wide-number-requires c κs = search rules
-
-share-of-requires : tie.Need-share-of-requires
-share-of-requires c κs = search rules
-
-returns-4 : tie.Need-returns-4
-returns-4 c =
+returns c =
     let width = c.before.before.before in
     let third = width.before.before in
     let first = third.before.before.before.before in
-    let six = first.if1.false in
-    let last = last-four first.before.before.args.bytes.now six in
-    let number = c.before.wide-number.ensures ∙ ap (λ part. wide_number_in part 0) last in
-    c.share-of.ensures ∙ sym (read_named _ six (omega arith) third.if3.false _ _ width.width-named.ensures number)
+    let six = first.if-bytes-ne6.false in
+    let last = last-four first.args.bytes.now six in
+    let number = c.wide_number.ensures ∙ ap (λ part. wide_number_in part 0) last in
+    c.share_of.ensures ∙ sym (read_named _ six (omega arith) third.if-bytes-ne0.false _ _ width.width_named-w.ensures number)
 
-pub read-share-spec : {M : Type 1} → statement M
-read-share-spec =
+pub read_share_spec : {M : Type 1} → statement M
+read_share_spec =
     tie.close
     (tie.spec
-    returns
-    shared-slice-read-if2
-    returns-2
-    shared-slice-read-if3
-    returns-3
-    shared-slice-read-width-named
-    width-named-requires
-    sub-wide-number
-    part-wide-number-start
-    part-wide-number-end
-    wide-number-requires
-    share-of-requires
-    returns-4)
+    returns-then-bytes-ne6
+    bounds-bytes-0
+    returns-then-bytes-gt1
+    bounds-bytes-1
+    returns-then-bytes-ne0
+    bounds-bytes-0-2
+    width_named-w-requires
+    slice_bounds-wide_number-count
+    slice_bounds-wide_number-start
+    slice_bounds-wide_number-end
+    wide_number-requires
+    share_of-requires
+    returns)

@@ -9,11 +9,14 @@ use Rattle.stored.proofs.share_of.Tie as tie
 modulus-requires : tie.Need-modulus-requires
 modulus-requires c κs = search rules
 
+returns-then-v-modulus : tie.Need-returns-then-v-modulus
+returns-then-v-modulus c = let a = c.args in sym (share-residue a.w a.v (omega (arith, c.modulus.ensures)))
+
 returns : tie.Need-returns
-returns c = let a = c.before.before.args in sym (share-residue a.w a.v (omega (arith, c.before.modulus.ensures)))
+returns c = let a = c.args in sym (share-none a.w a.v (omega (arith, c.modulus.ensures)))
 
-returns-2 : tie.Need-returns-2
-returns-2 c = let a = c.before.before.args in sym (share-none a.w a.v (omega (arith, c.before.modulus.ensures)))
-
-pub share-of-spec : {M : Type 1} → statement M
-share-of-spec = tie.close (tie.spec modulus-requires returns returns-2)
+pub share_of_spec : {M : Type 1} → statement M
+share_of_spec = tie.close (tie.spec
+    modulus-requires
+    returns-then-v-modulus
+    returns)

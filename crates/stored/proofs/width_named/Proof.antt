@@ -4,11 +4,13 @@ use Rattle.stored.proofs.Answers.{width-zero, width-other}
 use Rattle.stored.proofs.width_named.Statement.{statement}
 use Rattle.stored.proofs.width_named.Tie as tie
 
+returns-then-x-eq0 : tie.Need-returns-then-x-eq0
+returns-then-x-eq0 c = sym (width-zero _ c.if-x-eq0.true)
+
 returns : tie.Need-returns
-returns c = sym (width-zero _ c.if1.true)
+returns c = sym (width-other _ c.if-x-eq0.false)
 
-returns-2 : tie.Need-returns-2
-returns-2 c = sym (width-other _ c.if1.false)
-
-pub width-named-spec : {M : Type 1} → statement M
-width-named-spec = tie.close (tie.spec returns returns-2)
+pub width_named_spec : {M : Type 1} → statement M
+width_named_spec = tie.close (tie.spec
+    returns-then-x-eq0
+    returns)
