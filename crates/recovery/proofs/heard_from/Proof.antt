@@ -69,9 +69,9 @@ loop-k-preserved c =
     λ v e. fill-next told 16 k.list k.k v k.invariant.1 (omega arith) e in (
       search rules,
       ⊎_elim
-          (λ w. w.1 ∙ turn _ (heard-member mark a.set a.heard k.k w.0.taken))
-          (λ w. w.1 ∙ turn _ (heard-other mark a.set a.heard k.k w.0.left))
-          c.if-set-k-eq1.branch,
+          (λ w. w.list-is ∙ turn _ (heard-member mark a.set a.heard k.k w.if-set-k-eq1.true))
+          (λ w. w.list-is ∙ turn _ (heard-other mark a.set a.heard k.k w.if-set-k-eq1.false))
+          c.if-set-k-eq1.branch-raw,
     )
 
 returns : tie.Need-returns invariant-loop-k decreases-loop-k
