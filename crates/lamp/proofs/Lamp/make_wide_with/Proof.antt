@@ -6,18 +6,21 @@ use borrow.Author.Rules.{rules}
 use Rattle.lamp.proofs.Lamp.make_wide_with.Statement.{statement}
 use Rattle.lamp.proofs.Lamp.make_wide_with.Tie as tie
 
-in-array-wide-requires : tie.Need-in-array-wide-requires
-in-array-wide-requires c κs = search rules
+in_array_wide-kept-requires : tie.Need-in_array_wide-kept-requires
+in_array_wide-kept-requires c κs = search rules
 
 -- src/lib.rt:90:9
-made-with-requires : tie.Need-made-with-requires
-made-with-requires c κs = search rules
+made_with-requires : tie.Need-made_with-requires
+made_with-requires c κs = search rules
 
 -- src/lib.rt:86:5
 returns : tie.Need-returns
 returns c =
-    let a = c.before.before.before.args in
-    c.made-with.ensures ∙ made_kept Wide a.n a.t a.number a.table.now _ c.before.in-array-wide.ensures
+    let a = c.args in
+    c.made_with.ensures ∙ made_kept Wide a.n a.t a.number a.table.now _ c.in_array_wide-kept.ensures
 
-pub make-wide-with-spec : {M : Type 1} → statement M
-make-wide-with-spec = tie.close (tie.spec in-array-wide-requires made-with-requires returns)
+pub make_wide_with_spec : {M : Type 1} → statement M
+make_wide_with_spec = tie.close (tie.spec
+    in_array_wide-kept-requires
+    made_with-requires
+    returns)

@@ -6,18 +6,21 @@ use borrow.Author.Rules.{rules}
 use Rattle.lamp.proofs.Lamp.make_with.Statement.{statement}
 use Rattle.lamp.proofs.Lamp.make_with.Tie as tie
 
-in-array-requires : tie.Need-in-array-requires
-in-array-requires c κs = search rules
+in_array-kept-requires : tie.Need-in_array-kept-requires
+in_array-kept-requires c κs = search rules
 
 -- src/lib.rt:82:9
-made-with-requires : tie.Need-made-with-requires
-made-with-requires c κs = search rules
+made_with-requires : tie.Need-made_with-requires
+made_with-requires c κs = search rules
 
 -- src/lib.rt:78:5
 returns : tie.Need-returns
 returns c =
-    let a = c.before.before.before.args in
-    c.made-with.ensures ∙ made_kept Narrow a.n a.t a.number a.table.now _ c.before.in_array.ensures
+    let a = c.args in
+    c.made_with.ensures ∙ made_kept Narrow a.n a.t a.number a.table.now _ c.in_array-kept.ensures
 
-pub make-with-spec : {M : Type 1} → statement M
-make-with-spec = tie.close (tie.spec in-array-requires made-with-requires returns)
+pub make_with_spec : {M : Type 1} → statement M
+make_with_spec = tie.close (tie.spec
+    in_array-kept-requires
+    made_with-requires
+    returns)

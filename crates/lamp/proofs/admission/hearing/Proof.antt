@@ -9,28 +9,33 @@ use borrow.Author.Rules.{rules}
 use Rattle.lamp.proofs.admission.hearing.Statement.{statement}
 use Rattle.lamp.proofs.admission.hearing.Tie as tie
 
-cast_fits : tie.Need-overflow-cast-fits
-cast_fits c = search rules
+overflow_cast-fits : tie.Need-overflow_cast-fits
+overflow_cast-fits c = search rules
 
 -- src/admission.rt:118:25
-mul-fits : tie.Need-overflow-mul-fits
-mul-fits c = search rules
+overflow_mul-fits : tie.Need-overflow_mul-fits
+overflow_mul-fits c = search rules
 
 -- src/admission.rt:119:29
-is-stage-requires : tie.Need-is-stage-requires
-is-stage-requires c κs = search rules
+is_stage-requires : tie.Need-is_stage-requires
+is_stage-requires c κs = search rules
 
 -- src/admission.rt:119:5
-lent-in-requires : tie.Need-lent-in-requires
-lent-in-requires c κs = search rules
+lent_in-requires : tie.Need-lent_in-requires
+lent_in-requires c κs = search rules
 
 -- src/admission.rt:114:1
 returns : tie.Need-returns
 returns c =
-    let a = c.before.before.before.args in
+    let a = c.args in
     let first = party_tests a.party ++ width_tests a.w a.party in
-    c.lent-in.ensures
-    ∙ ap (λ b. lowest (first ++ lent_tests a.party (eqb a.count (2 * a.party.n)) b)) c.before.is-stage.ensures
+    c.lent_in.ensures
+    ∙ ap (λ b. lowest (first ++ lent_tests a.party (eqb a.count (2 * a.party.n)) b)) c.is_stage.ensures
 
-pub hearing-spec : {M : Type 1} → statement M
-hearing-spec = tie.close (tie.spec cast_fits mul-fits is-stage-requires lent-in-requires returns)
+pub hearing_spec : {M : Type 1} → statement M
+hearing_spec = tie.close (tie.spec
+    overflow_cast-fits
+    overflow_mul-fits
+    is_stage-requires
+    lent_in-requires
+    returns)

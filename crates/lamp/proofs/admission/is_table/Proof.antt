@@ -8,20 +8,25 @@ use borrow.Author.Rules.{rules}
 use Rattle.lamp.proofs.admission.is_table.Statement.{statement}
 use Rattle.lamp.proofs.admission.is_table.Tie as tie
 
+returns-then-n-gt16 : tie.Need-returns-then-n-gt16
+returns-then-n-gt16 c = let a = c.args in short-not (prime_of a.w) a.n a.table (omega arith)
+
+slice_bounds-table-end : tie.Need-slice_bounds-table-end
+slice_bounds-table-end c = search rules
+
+slice_bounds-is_table-end : tie.Need-slice_bounds-is_table-end
+slice_bounds-is_table-end c = sym (length-take-le _ _ (omega arith))
+
+is_table-requires : tie.Need-is_table-requires
+is_table-requires c κs = search rules
+
 returns : tie.Need-returns
-returns c = let a = c.before.args in short-not (prime_of a.w) a.n a.t3 (omega arith)
+returns c = c.is_table.ensures
 
-array-share-prefix-table : tie.Need-array-share-prefix-table
-array-share-prefix-table c = search rules
-
-slice-aggregate-is-table : tie.Need-slice-aggregate-is-table
-slice-aggregate-is-table c = sym (length-take-le _ _ (omega arith))
-
-is-table-requires : tie.Need-is-table-requires
-is-table-requires c κs = search rules
-
-returns-2 : tie.Need-returns-2
-returns-2 c = c.is-table.ensures
-
-pub is-table-spec : {M : Type 1} → statement M
-is-table-spec = tie.close (tie.spec returns array-share-prefix-table slice-aggregate-is-table is-table-requires returns-2)
+pub is_table_spec : {M : Type 1} → statement M
+is_table_spec = tie.close (tie.spec
+    returns-then-n-gt16
+    slice_bounds-table-end
+    slice_bounds-is_table-end
+    is_table-requires
+    returns)

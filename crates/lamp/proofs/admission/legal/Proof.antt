@@ -8,28 +8,28 @@ use Rattle.lamp.proofs.admission.legal.Tie as tie
 sizes-requires : tie.Need-sizes-requires
 sizes-requires c κs = search rules
 
+also-size-requires : tie.Need-also-size-requires
+also-size-requires c κs = search rules
+
+is_party-requires : tie.Need-is_party-requires
+is_party-requires c κs = search rules
+
 also-requires : tie.Need-also-requires
 also-requires c κs = search rules
-
-is-party-requires : tie.Need-is-party-requires
-is-party-requires c κs = search rules
-
-also-requires-2 : tie.Need-also-requires-2
-also-requires-2 c κs = search rules
 
 returns : tie.Need-returns
 returns c =
     let size = c.before.before in
-    let a = size.before.before.args in
-    rw (c.also2.ensures, c.before.is-party.ensures, size.also.ensures, size.before.sizes.ensures)
+    let a = size.args in
+    rw (c.also.ensures, c.is_party.ensures, size.also-size.ensures, size.sizes.ensures)
     (in_order (party_tests a.party))
 
-pub legal-spec : {M : Type 1} → statement M
-legal-spec =
+pub legal_spec : {M : Type 1} → statement M
+legal_spec =
     tie.close
     (tie.spec
     sizes-requires
+    also-size-requires
+    is_party-requires
     also-requires
-    is-party-requires
-    also-requires-2
     returns)

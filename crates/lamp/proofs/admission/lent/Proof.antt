@@ -11,32 +11,32 @@ legal-requires : tie.Need-legal-requires
 legal-requires c κs = search rules
 
 -- src/admission.rt:55:9
-also-requires : tie.Need-also-requires
-also-requires c κs = search rules
+also-list-requires : tie.Need-also-list-requires
+also-list-requires c κs = search rules
 
 -- src/admission.rt:56:29
-is-table-requires : tie.Need-is-table-requires
-is-table-requires c κs = search rules
+is_table-requires : tie.Need-is_table-requires
+is_table-requires c κs = search rules
 
 -- src/admission.rt:56:9
-also-requires-2 : tie.Need-also-requires-2
-also-requires-2 c κs = search rules
+also-points-requires : tie.Need-also-points-requires
+also-points-requires c κs = search rules
 
 -- src/admission.rt:57:5
-also-requires-3 : tie.Need-also-requires-3
-also-requires-3 c κs = search rules
+also-requires : tie.Need-also-requires
+also-requires c κs = search rules
 
 -- src/admission.rt:50:1
 returns : tie.Need-returns
 returns c =
     let table = c.before.before in
     let legal = table.before.before in
-    let a = legal.before.before.args in
+    let a = legal.args in
     rw (
-      c.also3.ensures,
-      c.before.also2.ensures,
-      table.is-table.ensures,
-      table.before.also.ensures,
+      c.also.ensures,
+      c.also-points.ensures,
+      table.is_table.ensures,
+      table.also-list.ensures,
       legal.legal.ensures ∙ sym (in_order (party_tests a.party)),
     )
     (in_order (party_tests a.party ++ lent_tests a.party a.fits a.takes))
@@ -46,8 +46,8 @@ lent_spec =
     tie.close
     (tie.spec
     legal-requires
+    also-list-requires
+    is_table-requires
+    also-points-requires
     also-requires
-    is-table-requires
-    also-requires-2
-    also-requires-3
     returns)

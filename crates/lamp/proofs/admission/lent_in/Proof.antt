@@ -11,28 +11,28 @@ legal-requires : tie.Need-legal-requires
 legal-requires c κs = search rules
 
 -- src/admission.rt:68:9
-same-width-requires : tie.Need-same-width-requires
-same-width-requires c κs = search rules
+same_width-requires : tie.Need-same_width-requires
+same_width-requires c κs = search rules
 
 -- src/admission.rt:66:9
-also-requires : tie.Need-also-requires
-also-requires c κs = search rules
+also-own-requires : tie.Need-also-own-requires
+also-own-requires c κs = search rules
 
 -- src/admission.rt:71:9
-also-requires-2 : tie.Need-also-requires-2
-also-requires-2 c κs = search rules
+also-list-requires : tie.Need-also-list-requires
+also-list-requires c κs = search rules
 
 -- src/admission.rt:72:29
-is-table-requires : tie.Need-is-table-requires
-is-table-requires c κs = search rules
+is_table-requires : tie.Need-is_table-requires
+is_table-requires c κs = search rules
 
 -- src/admission.rt:72:9
-also-requires-3 : tie.Need-also-requires-3
-also-requires-3 c κs = search rules
+also-points-requires : tie.Need-also-points-requires
+also-points-requires c κs = search rules
 
 -- src/admission.rt:73:5
-also-requires-4 : tie.Need-also-requires-4
-also-requires-4 c κs = search rules
+also-requires : tie.Need-also-requires
+also-requires c κs = search rules
 
 -- src/admission.rt:61:1
 returns : tie.Need-returns
@@ -40,27 +40,27 @@ returns c =
     let table = c.before.before in
     let width = table.before.before.before in
     let legal = width.before in
-    let a = legal.before.before.args in
+    let a = legal.args in
     rw (
-      c.also4.ensures,
-      c.before.also3.ensures,
-      table.is-table.ensures,
-      table.before.also2.ensures,
-      table.before.before.also.ensures,
-      width.same-width.ensures,
+      c.also.ensures,
+      c.also-points.ensures,
+      table.is_table.ensures,
+      table.also-list.ensures,
+      table.also-own.ensures,
+      width.same_width.ensures,
       legal.legal.ensures ∙ sym (in_order (party_tests a.party)),
     )
     (in_order (party_tests a.party ++ width_tests a.w a.party ++ lent_tests a.party a.fits a.takes))
 
-pub lent-in-spec : {M : Type 1} → statement M
-lent-in-spec =
+pub lent_in_spec : {M : Type 1} → statement M
+lent_in_spec =
     tie.close
     (tie.spec
     legal-requires
-    same-width-requires
+    same_width-requires
+    also-own-requires
+    also-list-requires
+    is_table-requires
+    also-points-requires
     also-requires
-    also-requires-2
-    is-table-requires
-    also-requires-3
-    also-requires-4
     returns)

@@ -10,31 +10,36 @@ legal-requires : tie.Need-legal-requires
 legal-requires c κs = search rules
 
 -- src/admission.rt:93:9
-also-requires : tie.Need-also-requires
-also-requires c κs = search rules
+also-list-requires : tie.Need-also-list-requires
+also-list-requires c κs = search rules
 
 -- src/admission.rt:94:16
-is-table-requires : tie.Need-is-table-requires
-is-table-requires c κs = search rules
+is_table-requires : tie.Need-is_table-requires
+is_table-requires c κs = search rules
 
 -- src/admission.rt:94:5
-also-requires-2 : tie.Need-also-requires-2
-also-requires-2 c κs = search rules
+also-requires : tie.Need-also-requires
+also-requires c κs = search rules
 
 -- src/admission.rt:88:1
 returns : tie.Need-returns
 returns c =
     let table = c.before in
     let legal = table.before.before in
-    let a = legal.before.before.args in
+    let a = legal.args in
     rw (
-      c.also2.ensures,
-      table.is-table.ensures,
-      table.before.also.ensures,
+      c.also.ensures,
+      table.is_table.ensures,
+      table.also-list.ensures,
       legal.legal.ensures ∙ sym (in_order (party_tests a.party)),
     )
     (in_order (kept_tests a.party a.fits))
 
-pub making-spec : {M : Type 1} → statement M
-making-spec =
-    tie.close (tie.spec legal-requires also-requires is-table-requires also-requires-2 returns)
+pub making_spec : {M : Type 1} → statement M
+making_spec =
+    tie.close (tie.spec
+    legal-requires
+    also-list-requires
+    is_table-requires
+    also-requires
+    returns)

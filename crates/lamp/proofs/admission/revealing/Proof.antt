@@ -8,24 +8,28 @@ use borrow.Author.Rules.{rules}
 use Rattle.lamp.proofs.admission.revealing.Statement.{statement}
 use Rattle.lamp.proofs.admission.revealing.Tie as tie
 
-cast_fits : tie.Need-overflow-cast-fits
-cast_fits c = search rules
+overflow_cast-fits : tie.Need-overflow_cast-fits
+overflow_cast-fits c = search rules
 
 -- src/admission.rt:128:29
-is-stage-requires : tie.Need-is-stage-requires
-is-stage-requires c κs = search rules
+is_stage-requires : tie.Need-is_stage-requires
+is_stage-requires c κs = search rules
 
 -- src/admission.rt:128:5
-lent-in-requires : tie.Need-lent-in-requires
-lent-in-requires c κs = search rules
+lent_in-requires : tie.Need-lent_in-requires
+lent_in-requires c κs = search rules
 
 -- src/admission.rt:123:1
 returns : tie.Need-returns
 returns c =
-    let a = c.before.before.before.args in
+    let a = c.args in
     let first = party_tests a.party ++ width_tests a.w a.party in
-    c.lent-in.ensures
-    ∙ ap (λ b. lowest (first ++ lent_tests a.party (eqb a.count a.party.n) b)) c.before.is-stage.ensures
+    c.lent_in.ensures
+    ∙ ap (λ b. lowest (first ++ lent_tests a.party (eqb a.count a.party.n) b)) c.is_stage.ensures
 
-pub revealing-spec : {M : Type 1} → statement M
-revealing-spec = tie.close (tie.spec cast_fits is-stage-requires lent-in-requires returns)
+pub revealing_spec : {M : Type 1} → statement M
+revealing_spec = tie.close (tie.spec
+    overflow_cast-fits
+    is_stage-requires
+    lent_in-requires
+    returns)

@@ -12,43 +12,43 @@ legal-requires : tie.Need-legal-requires
 legal-requires c κs = search rules
 
 -- src/admission.rt:82:9
-also-requires : tie.Need-also-requires
-also-requires c κs = search rules
+also-number-requires : tie.Need-also-number-requires
+also-number-requires c κs = search rules
 
 -- src/admission.rt:83:31
-is-table-requires : tie.Need-is-table-requires
-is-table-requires c κs = search rules
+is_table-requires : tie.Need-is_table-requires
+is_table-requires c κs = search rules
 
 -- src/admission.rt:83:9
-also-requires-2 : tie.Need-also-requires-2
-also-requires-2 c κs = search rules
+also-points-requires : tie.Need-also-points-requires
+also-points-requires c κs = search rules
 
 -- src/admission.rt:84:5
-also-requires-3 : tie.Need-also-requires-3
-also-requires-3 c κs = search rules
+also-requires : tie.Need-also-requires
+also-requires c κs = search rules
 
 -- src/admission.rt:77:1
 returns : tie.Need-returns
 returns c =
     let table = c.before.before in
     let legal = table.before.before in
-    let a = legal.before.before.args in
+    let a = legal.args in
     rw (
-      c.also3.ensures,
-      c.before.also2.ensures,
-      table.is-table.ensures,
-      table.before.also.ensures,
+      c.also.ensures,
+      c.also-points.ensures,
+      table.is_table.ensures,
+      table.also-number.ensures,
       legal.legal.ensures ∙ sym (in_order (party_tests a.party)),
     )
     (in_order (party_tests a.party ++ (a.named, WrongNumber) ∷ state_tests a.party a.takes))
 
-pub saying-spec : {M : Type 1} → statement M
-saying-spec =
+pub saying_spec : {M : Type 1} → statement M
+saying_spec =
     tie.close
     (tie.spec
     legal-requires
+    also-number-requires
+    is_table-requires
+    also-points-requires
     also-requires
-    is-table-requires
-    also-requires-2
-    also-requires-3
     returns)

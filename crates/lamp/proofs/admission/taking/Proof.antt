@@ -10,33 +10,39 @@ use borrow.Author.Rules.{rules}
 use Rattle.lamp.proofs.admission.taking.Statement.{statement}
 use Rattle.lamp.proofs.admission.taking.Tie as tie
 
-cast_fits : tie.Need-overflow-cast-fits
-cast_fits c = search rules
+overflow_cast-fits : tie.Need-overflow_cast-fits
+overflow_cast-fits c = search rules
 
 -- src/admission.rt:109:30
-add-fits : tie.Need-overflow-add-fits
-add-fits c = search rules
+overflow_add-fits : tie.Need-overflow_add-fits
+overflow_add-fits c = search rules
 
 -- src/admission.rt:109:25
-mul-fits : tie.Need-overflow-mul-fits
-mul-fits c = search rules
+overflow_mul-fits : tie.Need-overflow_mul-fits
+overflow_mul-fits c = search rules
 
 -- src/admission.rt:110:29
-is-stage-requires : tie.Need-is-stage-requires
-is-stage-requires c κs = search rules
+is_stage-requires : tie.Need-is_stage-requires
+is_stage-requires c κs = search rules
 
 -- src/admission.rt:110:5
-lent-in-requires : tie.Need-lent-in-requires
-lent-in-requires c κs = search rules
+lent_in-requires : tie.Need-lent_in-requires
+lent_in-requires c κs = search rules
 
 -- src/admission.rt:105:1
 returns : tie.Need-returns
 returns c =
-    let a = c.before.before.before.args in
+    let a = c.args in
     let first = party_tests a.party ++ width_tests a.w a.party in
-    c.lent-in.ensures
-    ∙ ap₂ (λ m b. lowest (first ++ lent_tests a.party (eqb a.count (2 * m)) b)) (add-one a.party.t) c.before.is-stage.ensures
+    c.lent_in.ensures
+    ∙ ap₂ (λ m b. lowest (first ++ lent_tests a.party (eqb a.count (2 * m)) b)) (add-one a.party.t) c.is_stage.ensures
 
-pub taking-spec : {M : Type 1} → statement M
-taking-spec =
-    tie.close (tie.spec cast_fits add-fits mul-fits is-stage-requires lent-in-requires returns)
+pub taking_spec : {M : Type 1} → statement M
+taking_spec =
+    tie.close (tie.spec
+    overflow_cast-fits
+    overflow_add-fits
+    overflow_mul-fits
+    is_stage-requires
+    lent_in-requires
+    returns)

@@ -11,26 +11,26 @@ use borrow.Author.Rules.{rules}
 use Rattle.lamp.proofs.dealing.dealt.Statement.{statement}
 use Rattle.lamp.proofs.dealing.dealt.Tie as tie
 
-cast-terms : tie.Need-overflow-cast-terms
-cast-terms c = search rules
+overflow_cast-terms : tie.Need-overflow_cast-terms
+overflow_cast-terms c = search rules
 
-add-terms : tie.Need-overflow-add-terms
-add-terms c = search rules
+overflow_add-terms : tie.Need-overflow_add-terms
+overflow_add-terms c = search rules
 
-widened-requires : tie.Need-widened-requires
-widened-requires c κs =
+widened-row-requires : tie.Need-widened-row-requires
+widened-row-requires c κs =
     let s = c.before.before in
     let f = valid-facts s.args.lamp.party s.requires.0 in
     (omega (arith, f.degree, s.requires.1), omega (arith, f.degree))
 
-widened-requires-2 : tie.Need-widened-requires-2
-widened-requires-2 c κs =
+widened-column-requires : tie.Need-widened-column-requires
+widened-column-requires c κs =
     let s = c.before.before.before in
     let f = valid-facts s.args.lamp.party s.requires.0 in
     (omega (arith, f.degree, s.requires.1), omega (arith, f.degree))
 
-with-row-and-column-requires : tie.Need-with-row-and-column-requires
-with-row-and-column-requires c κs = search rules
+with_row_and_column-requires : tie.Need-with_row_and_column-requires
+with_row_and_column-requires c κs = search rules
 
 returns : tie.Need-returns
 unfolding with_deal
@@ -41,21 +41,21 @@ returns c =
     let d = s.args.deal.now in
     let all : length (drop (suc l.party.t) d) ≤ suc l.party.t =
     omega (arith, length-drop (suc l.party.t) d, s.requires.1) in
-    c.with-row-and-column.ensures
+    c.with_row_and_column.ensures
     ∙ simp (
-      second.before.widened.ensures,
-      second.widened2.ensures,
+      second.widened-row.ensures,
+      second.widened-column.ensures,
       add-one l.party.t,
       take_all (suc l.party.t) (drop (suc l.party.t) d) all,
     )
 
-pub dealt-spec : {M : Type 1} → statement M
-dealt-spec =
+pub dealt_spec : {M : Type 1} → statement M
+dealt_spec =
     tie.close
     (tie.spec
-    cast-terms
-    add-terms
-    widened-requires
-    widened-requires-2
-    with-row-and-column-requires
+    overflow_cast-terms
+    overflow_add-terms
+    widened-row-requires
+    widened-column-requires
+    with_row_and_column-requires
     returns)

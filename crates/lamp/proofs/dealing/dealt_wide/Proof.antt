@@ -11,26 +11,26 @@ use borrow.Author.Rules.{rules}
 use Rattle.lamp.proofs.dealing.dealt_wide.Statement.{statement}
 use Rattle.lamp.proofs.dealing.dealt_wide.Tie as tie
 
-cast-terms : tie.Need-overflow-cast-terms
-cast-terms c = search rules
+overflow_cast-terms : tie.Need-overflow_cast-terms
+overflow_cast-terms c = search rules
 
-add-terms : tie.Need-overflow-add-terms
-add-terms c = search rules
+overflow_add-terms : tie.Need-overflow_add-terms
+overflow_add-terms c = search rules
 
-copied-requires : tie.Need-copied-requires
-copied-requires c κs =
+copied-row-requires : tie.Need-copied-row-requires
+copied-row-requires c κs =
     let s = c.before.before in
     let f = valid-facts s.args.lamp.party s.requires.0 in
     (omega (arith, f.degree, s.requires.1), omega (arith, f.degree))
 
-copied-requires-2 : tie.Need-copied-requires-2
-copied-requires-2 c κs =
+copied-column-requires : tie.Need-copied-column-requires
+copied-column-requires c κs =
     let s = c.before.before.before in
     let f = valid-facts s.args.lamp.party s.requires.0 in
     (omega (arith, f.degree, s.requires.1), omega (arith, f.degree))
 
-with-row-and-column-requires : tie.Need-with-row-and-column-requires
-with-row-and-column-requires c κs = search rules
+with_row_and_column-requires : tie.Need-with_row_and_column-requires
+with_row_and_column-requires c κs = search rules
 
 returns : tie.Need-returns
 unfolding with_deal
@@ -41,21 +41,21 @@ returns c =
     let d = s.args.deal.now in
     let all : length (drop (suc l.party.t) d) ≤ suc l.party.t =
     omega (arith, length-drop (suc l.party.t) d, s.requires.1) in
-    c.with-row-and-column.ensures
+    c.with_row_and_column.ensures
     ∙ simp (
-      second.before.copied.ensures,
-      second.copied2.ensures,
+      second.copied-row.ensures,
+      second.copied-column.ensures,
       add-one l.party.t,
       take_all (suc l.party.t) (drop (suc l.party.t) d) all,
     )
 
-pub dealt-wide-spec : {M : Type 1} → statement M
-dealt-wide-spec =
+pub dealt_wide_spec : {M : Type 1} → statement M
+dealt_wide_spec =
     tie.close
     (tie.spec
-    cast-terms
-    add-terms
-    copied-requires
-    copied-requires-2
-    with-row-and-column-requires
+    overflow_cast-terms
+    overflow_add-terms
+    copied-row-requires
+    copied-column-requires
+    with_row_and_column-requires
     returns)

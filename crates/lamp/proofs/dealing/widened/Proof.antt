@@ -4,17 +4,17 @@ use borrow.Author.Rules.{rules}
 use Rattle.lamp.proofs.dealing.widened.Statement.{statement}
 use Rattle.lamp.proofs.dealing.widened.Tie as tie
 
-widened-at-requires : tie.Need-widened-at-requires
-widened-at-requires c κs = search rules
+widened_at-a-requires : tie.Need-widened_at-a-requires
+widened_at-a-requires c κs = search rules
 
-widened-at-requires-2 : tie.Need-widened-at-requires-2
-widened-at-requires-2 c κs = search rules
+widened_at-b-requires : tie.Need-widened_at-b-requires
+widened_at-b-requires c κs = search rules
 
-widened-at-requires-3 : tie.Need-widened-at-requires-3
-widened-at-requires-3 c κs = search rules
+widened_at-c-requires : tie.Need-widened_at-c-requires
+widened_at-c-requires c κs = search rules
 
-widened-at-requires-4 : tie.Need-widened-at-requires-4
-widened-at-requires-4 c κs = search rules
+widened_at-d-requires : tie.Need-widened_at-d-requires
+widened_at-d-requires c κs = search rules
 
 returns : tie.Need-returns
 returns c =
@@ -22,10 +22,15 @@ returns c =
     let second = third.before in
     let first = second.before in
     let s = first.before.before in
-    rw (first.widened-at.ensures, second.widened-at2.ensures, third.widened-at3.ensures, c.widened-at4.ensures)
+    rw (first.widened_at-a.ensures, second.widened_at-b.ensures, third.widened_at-c.ensures, c.widened_at-d.ensures)
     (part-four s.args.list.now s.args.from s.args.count s.requires.0 s.requires.1)
 
-pub widened-spec : {M : Type 1} → statement M
-widened-spec =
+pub widened_spec : {M : Type 1} → statement M
+widened_spec =
     tie.close
-    (tie.spec widened-at-requires widened-at-requires-2 widened-at-requires-3 widened-at-requires-4 returns)
+    (tie.spec
+    widened_at-a-requires
+    widened_at-b-requires
+    widened_at-c-requires
+    widened_at-d-requires
+    returns)

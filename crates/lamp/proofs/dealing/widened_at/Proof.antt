@@ -6,28 +6,34 @@ use borrow.Author.Rules.{rules}
 use Rattle.lamp.proofs.dealing.widened_at.Statement.{statement}
 use Rattle.lamp.proofs.dealing.widened_at.Tie as tie
 
-returns : tie.Need-returns
-returns c =
+returns-then-count-k : tie.Need-returns-then-count-k
+returns-then-count-k c =
     let s = c.before.before in
-    part-behind s.args.list.now s.args.from s.args.count s.requires s.args.k c.if1.true
+    part-behind s.args.list.now s.args.from s.args.count s.requires s.args.k c.if-count-k.true
 
-add_wide : tie.Need-overflow-add-wide
-add_wide c = search rules
+overflow_add-from : tie.Need-overflow_add-from
+overflow_add-from c = search rules
 
-mul_wide : tie.Need-overflow-mul-wide
-mul_wide c = search rules
+offset_bounds-list-from : tie.Need-offset_bounds-list-from
+offset_bounds-list-from c = search rules
 
-shared-slice-read-wide : tie.Need-shared-slice-read-wide
-shared-slice-read-wide c = search rules
+bounds-list-from : tie.Need-bounds-list-from
+bounds-list-from c = search rules
 
 wide-requires : tie.Need-wide-requires
 wide-requires c κs = search rules
 
-returns-2 : tie.Need-returns-2
-returns-2 c =
+returns : tie.Need-returns
+returns c =
     let s = c.before.before.before.before in
     c.wide.ensures ∙ part_at s.args.list.now s.args.from s.args.count s.requires s.args.k (omega arith)
 
-pub widened-at-spec : {M : Type 1} → statement M
-widened-at-spec =
-    tie.close (tie.spec returns add_wide mul_wide shared-slice-read-wide wide-requires returns-2)
+pub widened_at_spec : {M : Type 1} → statement M
+widened_at_spec =
+    tie.close (tie.spec
+    returns-then-count-k
+    overflow_add-from
+    offset_bounds-list-from
+    bounds-list-from
+    wide-requires
+    returns)

@@ -5,27 +5,32 @@ use borrow.Author.Rules.{rules}
 use Rattle.lamp.proofs.made.made_by.Statement.{statement}
 use Rattle.lamp.proofs.made.made_by.Tie as tie
 
-enum-known-admitted : tie.Need-enum-known-admitted
-enum-known-admitted c = search rules
+enum_known-admitted : tie.Need-enum_known-admitted
+enum_known-admitted c = search rules
 
 -- src/made.rt:48:33
 refuse-requires : tie.Need-refuse-requires
 refuse-requires c κs = search rules
 
 -- src/made.rt:51:21
-enum_told : tie.Need-enum-told
-enum_told c = search rules
+enum_told-1 : tie.Need-enum_told-1
+enum_told-1 c = search rules
 
 -- src/made.rt:44:1
-returns : tie.Need-returns
-returns c =
-    let found = c.before.before in
-    let l = found.before.before.args.lamp in
-    c.refuse.ensures ∙ ap (made_by l) (sym found.admitted.given.1)
+returns-in-Fail : tie.Need-returns-in-Fail
+returns-in-Fail c =
+    
+    let l = c.args.lamp in
+    c.refuse.ensures ∙ ap (made_by l) (sym c.in-Fail.is)
 
 -- src/made.rt:44:1
-returns-2 : tie.Need-returns-2
-returns-2 c = ap (made_by c.before.before.args.lamp) (sym c.enum_told.given.1)
+returns-in-Pass : tie.Need-returns-in-Pass
+returns-in-Pass c = ap (made_by c.args.lamp) (sym c.in-Pass.is)
 
-pub made-by-spec : {M : Type 1} → statement M
-made-by-spec = tie.close (tie.spec enum-known-admitted refuse-requires enum_told returns returns-2)
+pub made_by_spec : {M : Type 1} → statement M
+made_by_spec = tie.close (tie.spec
+    enum_known-admitted
+    refuse-requires
+    enum_told-1
+    returns-in-Fail
+    returns-in-Pass)

@@ -8,31 +8,36 @@ use borrow.Author.Rules.{rules}
 use Rattle.lamp.proofs.made.made_plain.Statement.{statement}
 use Rattle.lamp.proofs.made.made_plain.Tie as tie
 
-one-to-requires : tie.Need-one-to-requires
-one-to-requires c κs = search rules
+one_to-requires : tie.Need-one_to-requires
+one_to-requires c κs = search rules
 
 -- src/made.rt:68:9
-waiting-requires : tie.Need-waiting-requires
-waiting-requires c κs = search rules
+waiting-lamp-requires : tie.Need-waiting-lamp-requires
+waiting-lamp-requires c κs = search rules
 
 -- src/made.rt:69:19
 legal-requires : tie.Need-legal-requires
 legal-requires c κs = search rules
 
 -- src/made.rt:69:5
-made-by-requires : tie.Need-made-by-requires
-made-by-requires c κs = search rules
+made_by-requires : tie.Need-made_by-requires
+made_by-requires c κs = search rules
 
 -- src/made.rt:65:1
 returns : tie.Need-returns
 returns c =
     let v = c.before.before in
-    let a = v.before.before.args in
+    let a = v.args in
     c.made_by.ensures
-    ∙ ap (made_by v.waiting.result) c.before.legal.ensures
-    ∙ ap (λ (l : Lamp). made_by l (lowest (party_tests l.party))) v.waiting.ensures
-    ∙ made_plain a.w a.n a.t a.number _ v.before.one-to.ensures
+    ∙ ap (made_by v.waiting-lamp.result) c.legal.ensures
+    ∙ ap (λ (l : Lamp). made_by l (lowest (party_tests l.party))) v.waiting-lamp.ensures
+    ∙ made_plain a.w a.n a.t a.number _ v.one_to.ensures
 
-pub made-plain-spec : {M : Type 1} → statement M
-made-plain-spec =
-    tie.close (tie.spec one-to-requires waiting-requires legal-requires made-by-requires returns)
+pub made_plain_spec : {M : Type 1} → statement M
+made_plain_spec =
+    tie.close (tie.spec
+    one_to-requires
+    waiting-lamp-requires
+    legal-requires
+    made_by-requires
+    returns)

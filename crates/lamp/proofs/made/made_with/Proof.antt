@@ -7,25 +7,29 @@ use borrow.Author.Rules.{rules}
 use Rattle.lamp.proofs.made.made_with.Statement.{statement}
 use Rattle.lamp.proofs.made.made_with.Tie as tie
 
-waiting-requires : tie.Need-waiting-requires
-waiting-requires c κs = search rules
+waiting-lamp-requires : tie.Need-waiting-lamp-requires
+waiting-lamp-requires c κs = search rules
 
 -- src/made.rt:61:19
 making-requires : tie.Need-making-requires
 making-requires c κs = search rules
 
 -- src/made.rt:61:5
-made-by-requires : tie.Need-made-by-requires
-made-by-requires c κs = search rules
+made_by-requires : tie.Need-made_by-requires
+made_by-requires c κs = search rules
 
 -- src/made.rt:57:1
 returns : tie.Need-returns
 returns c =
     let v = c.before.before in
-    let a = v.before.args in
+    let a = v.args in
     c.made_by.ensures
-    ∙ ap (made_by v.waiting.result) c.before.making.ensures
-    ∙ ap (λ (l : Lamp). made_by l (lowest (kept_tests l.party a.fits))) v.waiting.ensures
+    ∙ ap (made_by v.waiting-lamp.result) c.making.ensures
+    ∙ ap (λ (l : Lamp). made_by l (lowest (kept_tests l.party a.fits))) v.waiting-lamp.ensures
 
-pub made-with-spec : {M : Type 1} → statement M
-made-with-spec = tie.close (tie.spec waiting-requires making-requires made-by-requires returns)
+pub made_with_spec : {M : Type 1} → statement M
+made_with_spec = tie.close (tie.spec
+    waiting-lamp-requires
+    making-requires
+    made_by-requires
+    returns)

@@ -5,44 +5,44 @@ use borrow.Author.Rules.{rules}
 use Rattle.lamp.proofs.opening.opened_by.Statement.{statement}
 use Rattle.lamp.proofs.opening.opened_by.Tie as tie
 
-enum_told : tie.Need-enum-told
-enum_told c = search rules
+enum_told-1 : tie.Need-enum_told-1
+enum_told-1 c = search rules
 
-enum-told-2 : tie.Need-enum-told-2
-enum-told-2 c = search rules
+enum_told-in-Nothing : tie.Need-enum_told-in-Nothing
+enum_told-in-Nothing c = search rules
 
 refuse-requires : tie.Need-refuse-requires
 refuse-requires c κs = search rules
 
-enum-known-outcome : tie.Need-enum-known-outcome
-enum-known-outcome c = search rules
+enum_known-outcome : tie.Need-enum_known-outcome
+enum_known-outcome c = search rules
 
-refuse-requires-2 : tie.Need-refuse-requires-2
-refuse-requires-2 c κs = search rules
+refuse-requires-in-Refused : tie.Need-refuse-requires-in-Refused
+refuse-requires-in-Refused c κs = search rules
 
-returns : tie.Need-returns
-returns c = let a = c.before.before.args in ap (λ o. opened_by a.lamp o a.constant) (sym c.enum_told.given.1)
+returns-in-Found : tie.Need-returns-in-Found
+returns-in-Found c = let a = c.args in ap (λ o. opened_by a.lamp o a.constant) (sym c.in-Found.is)
 
-returns-2 : tie.Need-returns-2
-returns-2 c =
-    let a = c.before.before.before.args in
-    c.refuse.ensures ∙ ap (λ o. opened_by a.lamp o a.constant) (sym c.before.enum-told2.given.1)
+returns-in-Nothing : tie.Need-returns-in-Nothing
+returns-in-Nothing c =
+    let a = c.args in
+    c.refuse.ensures ∙ ap (λ o. opened_by a.lamp o a.constant) (sym c.in-Nothing.is)
 
-returns-3 : tie.Need-returns-3
-returns-3 c =
-    let found = c.before.before in
-    let a = found.before.before.args in
-    c.refuse2.ensures ∙ ap (λ o. opened_by a.lamp o a.constant) (sym found.outcome.given.1)
+returns-in-Refused : tie.Need-returns-in-Refused
+returns-in-Refused c =
+    
+    let a = c.args in
+    c.refuse-in-Refused.ensures ∙ ap (λ o. opened_by a.lamp o a.constant) (sym c.in-Refused.is)
 
-pub opened-by-spec : {M : Type 1} → statement M
-opened-by-spec =
+pub opened_by_spec : {M : Type 1} → statement M
+opened_by_spec =
     tie.close
     (tie.spec
-    enum_told
-    enum-told-2
+    enum_told-1
+    enum_told-in-Nothing
     refuse-requires
-    enum-known-outcome
-    refuse-requires-2
-    returns
-    returns-2
-    returns-3)
+    enum_known-outcome
+    refuse-requires-in-Refused
+    returns-in-Found
+    returns-in-Nothing
+    returns-in-Refused)

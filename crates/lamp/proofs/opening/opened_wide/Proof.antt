@@ -12,33 +12,37 @@ use Rattle.lamp.proofs.opening.opened_wide.Statement.{statement}
 use Rattle.lamp.proofs.opening.opened_wide.Tie as tie
 
 -- What is fitted to the shares is their opening.
-fitted : (f : tie.After-opening) → let a = f.before.before.before.before.args in
-    f.opening.result ≡ decoded (opening a.lamp a.shares.now)
+fitted : (f : tie.After-opening-opening) → let a = f.args in
+    f.opening-opening.result ≡ decoded (opening a.lamp a.shares.now)
 unfolding opening
 fitted f =
     let s = f.before.before.before.before in
-    f.opening.ensures ∙ opening-admitted _ _ _ _ _ _ _ s.requires.0.size s.requires.0.party s.requires.1
+    f.opening-opening.ensures ∙ opening-admitted _ _ _ _ _ _ _ s.requires.0.size s.requires.0.party s.requires.1
 
-opening-requires : tie.Need-opening-requires
-opening-requires c κs = let s = c.before.before.before in (valid-facts s.args.lamp.party s.requires.0).table
+opening-opening-requires : tie.Need-opening-opening-requires
+opening-opening-requires c κs = let s = c.before.before.before in (valid-facts s.args.lamp.party s.requires.0).table
 
 -- src/opening.rt:45:30
-array-read-opened-by : tie.Need-array-read-opened-by
-array-read-opened-by c = search rules
+bounds-shared-0 : tie.Need-bounds-shared-0
+bounds-shared-0 c = search rules
 
 -- src/opening.rt:45:5
-opened-by-requires : tie.Need-opened-by-requires
-opened-by-requires c κs = search rules
+opened_by-requires : tie.Need-opened_by-requires
+opened_by-requires c κs = search rules
 
 -- src/opening.rt:27:1
 returns : tie.Need-returns
 returns c =
     let f = c.before.before in
-    let a = f.before.before.before.before.args in
-    c.opened-by.ensures
+    let a = f.args in
+    c.opened_by.ensures
     ∙ ap (λ (r : Fitted). opened_by a.lamp r.outcome (get_or r.coefficients 0 0)) (fitted f)
     ∙ opened-decoded a.lamp (opening a.lamp a.shares.now)
 
-pub opened-wide-spec : {M : Type 1} → statement M
-opened-wide-spec =
-    tie.close (tie.spec opening-requires array-read-opened-by opened-by-requires returns)
+pub opened_wide_spec : {M : Type 1} → statement M
+opened_wide_spec =
+    tie.close (tie.spec
+    opening-opening-requires
+    bounds-shared-0
+    opened_by-requires
+    returns)

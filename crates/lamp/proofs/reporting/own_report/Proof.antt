@@ -4,14 +4,16 @@ use borrow.Author.Rules.{rules}
 use Rattle.lamp.proofs.reporting.own_report.Statement.{statement}
 use Rattle.lamp.proofs.reporting.own_report.Tie as tie
 
-given-report-requires : tie.Need-given-report-requires
-given-report-requires c κs =
+given_report-requires : tie.Need-given_report-requires
+given_report-requires c κs =
     let s = c.before.before.before.before.before.before in
     let f = valid-facts s.args.lamp.party s.requires.0 in
     ((f.room, f.first, f.last, f.degree, f.table.below), (s.requires.1, s.requires.2))
 
 returns : tie.Need-returns
-returns c = c.given-report.ensures
+returns c = c.given_report.ensures
 
-pub own-report-spec : {M : Type 1} → statement M
-own-report-spec = tie.close (tie.spec given-report-requires returns)
+pub own_report_spec : {M : Type 1} → statement M
+own_report_spec = tie.close (tie.spec
+    given_report-requires
+    returns)

@@ -7,52 +7,52 @@ use borrow.Author.Rules.{rules}
 use Rattle.lamp.proofs.settling.repaired_by.Statement.{statement}
 use Rattle.lamp.proofs.settling.repaired_by.Tie as tie
 
-enum_told : tie.Need-enum-told
-enum_told c = search rules
+enum_told-1 : tie.Need-enum_told-1
+enum_told-1 c = search rules
 
-at-end-requires : tie.Need-at-end-requires
-at-end-requires c κs = search rules
+at_end-requires : tie.Need-at_end-requires
+at_end-requires c κs = search rules
 
-enum-told-2 : tie.Need-enum-told-2
-enum-told-2 c = search rules
+enum_told-in-Nothing : tie.Need-enum_told-in-Nothing
+enum_told-in-Nothing c = search rules
 
-at-end-requires-2 : tie.Need-at-end-requires-2
-at-end-requires-2 c κs = search rules
+at_end-requires-in-Nothing : tie.Need-at_end-requires-in-Nothing
+at_end-requires-in-Nothing c κs = search rules
 
-enum-known-outcome : tie.Need-enum-known-outcome
-enum-known-outcome c = search rules
+enum_known-outcome : tie.Need-enum_known-outcome
+enum_known-outcome c = search rules
 
 refuse-requires : tie.Need-refuse-requires
 refuse-requires c κs = search rules
 
-returns : tie.Need-returns
-returns c =
-    let a = c.before.before.before.args in
-    ap (λ l. reply l Accepted) c.at-end.ensures
-    ∙ ap (λ o. repaired_by a.lamp a.set o a.constant) (sym c.before.enum_told.given.1)
+returns-in-Found : tie.Need-returns-in-Found
+returns-in-Found c =
+    let a = c.args in
+    ap (λ l. reply l Accepted) c.at_end.ensures
+    ∙ ap (λ o. repaired_by a.lamp a.set o a.constant) (sym c.in-Found.is)
 
-returns-2 : tie.Need-returns-2
-returns-2 c =
-    let a = c.before.before.before.args in
-    ap (λ l. reply l (Refused NoColumn)) c.at-end2.ensures
-    ∙ ap (λ o. repaired_by a.lamp a.set o a.constant) (sym c.before.enum-told2.given.1)
+returns-in-Nothing : tie.Need-returns-in-Nothing
+returns-in-Nothing c =
+    let a = c.args in
+    ap (λ l. reply l (Refused NoColumn)) c.at_end-in-Nothing.ensures
+    ∙ ap (λ o. repaired_by a.lamp a.set o a.constant) (sym c.in-Nothing.is)
 
-returns-3 : tie.Need-returns-3
-returns-3 c =
-    let found = c.before.before in
-    let a = found.before.before.args in
-    c.refuse.ensures ∙ ap (λ o. repaired_by a.lamp a.set o a.constant) (sym found.outcome.given.1)
+returns-in-Refused : tie.Need-returns-in-Refused
+returns-in-Refused c =
+    
+    let a = c.args in
+    c.refuse.ensures ∙ ap (λ o. repaired_by a.lamp a.set o a.constant) (sym c.in-Refused.is)
 
-pub repaired-by-spec : {M : Type 1} → statement M
-repaired-by-spec =
+pub repaired_by_spec : {M : Type 1} → statement M
+repaired_by_spec =
     tie.close
     (tie.spec
-    enum_told
-    at-end-requires
-    enum-told-2
-    at-end-requires-2
-    enum-known-outcome
+    enum_told-1
+    at_end-requires
+    enum_told-in-Nothing
+    at_end-requires-in-Nothing
+    enum_known-outcome
     refuse-requires
-    returns
-    returns-2
-    returns-3)
+    returns-in-Found
+    returns-in-Nothing
+    returns-in-Refused)
