@@ -3,7 +3,7 @@
 --   refusal-small, answer-small   a refusal has at most two digits
 --   last-rejected, last_found, last-nothing   the last line, by the verdict and what the decoding answers
 use mathlib.Core.Path.{◌≡◌, refl, sym, ap, ◌∙◌}
-use mathlib.Core.Bool.{Bool, true, false, not, true≢false, false≢true}
+use mathlib.Core.Bool.{Bool, true, false, true≢false, false≢true}
 use mathlib.Core.Option.{Option}
 use mathlib.Core.List.{List}
 use Prim.Native.Nat.{ℕ, ◌<◌}
@@ -60,23 +60,23 @@ reply-by i k r e = ap (λ m. lamp_line i m r.lamp.sharing.share) e
 
 -- ---- the opening
 module _ (w : Width) (n t : ℕ) (shares : List ℕ) (b : Bool) where
-  pub last-rejected : not b ≡ true → (k : ℕ) → k ≡ refusal_number DealerRejected → opened_line k 0 ≡ last_line b w n t shares
+  pub last-rejected : b ≡ false → (k : ℕ) → k ≡ refusal_number DealerRejected → opened_line k 0 ≡ last_line b w n t shares
   unfolding last_line
   last-rejected e k is = ap (λ m. opened_line m 0) is ∙ by b e
     where
-      by : (b : Bool) → not b ≡ true → opened_line (refusal_number DealerRejected) 0 ≡ last_line b w n t shares
-      by true e = absurd (false≢true e)
+      by : (b : Bool) → b ≡ false → opened_line (refusal_number DealerRejected) 0 ≡ last_line b w n t shares
+      by true e = absurd (true≢false e)
       by false e = refl
 
   -- The dealer is accepted, and the decoding answers r.
-  module _ (e : not b ≡ false) (r : Fitted) (is : r ≡ decoded (opening_of (prime_of w) t (one_to n) shares)) where
+  module _ (e : b ≡ true) (r : Fitted) (is : r ≡ decoded (opening_of (prime_of w) t (one_to n) shares)) where
     accepted-line : opening_line (opening_of (prime_of w) t (one_to n) shares) ≡ last_line b w n t shares
     unfolding last_line
     accepted-line = by b e
       where
-        by : (b : Bool) → not b ≡ false → opening_line (opening_of (prime_of w) t (one_to n) shares) ≡ last_line b w n t shares
+        by : (b : Bool) → b ≡ true → opening_line (opening_of (prime_of w) t (one_to n) shares) ≡ last_line b w n t shares
         by true e = refl
-        by false e = absurd (true≢false e)
+        by false e = absurd (false≢true e)
 
     abbrev opened : Option (List ℕ)
     opened = opening_of (prime_of w) t (one_to n) shares

@@ -88,6 +88,7 @@ part_room n m (suc j) a b c d =
     let place : suc j - 1 ≡ j = omega arith in
     let most = mul-le-mul {n₁ = n} {m₁ = 2 * m} {n₂ = 16} {m₂ = 32} a (omega arith) in
     (rw place (omega (arith, suc-mul j (2 * m), mul-le-mul_right {m = suc j} {n = n} (2 * m) d)), most)
+part_room n m Prim.Native.Nat.zero a b c d = elim c [ ]
 
 -- The same of the list that the code reads.
 pub part-fits : (n m i : ℕ) (xs ys : List ℕ) → n ≤ 16 → m ≤ 16 → 1 ≤ i → i ≤ n → length xs ≡ n * (2 * m) → ys ≡ xs

@@ -6,17 +6,21 @@ use borrow.Author.Rules.{rules}
 use Rattle.transcript.proofs.accepted.Statement.{statement}
 use Rattle.transcript.proofs.accepted.Tie as tie
 
-sub-result : tie.Need-overflow-sub-result
-sub-result c = search rules
+overflow_sub-result : tie.Need-overflow_sub-result
+overflow_sub-result c = search rules
 
-cast-result : tie.Need-overflow-cast-result
-cast-result c = search rules
+overflow_cast-result : tie.Need-overflow_cast-result
+overflow_cast-result c = search rules
 
 count-requires : tie.Need-count-requires
 count-requires c κs = search rules
 
 returns : tie.Need-returns
-returns c = ap (leb (c.before.args.n - c.before.args.t)) c.count.ensures
+returns c = ap (leb (c.args.n - c.args.t)) c.count.ensures
 
-pub accepted-spec : {M : Type 1} → statement M
-accepted-spec = tie.close (tie.spec sub-result cast-result count-requires returns)
+pub accepted_spec : {M : Type 1} → statement M
+accepted_spec = tie.close (tie.spec
+    overflow_sub-result
+    overflow_cast-result
+    count-requires
+    returns)

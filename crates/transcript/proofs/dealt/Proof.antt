@@ -40,89 +40,89 @@ taken s v e l xs fresh own =
     ap₂ (λ l d. (step l (take_deal v d)).lamp) fresh (own ∙ ap (λ ys. stretch (a.t + 1) ys a.i) all)
     ∙ ap (λ u. (step (made a.w a.n a.t a.i) (take_deal u (stretch (a.t + 1) (numbers_of a.bytes.now 0) a.i))).lamp) (sym e)
 
-add-count : tie.Need-overflow-add-count
-add-count c = search rules
+overflow_add-count : tie.Need-overflow_add-count
+overflow_add-count c = search rules
 
-mul-count : tie.Need-overflow-mul-count
-mul-count c = search rules
+overflow_mul-count : tie.Need-overflow_mul-count
+overflow_mul-count c = search rules
 
-sub-from : tie.Need-overflow-sub-from
-sub-from c = search rules
+overflow_sub-from : tie.Need-overflow_sub-from
+overflow_sub-from c = search rules
 
-mul-from : tie.Need-overflow-mul-from
-mul-from c = let s = c.before in omega (arith, room s s.args.w refl)
+overflow_mul-from : tie.Need-overflow_mul-from
+overflow_mul-from c = let s = c.before in omega (arith, room s s.args.w refl)
 
-made-requires : tie.Need-made-requires
-made-requires c κs = search rules
+made-lamp-requires : tie.Need-made-lamp-requires
+made-lamp-requires c κs = search rules
 
-enum_told : tie.Need-enum-told
-enum_told c = search rules
+enum_told-1 : tie.Need-enum_told-1
+enum_told-1 c = search rules
 
-part-requires : tie.Need-part-requires
-part-requires c κs = room c.before.before.before.before Narrow c.enum_told.given.1
+part-list-requires : tie.Need-part-list-requires
+part-list-requires c κs = room c.before.before.before Narrow c.in-Narrow.is
 
-array-share-prefix-list : tie.Need-array-share-prefix-list
-array-share-prefix-list c =
-    omega (arith, room c.before.before.before.before.before Narrow c.before.enum_told.given.1)
+slice_bounds-list-end : tie.Need-slice_bounds-list-end
+slice_bounds-list-end c =
+    omega (arith, room c.before.before.before.before Narrow c.in-Narrow.is)
 
-slice-aggregate-take-deal : tie.Need-slice-aggregate-take-deal
-slice-aggregate-take-deal c =
+slice_bounds-take_deal-end : tie.Need-slice_bounds-take_deal-end
+slice_bounds-take_deal-end c =
     let p = c.before in
-    sym (length-take-le _ _ (omega (arith, room p.before.before.before.before.before Narrow p.before.enum_told.given.1)))
+    sym (length-take-le _ _ (omega (arith, room c.before.before.before.before.before Narrow p.in-Narrow.is)))
 
-take-deal-requires : tie.Need-take-deal-requires
-take-deal-requires c κs = search rules
+take_deal-reply-requires : tie.Need-take_deal-reply-requires
+take_deal-reply-requires c κs = search rules
 
-enum-told-2 : tie.Need-enum-told-2
-enum-told-2 c = search rules
+enum_told-in-Wide : tie.Need-enum_told-in-Wide
+enum_told-in-Wide c = search rules
 
-wide-part-requires : tie.Need-wide-part-requires
-wide-part-requires c κs = room c.before.before.before.before Wide c.enum-told2.given.1
+wide_part-list-requires : tie.Need-wide_part-list-requires
+wide_part-list-requires c κs = room c.before.before.before Wide c.in-Wide.is
 
-array-share-prefix-list-2 : tie.Need-array-share-prefix-list-2
-array-share-prefix-list-2 c =
-    omega (arith, room c.before.before.before.before.before Wide c.before.enum-told2.given.1)
+slice_bounds-list-end-in-Wide : tie.Need-slice_bounds-list-end-in-Wide
+slice_bounds-list-end-in-Wide c =
+    omega (arith, room c.before.before.before.before Wide c.in-Wide.is)
 
-slice-aggregate-take-deal-wide : tie.Need-slice-aggregate-take-deal-wide
-slice-aggregate-take-deal-wide c =
+slice_bounds-take_deal_wide-end : tie.Need-slice_bounds-take_deal_wide-end
+slice_bounds-take_deal_wide-end c =
     let p = c.before in
-    sym (length-take-le _ _ (omega (arith, room p.before.before.before.before.before Wide p.before.enum-told2.given.1)))
+    sym (length-take-le _ _ (omega (arith, room c.before.before.before.before.before Wide p.in-Wide.is)))
 
-take-deal-wide-requires : tie.Need-take-deal-wide-requires
-take-deal-wide-requires c κs = search rules
+take_deal_wide-reply-requires : tie.Need-take_deal_wide-reply-requires
+take_deal_wide-reply-requires c κs = search rules
 
-returns : tie.Need-returns
-returns c =
+returns-in-Narrow : tie.Need-returns-in-Narrow
+returns-in-Narrow c =
     let p = c.before.before.before in
-    let m = p.before.before.before in
-    ap (λ (r : Reply). r.lamp) c.before.take-deal.ensures
-    ∙ taken m.before.before Narrow p.before.enum_told.given.1 _ _ m.made.ensures p.part.ensures
+    let m = p.before.before in
+    ap (λ (r : Reply). r.lamp) c.take_deal-reply.ensures
+    ∙ taken c.before.before.before.before.before.before.before Narrow p.in-Narrow.is _ _ m.made-lamp.ensures p.part-list.ensures
 
-returns-2 : tie.Need-returns-2
-returns-2 c =
+returns-in-Wide : tie.Need-returns-in-Wide
+returns-in-Wide c =
     let p = c.before.before.before in
-    let m = p.before.before.before in
-    ap (λ (r : Reply). r.lamp) c.before.take-deal-wide.ensures
-    ∙ taken m.before.before Wide p.before.enum-told2.given.1 _ _ m.made.ensures p.wide-part.ensures
+    let m = p.before.before in
+    ap (λ (r : Reply). r.lamp) c.take_deal_wide-reply.ensures
+    ∙ taken c.before.before.before.before.before.before.before Wide p.in-Wide.is _ _ m.made-lamp.ensures p.wide_part-list.ensures
 
-pub dealt-spec : {M : Type 1} → statement M
-dealt-spec =
+pub dealt_spec : {M : Type 1} → statement M
+dealt_spec =
     tie.close
     (tie.spec
-    add-count
-    mul-count
-    sub-from
-    mul-from
-    made-requires
-    enum_told
-    part-requires
-    array-share-prefix-list
-    slice-aggregate-take-deal
-    take-deal-requires
-    enum-told-2
-    wide-part-requires
-    array-share-prefix-list-2
-    slice-aggregate-take-deal-wide
-    take-deal-wide-requires
-    returns
-    returns-2)
+    overflow_add-count
+    overflow_mul-count
+    overflow_sub-from
+    overflow_mul-from
+    made-lamp-requires
+    enum_told-1
+    part-list-requires
+    slice_bounds-list-end
+    slice_bounds-take_deal-end
+    take_deal-reply-requires
+    enum_told-in-Wide
+    wide_part-list-requires
+    slice_bounds-list-end-in-Wide
+    slice_bounds-take_deal_wide-end
+    take_deal_wide-reply-requires
+    returns-in-Narrow
+    returns-in-Wide)

@@ -26,22 +26,22 @@ facts s =
     (f.3, shares-count a.bytes.now a.w a.n a.t s.requires, read_as a.bytes.now a.w a.n a.t s.requires 3 a.w refl)
 
 -- The points are 1 to n.
-points : (o : tie.After-sixteen) → let a = o.before.before.before.args in take a.n o.sixteen.result ≡ one_to a.n
+points : (o : tie.After-sixteen) → let a = o.args in take a.n o.sixteen.result ≡ one_to a.n
 points o =
     let s = o.before.before.before in
     ap (take s.args.n) o.sixteen.ensures ∙ sixteen-front s.args.n (facts s).0
 
-shares-requires : tie.Need-shares-requires
-shares-requires c κs = let f = facts c.before in (omega (arith, ap length f.2), omega arith)
+shares-list-requires : tie.Need-shares-list-requires
+shares-list-requires c κs = let f = facts c.before in (omega (arith, ap length f.2), omega arith)
 
 sixteen-requires : tie.Need-sixteen-requires
 sixteen-requires c κs = search rules
 
-array-share-prefix-list : tie.Need-array-share-prefix-list
-array-share-prefix-list c = omega (arith, facts c.before.before.before)
+slice_bounds-list-end : tie.Need-slice_bounds-list-end
+slice_bounds-list-end c = omega (arith, facts c.before.before.before)
 
-slice-aggregate-published : tie.Need-slice-aggregate-published
-slice-aggregate-published c = sym (length-take-le _ _ (omega (arith, facts c.before.before.before.before)))
+slice_bounds-published-end : tie.Need-slice_bounds-published-end
+slice_bounds-published-end c = sym (length-take-le _ _ (omega (arith, facts c.before.before.before.before)))
 
 published-requires : tie.Need-published-requires
 published-requires c κs =
@@ -59,12 +59,18 @@ returns c =
     let f = facts s in
     let legal = fine-legal a.bytes.now a.w a.n a.t s.requires in
     let shares = numbers_of a.bytes.now 3 in
-    let all = p.shares.ensures ∙ ap (take a.n) f.2 ∙ take_all a.n shares (omega arith) in
+    let all = p.shares-list.ensures ∙ ap (take a.n) f.2 ∙ take_all a.n shares (omega arith) in
     c.published.ensures
     ∙ ap₂ (published_in (prime_of a.w) a.n a.t) (points o) all
     ∙ published-admitted (prime_of a.w) a.n a.t (one_to a.n) shares legal f.1
 
-pub fitted-spec : {M : Type 1} → statement M
-fitted-spec =
+pub fitted_spec : {M : Type 1} → statement M
+fitted_spec =
     tie.close
-    (tie.spec shares-requires sixteen-requires array-share-prefix-list slice-aggregate-published published-requires returns)
+    (tie.spec
+    shares-list-requires
+    sixteen-requires
+    slice_bounds-list-end
+    slice_bounds-published-end
+    published-requires
+    returns)

@@ -8,33 +8,39 @@ use borrow.Author.Rules.{rules}
 use Rattle.transcript.proofs.made.Statement.{statement}
 use Rattle.transcript.proofs.made.Tie as tie
 
-enum_told : tie.Need-enum-told
-enum_told c = search rules
+enum_told-1 : tie.Need-enum_told-1
+enum_told-1 c = search rules
 
-make-requires : tie.Need-make-requires
-make-requires c κs = search rules
+make-reply-requires : tie.Need-make-reply-requires
+make-reply-requires c κs = search rules
 
-enum-told-2 : tie.Need-enum-told-2
-enum-told-2 c = search rules
+enum_told-in-Wide : tie.Need-enum_told-in-Wide
+enum_told-in-Wide c = search rules
 
-make-wide-requires : tie.Need-make-wide-requires
-make-wide-requires c κs = search rules
+make_wide-reply-requires : tie.Need-make_wide-reply-requires
+make_wide-reply-requires c κs = search rules
 
-returns : tie.Need-returns
-returns c =
+returns-in-Narrow : tie.Need-returns-in-Narrow
+returns-in-Narrow c =
     let m = c.before in
-    let a = m.before.before.before.args in
-    ap (λ (r : Reply). r.lamp) m.make.ensures
+    let a = m.args in
+    ap (λ (r : Reply). r.lamp) m.make-reply.ensures
     ∙ make-lamp _ a.n a.t a.i (one_to a.n)
-    ∙ ap (λ v. made v a.n a.t a.i) (sym m.before.enum_told.given.1)
+    ∙ ap (λ v. made v a.n a.t a.i) (sym m.in-Narrow.is)
 
-returns-2 : tie.Need-returns-2
-returns-2 c =
+returns-in-Wide : tie.Need-returns-in-Wide
+returns-in-Wide c =
     let m = c.before in
-    let a = m.before.before.before.args in
-    ap (λ (r : Reply). r.lamp) m.make-wide.ensures
+    let a = m.args in
+    ap (λ (r : Reply). r.lamp) m.make_wide-reply.ensures
     ∙ make-lamp _ a.n a.t a.i (one_to a.n)
-    ∙ ap (λ v. made v a.n a.t a.i) (sym m.before.enum-told2.given.1)
+    ∙ ap (λ v. made v a.n a.t a.i) (sym m.in-Wide.is)
 
-pub made-spec : {M : Type 1} → statement M
-made-spec = tie.close (tie.spec enum_told make-requires enum-told-2 make-wide-requires returns returns-2)
+pub made_spec : {M : Type 1} → statement M
+made_spec = tie.close (tie.spec
+    enum_told-1
+    make-reply-requires
+    enum_told-in-Wide
+    make_wide-reply-requires
+    returns-in-Narrow
+    returns-in-Wide)

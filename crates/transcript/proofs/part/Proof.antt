@@ -12,31 +12,31 @@ use borrow.Author.Rules.{rules}
 use Rattle.transcript.proofs.part.Statement.{statement}
 use Rattle.transcript.proofs.part.Tie as tie
 
-section-requires : tie.Need-section-requires
-section-requires c κs = search rules
+section-whole-requires : tie.Need-section-whole-requires
+section-whole-requires c κs = search rules
 
-mul-start : tie.Need-overflow-mul-start
-mul-start c = search rules
+overflow_mul-start : tie.Need-overflow_mul-start
+overflow_mul-start c = search rules
 
-mul-end : tie.Need-overflow-mul-end
-mul-end c = search rules
+overflow_mul-end : tie.Need-overflow_mul-end
+overflow_mul-end c = search rules
 
-add-end : tie.Need-overflow-add-end
-add-end c = search rules
+overflow_add-end : tie.Need-overflow_add-end
+overflow_add-end c = search rules
 
-sub-numbers : tie.Need-overflow-sub-numbers
-sub-numbers c = search rules
+slice_bounds-numbers-count : tie.Need-slice_bounds-numbers-count
+slice_bounds-numbers-count c = search rules
 
-part-numbers-start : tie.Need-slice-bounds-numbers-start
-part-numbers-start c = search rules
+slice_bounds-numbers-start : tie.Need-slice_bounds-numbers-start
+slice_bounds-numbers-start c = search rules
 
-part-numbers-end : tie.Need-slice-bounds-numbers-end
-part-numbers-end c =
-    let a = c.before.before.args in
-    omega (arith, c.before.before.requires, length-numbers Narrow (section_of a.bytes.now a.k), ap length c.section.ensures)
+slice_bounds-numbers-end : tie.Need-slice_bounds-numbers-end
+slice_bounds-numbers-end c =
+    let a = c.args in
+    omega (arith, c.requires, length-numbers Narrow (section_of a.bytes.now a.k), ap length c.section-whole.ensures)
 
-slice-aggregate-numbers : tie.Need-slice-aggregate-numbers
-slice-aggregate-numbers c = search rules
+slice_bounds-numbers-end-2 : tie.Need-slice_bounds-numbers-end-2
+slice_bounds-numbers-end-2 c = search rules
 
 numbers-requires : tie.Need-numbers-requires
 numbers-requires c κs = search rules
@@ -45,23 +45,23 @@ returns : tie.Need-returns
 returns c =
     let s = c.before.before.before.before.before.before in
     let a = s.args in
-    let whole = c.before.before.before.before.section.ensures in
+    let whole = c.section-whole.ensures in
     ap (take a.count)
-    (c.before.numbers.ensures
+    (c.numbers.ensures
     ∙ ap (λ p. over (numbers (take (2 * a.from + 2 * a.count - 2 * a.from) (drop (2 * a.from) p))) (replicate 32 0)) whole)
     ∙ part-read Narrow (section_of a.bytes.now a.k) (replicate 32 0) a.from a.count s.requires.0 (omega (arith, s.requires.2))
 
-pub part-spec : {M : Type 1} → statement M
-part-spec =
+pub part_spec : {M : Type 1} → statement M
+part_spec =
     tie.close
     (tie.spec
-    section-requires
-    mul-start
-    mul-end
-    add-end
-    sub-numbers
-    part-numbers-start
-    part-numbers-end
-    slice-aggregate-numbers
+    section-whole-requires
+    overflow_mul-start
+    overflow_mul-end
+    overflow_add-end
+    slice_bounds-numbers-count
+    slice_bounds-numbers-start
+    slice_bounds-numbers-end
+    slice_bounds-numbers-end-2
     numbers-requires
     returns)

@@ -16,34 +16,34 @@ facts s =
     let a = s.args in
     ((fine-facts a.bytes.now a.w a.n a.t s.requires.0).3, reports-count a.bytes.now a.w a.n a.t s.requires.0)
 
-part-requires : tie.Need-part-requires
-part-requires c κs = let f = facts c.before.before in (omega arith, omega arith, omega arith)
+part-list-requires : tie.Need-part-list-requires
+part-list-requires c κs = let f = facts c.before.before in (omega arith, omega arith, omega arith)
 
-array-share-prefix-list : tie.Need-array-share-prefix-list
-array-share-prefix-list c = omega (arith, facts c.before.before.before.before)
+slice_bounds-list-end : tie.Need-slice_bounds-list-end
+slice_bounds-list-end c = omega (arith, facts c.before.before.before.before)
 
-slice-aggregate-put-by-reports : tie.Need-slice-aggregate-put-by-reports
-slice-aggregate-put-by-reports c = sym (length-take-le _ _ (omega (arith, facts c.before.before.before.before.before)))
+slice_bounds-put_by_reports-end : tie.Need-slice_bounds-put_by_reports-end
+slice_bounds-put_by_reports-end c = sym (length-take-le _ _ (omega (arith, facts c.before.before.before.before.before)))
 
-put-by-reports-requires : tie.Need-put-by-reports-requires
-put-by-reports-requires c κs =
+put_by_reports-requires : tie.Need-put_by_reports-requires
+put_by_reports-requires c κs =
     let s = c.before.before.before.before.before in
-    let p = c.before.before.part in
+    let p = c.part-list in
     (s.requires.0, part-all p.result (numbers_of s.args.bytes.now 2) s.args.n p.ensures (facts s).1, s.requires.1)
 
-same_length : tie.Need-same-length
-same_length c = search rules
+shape_of-out : tie.Need-shape_of-out
+shape_of-out c = search rules
 
 returns : tie.Need-returns
-returns c = let p = c.before.before.put-by-reports in (p.ensures.0, p.ensures.1)
+returns c = let p = c.put_by_reports in (p.ensures.0, p.ensures.1)
 
-pub put-record-spec : {M : Type 1} → statement M
-put-record-spec =
+pub put_record_spec : {M : Type 1} → statement M
+put_record_spec =
     tie.close
     (tie.spec
-    part-requires
-    array-share-prefix-list
-    slice-aggregate-put-by-reports
-    put-by-reports-requires
-    same_length
+    part-list-requires
+    slice_bounds-list-end
+    slice_bounds-put_by_reports-end
+    put_by_reports-requires
+    shape_of-out
     returns)

@@ -10,63 +10,63 @@ use borrow.Author.Rules.{rules}
 use Rattle.transcript.proofs.put_text.Statement.{statement}
 use Rattle.transcript.proofs.put_text.Tie as tie
 
-read-requires : tie.Need-read-requires
-read-requires c κs = search rules
+read-answer-requires : tie.Need-read-answer-requires
+read-answer-requires c κs = search rules
 
-enum-known-answer : tie.Need-enum-known-answer
-enum-known-answer c = search rules
+enum_known-answer : tie.Need-enum_known-answer
+enum_known-answer c = search rules
 
-put-record-requires : tie.Need-put-record-requires
-put-record-requires c κs =
-    let m = c.before.before in
-    (sym m.before.before.read.ensures ∙ m.answer.given.1, search rules)
+put_record-requires : tie.Need-put_record-requires
+put_record-requires c κs =
+    
+    (sym c.read-answer.ensures ∙ c.in-Fine.is, search rules)
 
-enum-known-answer-2 : tie.Need-enum-known-answer-2
-enum-known-answer-2 c = search rules
+enum_known-answer-in-Refused-1 : tie.Need-enum_known-answer-in-Refused-1
+enum_known-answer-in-Refused-1 c = search rules
 
-refusal-number-requires : tie.Need-refusal-number-requires
-refusal-number-requires c κs = search rules
+refusal_number-requires : tie.Need-refusal_number-requires
+refusal_number-requires c κs = search rules
 
-put-refused-requires : tie.Need-put-refused-requires
-put-refused-requires c κs = search rules
+put_refused-requires : tie.Need-put_refused-requires
+put_refused-requires c κs = search rules
 
-same_length : tie.Need-same-length
-same_length c = search rules
+shape_of-out-in-Fine : tie.Need-shape_of-out-in-Fine
+shape_of-out-in-Fine c = search rules
 
-returns : tie.Need-returns
-returns c =
-    let p = c.before.before.put_record in
-    let m = c.before.before.before.before.before in
-    let q = m.before.before.read in
-    let a = m.before.before.before.before.before.args in
-    let line = text-fine q.result a.bytes.now q.ensures _ _ _ m.answer.given.1 in
-    (subst (λ w. Added a.out.now 0 w p.new.0 p.result) line p.ensures.0, p.ensures.1)
+returns-in-Fine : tie.Need-returns-in-Fine
+returns-in-Fine c =
+    let p = c.put_record in
+    
+    let q = c.read-answer in
+    let a = c.args in
+    let line = text-fine q.result a.bytes.now q.ensures _ _ _ c.in-Fine.is in
+    (subst (λ w. Added a.out.now 0 w p.new.out p.result) line p.ensures.0, p.ensures.1)
 
-same-length-2 : tie.Need-same-length-2
-same-length-2 c = search rules
+shape_of-out-in-Refused : tie.Need-shape_of-out-in-Refused
+shape_of-out-in-Refused c = search rules
 
-returns-2 : tie.Need-returns-2
-returns-2 c =
-    let p = c.before.before.Put-refused in
-    let k = c.before.before.before.refusal-number in
-    let m = c.before.before.before.before.before.before in
-    let q = m.before.before.read in
-    let a = m.before.before.before.before.before.args in
+returns-in-Refused : tie.Need-returns-in-Refused
+returns-in-Refused c =
+    let p = c.put_refused in
+    let k = c.refusal_number in
+    
+    let q = c.read-answer in
+    let a = c.args in
     let put = puts-within (refused_words k.result) _ _ _ _ 26 p.ensures (refused-short k.result) (omega arith) in
-    let line = text-refused q.result a.bytes.now q.ensures _ m.answer2.given.1 k.result k.ensures in
-    (subst (λ w. Added a.out.now 0 w p.new.0 p.result) line put.0, omega (arith, put.1))
+    let line = text-refused q.result a.bytes.now q.ensures _ c.in-Refused.is k.result k.ensures in
+    (subst (λ w. Added a.out.now 0 w p.new.out p.result) line put.0, omega (arith, put.1))
 
-pub put-text-spec : {M : Type 1} → statement M
-put-text-spec =
+pub put_text_spec : {M : Type 1} → statement M
+put_text_spec =
     tie.close
     (tie.spec
-    read-requires
-    enum-known-answer
-    put-record-requires
-    enum-known-answer-2
-    refusal-number-requires
-    put-refused-requires
-    same_length
-    returns
-    same-length-2
-    returns-2)
+    read-answer-requires
+    enum_known-answer
+    put_record-requires
+    enum_known-answer-in-Refused-1
+    refusal_number-requires
+    put_refused-requires
+    shape_of-out-in-Fine
+    returns-in-Fine
+    shape_of-out-in-Refused
+    returns-in-Refused)

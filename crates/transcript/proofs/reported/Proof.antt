@@ -41,85 +41,85 @@ taken s v e l xs fresh own =
     ap₂ (λ l d. (step l (hear_pairs v d)).lamp) fresh (own ∙ ap (λ ys. received a.n ys a.i) all)
     ∙ ap (λ u. (step dealt (hear_pairs u (received a.n (numbers_of a.bytes.now 1) a.i))).lamp) (sym e)
 
-mul-count : tie.Need-overflow-mul-count
-mul-count c = search rules
+overflow_mul-count : tie.Need-overflow_mul-count
+overflow_mul-count c = search rules
 
-sub-from : tie.Need-overflow-sub-from
-sub-from c = search rules
+overflow_sub-from : tie.Need-overflow_sub-from
+overflow_sub-from c = search rules
 
-mul-from : tie.Need-overflow-mul-from
-mul-from c = let s = c.before in omega (arith, room s s.args.w refl)
+overflow_mul-from : tie.Need-overflow_mul-from
+overflow_mul-from c = let s = c.before in omega (arith, room s s.args.w refl)
 
-dealt-requires : tie.Need-dealt-requires
-dealt-requires c κs = search rules
+dealt-lamp-requires : tie.Need-dealt-lamp-requires
+dealt-lamp-requires c κs = search rules
 
-enum_told : tie.Need-enum-told
-enum_told c = search rules
+enum_told-1 : tie.Need-enum_told-1
+enum_told-1 c = search rules
 
-part-requires : tie.Need-part-requires
-part-requires c κs = room c.before.before.before.before Narrow c.enum_told.given.1
+part-list-requires : tie.Need-part-list-requires
+part-list-requires c κs = room c.before.before.before Narrow c.in-Narrow.is
 
-array-share-prefix-list : tie.Need-array-share-prefix-list
-array-share-prefix-list c =
-    omega (arith, room c.before.before.before.before.before Narrow c.before.enum_told.given.1)
+slice_bounds-list-end : tie.Need-slice_bounds-list-end
+slice_bounds-list-end c =
+    omega (arith, room c.before.before.before.before Narrow c.in-Narrow.is)
 
-slice-aggregate-hear-pairs : tie.Need-slice-aggregate-hear-pairs
-slice-aggregate-hear-pairs c =
+slice_bounds-hear_pairs-end : tie.Need-slice_bounds-hear_pairs-end
+slice_bounds-hear_pairs-end c =
     let p = c.before in
-    sym (length-take-le _ _ (omega (arith, room p.before.before.before.before.before Narrow p.before.enum_told.given.1)))
+    sym (length-take-le _ _ (omega (arith, room c.before.before.before.before.before Narrow p.in-Narrow.is)))
 
-hear-pairs-requires : tie.Need-hear-pairs-requires
-hear-pairs-requires c κs = search rules
+hear_pairs-reply-requires : tie.Need-hear_pairs-reply-requires
+hear_pairs-reply-requires c κs = search rules
 
-enum-told-2 : tie.Need-enum-told-2
-enum-told-2 c = search rules
+enum_told-in-Wide : tie.Need-enum_told-in-Wide
+enum_told-in-Wide c = search rules
 
-wide-part-requires : tie.Need-wide-part-requires
-wide-part-requires c κs = room c.before.before.before.before Wide c.enum-told2.given.1
+wide_part-list-requires : tie.Need-wide_part-list-requires
+wide_part-list-requires c κs = room c.before.before.before Wide c.in-Wide.is
 
-array-share-prefix-list-2 : tie.Need-array-share-prefix-list-2
-array-share-prefix-list-2 c =
-    omega (arith, room c.before.before.before.before.before Wide c.before.enum-told2.given.1)
+slice_bounds-list-end-in-Wide : tie.Need-slice_bounds-list-end-in-Wide
+slice_bounds-list-end-in-Wide c =
+    omega (arith, room c.before.before.before.before Wide c.in-Wide.is)
 
-slice-aggregate-hear-pairs-wide : tie.Need-slice-aggregate-hear-pairs-wide
-slice-aggregate-hear-pairs-wide c =
+slice_bounds-hear_pairs_wide-end : tie.Need-slice_bounds-hear_pairs_wide-end
+slice_bounds-hear_pairs_wide-end c =
     let p = c.before in
-    sym (length-take-le _ _ (omega (arith, room p.before.before.before.before.before Wide p.before.enum-told2.given.1)))
+    sym (length-take-le _ _ (omega (arith, room c.before.before.before.before.before Wide p.in-Wide.is)))
 
-hear-pairs-wide-requires : tie.Need-hear-pairs-wide-requires
-hear-pairs-wide-requires c κs = search rules
+hear_pairs_wide-reply-requires : tie.Need-hear_pairs_wide-reply-requires
+hear_pairs_wide-reply-requires c κs = search rules
 
-returns : tie.Need-returns
-returns c =
+returns-in-Narrow : tie.Need-returns-in-Narrow
+returns-in-Narrow c =
     let p = c.before.before.before in
-    let m = p.before.before.before in
-    ap (λ (r : Reply). r.lamp) c.before.hear-pairs.ensures
-    ∙ taken m.before.before Narrow p.before.enum_told.given.1 _ _ m.dealt.ensures p.part.ensures
+    let m = p.before.before in
+    ap (λ (r : Reply). r.lamp) c.hear_pairs-reply.ensures
+    ∙ taken c.before.before.before.before.before.before.before Narrow p.in-Narrow.is _ _ m.dealt-lamp.ensures p.part-list.ensures
 
-returns-2 : tie.Need-returns-2
-returns-2 c =
+returns-in-Wide : tie.Need-returns-in-Wide
+returns-in-Wide c =
     let p = c.before.before.before in
-    let m = p.before.before.before in
-    ap (λ (r : Reply). r.lamp) c.before.hear-pairs-wide.ensures
-    ∙ taken m.before.before Wide p.before.enum-told2.given.1 _ _ m.dealt.ensures p.wide-part.ensures
+    let m = p.before.before in
+    ap (λ (r : Reply). r.lamp) c.hear_pairs_wide-reply.ensures
+    ∙ taken c.before.before.before.before.before.before.before Wide p.in-Wide.is _ _ m.dealt-lamp.ensures p.wide_part-list.ensures
 
-pub reported-spec : {M : Type 1} → statement M
-reported-spec =
+pub reported_spec : {M : Type 1} → statement M
+reported_spec =
     tie.close
     (tie.spec
-    mul-count
-    sub-from
-    mul-from
-    dealt-requires
-    enum_told
-    part-requires
-    array-share-prefix-list
-    slice-aggregate-hear-pairs
-    hear-pairs-requires
-    enum-told-2
-    wide-part-requires
-    array-share-prefix-list-2
-    slice-aggregate-hear-pairs-wide
-    hear-pairs-wide-requires
-    returns
-    returns-2)
+    overflow_mul-count
+    overflow_sub-from
+    overflow_mul-from
+    dealt-lamp-requires
+    enum_told-1
+    part-list-requires
+    slice_bounds-list-end
+    slice_bounds-hear_pairs-end
+    hear_pairs-reply-requires
+    enum_told-in-Wide
+    wide_part-list-requires
+    slice_bounds-list-end-in-Wide
+    slice_bounds-hear_pairs_wide-end
+    hear_pairs_wide-reply-requires
+    returns-in-Narrow
+    returns-in-Wide)

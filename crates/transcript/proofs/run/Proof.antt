@@ -6,8 +6,8 @@ use borrow.Author.Rules.{rules}
 use Rattle.transcript.proofs.run.Statement.{statement}
 use Rattle.transcript.proofs.run.Tie as tie
 
-reported-requires : tie.Need-reported-requires
-reported-requires c κs = search rules
+reported-lamp-requires : tie.Need-reported-lamp-requires
+reported-lamp-requires c κs = search rules
 
 settle-requires : tie.Need-settle-requires
 settle-requires c κs = search rules
@@ -15,7 +15,10 @@ settle-requires c κs = search rules
 returns : tie.Need-returns
 unfolding run
 returns c =
-    c.settle.ensures ∙ ap₂ (λ l d. step l (settle d)) c.before.reported.ensures c.before.before.before.before.requires.1
+    c.settle.ensures ∙ ap₂ (λ l d. step l (settle d)) c.reported-lamp.ensures c.requires.1
 
 pub run_spec : {M : Type 1} → statement M
-run_spec = tie.close (tie.spec reported-requires settle-requires returns)
+run_spec = tie.close (tie.spec
+    reported-lamp-requires
+    settle-requires
+    returns)

@@ -21,57 +21,57 @@ same : (s : tie.Start) (v : Width) → s.args.w ≡ v → let a = s.args in
     take a.n (numbers_by v (section_of a.bytes.now 3)) ≡ take a.n (numbers_by a.w (section_of a.bytes.now 3))
 same s v e = ap (λ u. take s.args.n (numbers_by u (section_of s.args.bytes.now 3))) (sym e)
 
-enum_told : tie.Need-enum-told
-enum_told c = search rules
+enum_told-1 : tie.Need-enum_told-1
+enum_told-1 c = search rules
 
-part-requires : tie.Need-part-requires
-part-requires c κs =
-    let s = c.before.before.before in
-    (omega (arith, room s Narrow c.enum_told.given.1), omega arith, s.requires.1)
+part-list-requires : tie.Need-part-list-requires
+part-list-requires c κs =
+    let s = c.before.before in
+    (omega (arith, room s Narrow c.in-Narrow.is), omega arith, s.requires.1)
 
-array-share-prefix-list : tie.Need-array-share-prefix-list
-array-share-prefix-list c = search rules
+slice_bounds-list-end : tie.Need-slice_bounds-list-end
+slice_bounds-list-end c = search rules
 
-slice-aggregate-pairs-of : tie.Need-slice-aggregate-pairs-of
-slice-aggregate-pairs-of c = let s = c.before.before.before.before.before in sym (length-take-le _ _ (omega (arith, s.requires.1)))
+slice_bounds-pairs_of-end : tie.Need-slice_bounds-pairs_of-end
+slice_bounds-pairs_of-end c = let s = c.before.before.before.before in sym (length-take-le _ _ (omega (arith, s.requires.1)))
 
-pairs-of-requires : tie.Need-pairs-of-requires
-pairs-of-requires c κs =
-    let s = c.before.before.before.before.before in
-    omega (arith, s.requires.1, length-take-le s.args.n c.before.part.result (omega (arith, s.requires.1)))
+pairs_of-requires : tie.Need-pairs_of-requires
+pairs_of-requires c κs =
+    let s = c.before.before.before.before in
+    omega (arith, s.requires.1, length-take-le s.args.n c.part-list.result (omega (arith, s.requires.1)))
 
-enum-told-2 : tie.Need-enum-told-2
-enum-told-2 c = search rules
+enum_told-in-Wide : tie.Need-enum_told-in-Wide
+enum_told-in-Wide c = search rules
 
-wide-part-requires : tie.Need-wide-part-requires
-wide-part-requires c κs =
-    let s = c.before.before.before in
-    (omega (arith, room s Wide c.enum-told2.given.1), omega arith, s.requires.1)
+wide_part-requires : tie.Need-wide_part-requires
+wide_part-requires c κs =
+    let s = c.before.before in
+    (omega (arith, room s Wide c.in-Wide.is), omega arith, s.requires.1)
 
-returns : tie.Need-returns
-returns c =
+returns-in-Narrow : tie.Need-returns-in-Narrow
+returns-in-Narrow c =
     let p = c.before.before in
-    let s = p.before.before.before.before in
-    let front = length-take-le s.args.n p.part.result (omega (arith, s.requires.1)) in
+    let s = p.before.before.before in
+    let front = length-take-le s.args.n p.part-list.result (omega (arith, s.requires.1)) in
     ap (take s.args.n) c.pairs_of.ensures
-    ∙ take_at (take s.args.n p.part.result) _ s.args.n front
-    ∙ p.part.ensures
-    ∙ same s Narrow p.before.enum_told.given.1
+    ∙ take_at (take s.args.n p.part-list.result) _ s.args.n front
+    ∙ p.part-list.ensures
+    ∙ same s Narrow p.in-Narrow.is
 
-returns-2 : tie.Need-returns-2
-returns-2 c =
-    c.wide-part.ensures ∙ same c.before.before.before.before Wide c.before.enum-told2.given.1
+returns-in-Wide : tie.Need-returns-in-Wide
+returns-in-Wide c =
+    c.wide_part.ensures ∙ same c.before.before.before Wide c.in-Wide.is
 
-pub shares-spec : {M : Type 1} → statement M
-shares-spec =
+pub shares_spec : {M : Type 1} → statement M
+shares_spec =
     tie.close
     (tie.spec
-    enum_told
-    part-requires
-    array-share-prefix-list
-    slice-aggregate-pairs-of
-    pairs-of-requires
-    enum-told-2
-    wide-part-requires
-    returns
-    returns-2)
+    enum_told-1
+    part-list-requires
+    slice_bounds-list-end
+    slice_bounds-pairs_of-end
+    pairs_of-requires
+    enum_told-in-Wide
+    wide_part-requires
+    returns-in-Narrow
+    returns-in-Wide)

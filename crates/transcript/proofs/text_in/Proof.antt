@@ -4,45 +4,45 @@ use borrow.Author.Rules.{rules}
 use Rattle.transcript.proofs.text_in.Statement.{statement}
 use Rattle.transcript.proofs.text_in.Tie as tie
 
-bytes-written-requires : tie.Need-bytes-written-requires
-bytes-written-requires c κs = search rules
+bytes_written-count-requires : tie.Need-bytes_written-count-requires
+bytes_written-count-requires c κs = search rules
 
-sub-result : tie.Need-overflow-sub-result
-sub-result c = search rules
+slice_bounds-result-count : tie.Need-slice_bounds-result-count
+slice_bounds-result-count c = search rules
 
-part-result-start : tie.Need-slice-bounds-result-start
-part-result-start c = search rules
+slice_bounds-result-start : tie.Need-slice_bounds-result-start
+slice_bounds-result-start c = search rules
 
-part-result-end : tie.Need-slice-bounds-result-end
-part-result-end c = search rules
+slice_bounds-result-end : tie.Need-slice_bounds-result-end
+slice_bounds-result-end c = search rules
+
+returns-then-room-count : tie.Need-returns-then-room-count
+returns-then-room-count c =
+    let b = c.before.before in
+    front-all b.args.out.now _ _ b.bytes_written-count.ensures c.if-room-count.true
+
+slice_bounds-result-count-2 : tie.Need-slice_bounds-result-count-2
+slice_bounds-result-count-2 c = search rules
+
+slice_bounds-result-start-2 : tie.Need-slice_bounds-result-start-2
+slice_bounds-result-start-2 c = search rules
+
+slice_bounds-result-end-2 : tie.Need-slice_bounds-result-end-2
+slice_bounds-result-end-2 c = search rules
 
 returns : tie.Need-returns
-returns c =
-    let b = c.before.before in
-    front-all b.before.before.args.out.now _ _ b.bytes-written.ensures c.before.if1.true
+returns c = let b = c.before.before in front-part b.args.out.now _ _ b.bytes_written-count.ensures
 
-sub-result-2 : tie.Need-overflow-sub-result-2
-sub-result-2 c = search rules
-
-part-result-start-2 : tie.Need-slice-bounds-result-start-2
-part-result-start-2 c = search rules
-
-part-result-end-2 : tie.Need-slice-bounds-result-end-2
-part-result-end-2 c = search rules
-
-returns-2 : tie.Need-returns-2
-returns-2 c = let b = c.before.before in front-part b.before.before.args.out.now _ _ b.bytes-written.ensures
-
-pub text_in-spec : {M : Type 1} → statement M
-text_in-spec =
+pub text_in_spec : {M : Type 1} → statement M
+text_in_spec =
     tie.close
     (tie.spec
-    bytes-written-requires
-    sub-result
-    part-result-start
-    part-result-end
-    returns
-    sub-result-2
-    part-result-start-2
-    part-result-end-2
-    returns-2)
+    bytes_written-count-requires
+    slice_bounds-result-count
+    slice_bounds-result-start
+    slice_bounds-result-end
+    returns-then-room-count
+    slice_bounds-result-count-2
+    slice_bounds-result-start-2
+    slice_bounds-result-end-2
+    returns)
