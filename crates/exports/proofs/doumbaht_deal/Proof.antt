@@ -5,25 +5,25 @@ use borrow.Author.Rules.{rules}
 use Rattle.exports.proofs.doumbaht_deal.Statement.{statement}
 use Rattle.exports.proofs.doumbaht_deal.Tie as tie
 
-deal-requires : tie.Need-deal-requires
-deal-requires c κs = search rules
+deal-answer-requires : tie.Need-deal-answer-requires
+deal-answer-requires c κs = search rules
 
-dealing-number-requires : tie.Need-dealing-number-requires
-dealing-number-requires c κs = search rules
+dealing_number-requires : tie.Need-dealing_number-requires
+dealing_number-requires c κs = search rules
 
-same_length : tie.Need-same-length
-same_length c = search rules
+shape_of-deals : tie.Need-shape_of-deals
+shape_of-deals c = search rules
 
 returns : tie.Need-returns
 returns c =
-    let d = c.before.before.before.deal in
-    dealing-by modulus _ _ _ _ _ _ _ _ c.dealing-number.ensures d.ensures
+    let d = c.deal-answer in
+    dealing-by modulus _ _ _ _ _ _ _ _ c.dealing_number.ensures d.ensures
 
-pub doumbaht-deal-spec : {M : Type 1} → statement M
-doumbaht-deal-spec =
+pub doumbaht_deal_spec : {M : Type 1} → statement M
+doumbaht_deal_spec =
     tie.close
     (tie.spec
-    deal-requires
-    dealing-number-requires
-    same_length
+    deal-answer-requires
+    dealing_number-requires
+    shape_of-deals
     returns)

@@ -5,20 +5,24 @@ use borrow.Author.Rules.{rules}
 use Rattle.exports.proofs.doumbaht_deal_wide.Statement.{statement}
 use Rattle.exports.proofs.doumbaht_deal_wide.Tie as tie
 
-deal-wide-requires : tie.Need-deal-wide-requires
-deal-wide-requires c κs = search rules
+deal_wide-answer-requires : tie.Need-deal_wide-answer-requires
+deal_wide-answer-requires c κs = search rules
 
-dealing-number-requires : tie.Need-dealing-number-requires
-dealing-number-requires c κs = search rules
+dealing_number-requires : tie.Need-dealing_number-requires
+dealing_number-requires c κs = search rules
 
-same_length : tie.Need-same-length
-same_length c = search rules
+shape_of-deals : tie.Need-shape_of-deals
+shape_of-deals c = search rules
 
 returns : tie.Need-returns
 returns c =
-    let d = c.before.before.before.deal-wide in
-    dealing-by wide_modulus _ _ _ _ _ _ _ _ c.dealing-number.ensures d.ensures
+    let d = c.deal_wide-answer in
+    dealing-by wide_modulus _ _ _ _ _ _ _ _ c.dealing_number.ensures d.ensures
 
-pub doumbaht-deal-wide-spec : {M : Type 1} → statement M
-doumbaht-deal-wide-spec =
-    tie.close (tie.spec deal-wide-requires dealing-number-requires same_length returns)
+pub doumbaht_deal_wide_spec : {M : Type 1} → statement M
+doumbaht_deal_wide_spec =
+    tie.close (tie.spec
+    deal_wide-answer-requires
+    dealing_number-requires
+    shape_of-deals
+    returns)

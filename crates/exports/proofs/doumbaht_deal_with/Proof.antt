@@ -5,25 +5,25 @@ use borrow.Author.Rules.{rules}
 use Rattle.exports.proofs.doumbaht_deal_with.Statement.{statement}
 use Rattle.exports.proofs.doumbaht_deal_with.Tie as tie
 
-deal-with-requires : tie.Need-deal-with-requires
-deal-with-requires c κs = search rules
+deal_with-answer-requires : tie.Need-deal_with-answer-requires
+deal_with-answer-requires c κs = search rules
 
-dealing-number-requires : tie.Need-dealing-number-requires
-dealing-number-requires c κs = search rules
+dealing_number-requires : tie.Need-dealing_number-requires
+dealing_number-requires c κs = search rules
 
-same_length : tie.Need-same-length
-same_length c = search rules
+shape_of-deals : tie.Need-shape_of-deals
+shape_of-deals c = search rules
 
 returns : tie.Need-returns
 returns c =
-    let d = c.before.before.before.deal-with in
-    dealing-by modulus _ _ _ _ _ _ _ _ c.dealing-number.ensures d.ensures
+    let d = c.deal_with-answer in
+    dealing-by modulus _ _ _ _ _ _ _ _ c.dealing_number.ensures d.ensures
 
-pub doumbaht-deal-with-spec : {M : Type 1} → statement M
-doumbaht-deal-with-spec =
+pub doumbaht_deal_with_spec : {M : Type 1} → statement M
+doumbaht_deal_with_spec =
     tie.close
     (tie.spec
-    deal-with-requires
-    dealing-number-requires
-    same_length
+    deal_with-answer-requires
+    dealing_number-requires
+    shape_of-deals
     returns)

@@ -7,22 +7,26 @@ use borrow.Author.Rules.{rules}
 use Rattle.exports.proofs.doumbaht_open.Statement.{statement}
 use Rattle.exports.proofs.doumbaht_open.Tie as tie
 
-open-lengths-requires : tie.Need-open-lengths-requires
-open-lengths-requires c κs = search rules
+open_lengths-admitted-requires : tie.Need-open_lengths-admitted-requires
+open_lengths-admitted-requires c κs = search rules
 
 sixteen-requires : tie.Need-sixteen-requires
 sixteen-requires c κs = search rules
 
-opened-by-requires : tie.Need-opened-by-requires
-opened-by-requires c κs =
+opened_by-requires : tie.Need-opened_by-requires
+opened_by-requires c κs =
     let o = c.before in
-    λ e. plain-passed modulus _ _ _ (omega arith) _ o.sixteen.ensures (sym o.before.open-lengths.ensures ∙ e)
+    λ e. plain-passed modulus _ _ _ (omega arith) _ o.sixteen.ensures (sym o.open_lengths-admitted.ensures ∙ e)
 
 returns : tie.Need-returns
 returns c =
     let o = c.before.before in
-    opening-plain modulus _ _ _ (omega arith) _ _ _ _ o.sixteen.ensures o.before.open-lengths.ensures c.opened-by.ensures
+    opening-plain modulus _ _ _ (omega arith) _ _ _ _ o.sixteen.ensures o.open_lengths-admitted.ensures c.opened_by.ensures
 
-pub doumbaht-open-spec : {M : Type 1} → statement M
-doumbaht-open-spec =
-    tie.close (tie.spec open-lengths-requires sixteen-requires opened-by-requires returns)
+pub doumbaht_open_spec : {M : Type 1} → statement M
+doumbaht_open_spec =
+    tie.close (tie.spec
+    open_lengths-admitted-requires
+    sixteen-requires
+    opened_by-requires
+    returns)

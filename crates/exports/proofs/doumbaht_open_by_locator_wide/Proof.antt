@@ -7,23 +7,27 @@ use borrow.Author.Rules.{rules}
 use Rattle.exports.proofs.doumbaht_open_by_locator_wide.Statement.{statement}
 use Rattle.exports.proofs.doumbaht_open_by_locator_wide.Tie as tie
 
-open-lengths-requires : tie.Need-open-lengths-requires
-open-lengths-requires c κs = search rules
+open_lengths-admitted-requires : tie.Need-open_lengths-admitted-requires
+open_lengths-admitted-requires c κs = search rules
 
 sixteen-requires : tie.Need-sixteen-requires
 sixteen-requires c κs = search rules
 
-located-wide-by-requires : tie.Need-located-wide-by-requires
-located-wide-by-requires c κs =
+located_wide_by-requires : tie.Need-located_wide_by-requires
+located_wide_by-requires c κs =
     let o = c.before in
-    λ e. plain-passed wide_modulus _ _ _ (omega arith) _ o.sixteen.ensures (sym o.before.open-lengths.ensures ∙ e)
+    λ e. plain-passed wide_modulus _ _ _ (omega arith) _ o.sixteen.ensures (sym o.open_lengths-admitted.ensures ∙ e)
 
 returns : tie.Need-returns
 returns c =
     let o = c.before.before in
-    opening-plain wide_modulus _ _ _ (omega arith) _ _ _ _ o.sixteen.ensures o.before.open-lengths.ensures
-    c.located-wide-by.ensures
+    opening-plain wide_modulus _ _ _ (omega arith) _ _ _ _ o.sixteen.ensures o.open_lengths-admitted.ensures
+    c.located_wide_by.ensures
 
-pub doumbaht-open-by-locator-wide-spec : {M : Type 1} → statement M
-doumbaht-open-by-locator-wide-spec =
-    tie.close (tie.spec open-lengths-requires sixteen-requires located-wide-by-requires returns)
+pub doumbaht_open_by_locator_wide_spec : {M : Type 1} → statement M
+doumbaht_open_by_locator_wide_spec =
+    tie.close (tie.spec
+    open_lengths-admitted-requires
+    sixteen-requires
+    located_wide_by-requires
+    returns)

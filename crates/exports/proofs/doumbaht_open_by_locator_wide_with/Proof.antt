@@ -6,21 +6,25 @@ use borrow.Author.Rules.{rules}
 use Rattle.exports.proofs.doumbaht_open_by_locator_wide_with.Statement.{statement}
 use Rattle.exports.proofs.doumbaht_open_by_locator_wide_with.Tie as tie
 
-in-array-wide-requires : tie.Need-in-array-wide-requires
-in-array-wide-requires c κs = search rules
+in_array_wide-points-requires : tie.Need-in_array_wide-points-requires
+in_array_wide-points-requires c κs = search rules
 
-open-admission-requires : tie.Need-open-admission-requires
-open-admission-requires c κs = search rules
+open_admission-admitted-requires : tie.Need-open_admission-admitted-requires
+open_admission-admitted-requires c κs = search rules
 
-located-wide-by-requires : tie.Need-located-wide-by-requires
-located-wide-by-requires c κs = λ e. with-passed wide_modulus _ _ _ _ _ (sym c.before.open-admission.ensures ∙ e)
+located_wide_by-requires : tie.Need-located_wide_by-requires
+located_wide_by-requires c κs = λ e. with-passed wide_modulus _ _ _ _ _ (sym c.open_admission-admitted.ensures ∙ e)
 
 returns : tie.Need-returns
 returns c =
     let o = c.before.before in
-    opening-with wide_modulus _ _ _ _ _ _ _ _ o.before.in-array-wide.ensures o.open-admission.ensures c.located-wide-by.ensures
+    opening-with wide_modulus _ _ _ _ _ _ _ _ o.in_array_wide-points.ensures o.open_admission-admitted.ensures c.located_wide_by.ensures
 
-pub doumbaht-open-by-locator-wide-with-spec : {M : Type 1} → statement M
-doumbaht-open-by-locator-wide-with-spec =
+pub doumbaht_open_by_locator_wide_with_spec : {M : Type 1} → statement M
+doumbaht_open_by_locator_wide_with_spec =
     tie.close
-    (tie.spec in-array-wide-requires open-admission-requires located-wide-by-requires returns)
+    (tie.spec
+    in_array_wide-points-requires
+    open_admission-admitted-requires
+    located_wide_by-requires
+    returns)

@@ -6,20 +6,24 @@ use borrow.Author.Rules.{rules}
 use Rattle.exports.proofs.doumbaht_open_by_locator_with.Statement.{statement}
 use Rattle.exports.proofs.doumbaht_open_by_locator_with.Tie as tie
 
-in-array-requires : tie.Need-in-array-requires
-in-array-requires c κs = search rules
+in_array-points-requires : tie.Need-in_array-points-requires
+in_array-points-requires c κs = search rules
 
-open-admission-requires : tie.Need-open-admission-requires
-open-admission-requires c κs = search rules
+open_admission-admitted-requires : tie.Need-open_admission-admitted-requires
+open_admission-admitted-requires c κs = search rules
 
-located-by-requires : tie.Need-located-by-requires
-located-by-requires c κs = λ e. with-passed modulus _ _ _ _ _ (sym c.before.open-admission.ensures ∙ e)
+located_by-requires : tie.Need-located_by-requires
+located_by-requires c κs = λ e. with-passed modulus _ _ _ _ _ (sym c.open_admission-admitted.ensures ∙ e)
 
 returns : tie.Need-returns
 returns c =
     let o = c.before.before in
-    opening-with modulus _ _ _ _ _ _ _ _ o.before.in_array.ensures o.open-admission.ensures c.located-by.ensures
+    opening-with modulus _ _ _ _ _ _ _ _ o.in_array-points.ensures o.open_admission-admitted.ensures c.located_by.ensures
 
-pub doumbaht-open-by-locator-with-spec : {M : Type 1} → statement M
-doumbaht-open-by-locator-with-spec =
-    tie.close (tie.spec in-array-requires open-admission-requires located-by-requires returns)
+pub doumbaht_open_by_locator_with_spec : {M : Type 1} → statement M
+doumbaht_open_by_locator_with_spec =
+    tie.close (tie.spec
+    in_array-points-requires
+    open_admission-admitted-requires
+    located_by-requires
+    returns)

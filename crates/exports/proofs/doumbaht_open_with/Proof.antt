@@ -6,20 +6,24 @@ use borrow.Author.Rules.{rules}
 use Rattle.exports.proofs.doumbaht_open_with.Statement.{statement}
 use Rattle.exports.proofs.doumbaht_open_with.Tie as tie
 
-in-array-requires : tie.Need-in-array-requires
-in-array-requires c κs = search rules
+in_array-points-requires : tie.Need-in_array-points-requires
+in_array-points-requires c κs = search rules
 
-open-admission-requires : tie.Need-open-admission-requires
-open-admission-requires c κs = search rules
+open_admission-admitted-requires : tie.Need-open_admission-admitted-requires
+open_admission-admitted-requires c κs = search rules
 
-opened-by-requires : tie.Need-opened-by-requires
-opened-by-requires c κs = λ e. with-passed modulus _ _ _ _ _ (sym c.before.open-admission.ensures ∙ e)
+opened_by-requires : tie.Need-opened_by-requires
+opened_by-requires c κs = λ e. with-passed modulus _ _ _ _ _ (sym c.open_admission-admitted.ensures ∙ e)
 
 returns : tie.Need-returns
 returns c =
     let o = c.before.before in
-    opening-with modulus _ _ _ _ _ _ _ _ o.before.in_array.ensures o.open-admission.ensures c.opened-by.ensures
+    opening-with modulus _ _ _ _ _ _ _ _ o.in_array-points.ensures o.open_admission-admitted.ensures c.opened_by.ensures
 
-pub doumbaht-open-with-spec : {M : Type 1} → statement M
-doumbaht-open-with-spec =
-    tie.close (tie.spec in-array-requires open-admission-requires opened-by-requires returns)
+pub doumbaht_open_with_spec : {M : Type 1} → statement M
+doumbaht_open_with_spec =
+    tie.close (tie.spec
+    in_array-points-requires
+    open_admission-admitted-requires
+    opened_by-requires
+    returns)

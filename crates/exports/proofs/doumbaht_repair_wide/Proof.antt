@@ -16,64 +16,64 @@ use Rattle.exports.proofs.doumbaht_repair_wide.Statement.{statement}
 use Rattle.exports.proofs.doumbaht_repair_wide.Tie as tie
 
 -- Where the sizes are right.
-passed : (o : tie.After-enum-told) → let a = o.before.before.before.before.before.before.args in
+passed : (o : tie.In-Pass) → let a = o.args in
     lowest (repair_sizes a.t (length a.xs.now) (length a.ys.now) (length a.column.now)) ≡ Pass
-passed o = sym o.before.before.repair-sizes.ensures ∙ o.enum_told.given.1
+passed o = sym o.repair_sizes-sized.ensures ∙ o.in-Pass.is
 
-right : (o : tie.After-enum-told) → let a = o.before.before.before.before.before.before.args in
+right : (o : tie.In-Pass) → let a = o.args in
     Repairs a.t a.xs.now a.ys.now × (length a.column.now ≡ suc a.t)
 right o =
-    let a = o.before.before.before.before.before.before.args in
+    let a = o.args in
     repairs-passed a.t a.xs.now a.ys.now a.column.now (passed o)
 
-repair-sizes-requires : tie.Need-repair-sizes-requires
-repair-sizes-requires c κs = search rules
+repair_sizes-sized-requires : tie.Need-repair_sizes-sized-requires
+repair_sizes-sized-requires c κs = search rules
 
-enum-known-sized : tie.Need-enum-known-sized
-enum-known-sized c = search rules
+enum_known-sized : tie.Need-enum_known-sized
+enum_known-sized c = search rules
 
-refusal-number-requires : tie.Need-refusal-number-requires
-refusal-number-requires c κs = search rules
+refusal_number-requires : tie.Need-refusal_number-requires
+refusal_number-requires c κs = search rules
 
-enum_told : tie.Need-enum-told
-enum_told c = search rules
+enum_told-1 : tie.Need-enum_told-1
+enum_told-1 c = search rules
 
-repaired-requires : tie.Need-repaired-requires
-repaired-requires c κs = (right c).0
+repaired-fitted-requires : tie.Need-repaired-fitted-requires
+repaired-fitted-requires c κs = (right c).0
 
-put-wide-column-requires : tie.Need-put-wide-column-requires
-put-wide-column-requires c κs = let f = right c.before.before.before in omega (arith, f.1, f.0.few-faulty)
+put_wide_column-requires : tie.Need-put_wide_column-requires
+put_wide_column-requires c κs = let f = right c.before.before.before in omega (arith, f.1, f.0.few-faulty)
 
-returns : tie.Need-returns
-returns c =
-    let v = c.before.before.before.before in
-    let a = v.before.before.before.before.args in
-    ap (λ (k : ℕ). (a.column.now, k)) c.refusal-number.ensures
+returns-in-Fail : tie.Need-returns-in-Fail
+returns-in-Fail c =
+    let v = c.before.before in
+    let a = v.args in
+    ap (λ (k : ℕ). (a.column.now, k)) c.refusal_number.ensures
     ∙ repairing-refused wide_modulus a.t a.xs.now a.ys.now a.column.now
-    (sym v.repair-sizes.ensures ∙ c.before.before.sized.given.1)
+    (sym v.repair_sizes-sized.ensures ∙ c.in-Fail.is)
 
-same_length : tie.Need-same-length
-same_length c = search rules
+shape_of-column : tie.Need-shape_of-column
+shape_of-column c = search rules
 
-returns-2 : tie.Need-returns-2
-returns-2 c =
+returns-in-Pass : tie.Need-returns-in-Pass
+returns-in-Pass c =
     let put = c.before.before in
     let fitted = put.before.before.before in
     let told = fitted.before in
-    let a = told.before.before.before.before.before.before.args in
-    column-by wide_modulus (prime-of Wide) a.t a.xs.now a.ys.now _ fitted.repaired.ensures a.column.now _ (passed told)
-    put.put-wide-column.ensures
+    let a = told.args in
+    column-by wide_modulus (prime-of Wide) a.t a.xs.now a.ys.now _ fitted.repaired-fitted.ensures a.column.now _ (passed told)
+    put.put_wide_column.ensures
 
-pub doumbaht-repair-wide-spec : {M : Type 1} → statement M
-doumbaht-repair-wide-spec =
+pub doumbaht_repair_wide_spec : {M : Type 1} → statement M
+doumbaht_repair_wide_spec =
     tie.close
     (tie.spec
-    repair-sizes-requires
-    enum-known-sized
-    refusal-number-requires
-    enum_told
-    repaired-requires
-    put-wide-column-requires
-    returns
-    same_length
-    returns-2)
+    repair_sizes-sized-requires
+    enum_known-sized
+    refusal_number-requires
+    enum_told-1
+    repaired-fitted-requires
+    put_wide_column-requires
+    returns-in-Fail
+    shape_of-column
+    returns-in-Pass)

@@ -9,21 +9,25 @@ use borrow.Author.Rules.{rules}
 use Rattle.exports.proofs.doumbaht_text.Statement.{statement}
 use Rattle.exports.proofs.doumbaht_text.Tie as tie
 
-render-requires : tie.Need-render-requires
-render-requires c κs = search rules
+render-answer-requires : tie.Need-render-answer-requires
+render-answer-requires c κs = search rules
 
-bytes-written-requires : tie.Need-bytes-written-requires
-bytes-written-requires c κs = search rules
+bytes_written-requires : tie.Need-bytes_written-requires
+bytes_written-requires c κs = search rules
 
-same_length : tie.Need-same-length
-same_length c = search rules
+shape_of-out : tie.Need-shape_of-out
+shape_of-out c = search rules
 
 returns : tie.Need-returns
 unfolding rendered
 returns c =
-    let d = c.before.before.before.render in
-    ap (λ (k : ℕ). (d.new.1.0, k)) c.bytes-written.ensures
+    let d = c.render-answer in
+    ap (λ (k : ℕ). (d.new.out, k)) c.bytes_written.ensures
     ∙ ap (λ (a : List ℕ × Writing). (a.0, bytes_written a.1)) d.ensures.0
 
-pub doumbaht-text-spec : {M : Type 1} → statement M
-doumbaht-text-spec = tie.close (tie.spec render-requires bytes-written-requires same_length returns)
+pub doumbaht_text_spec : {M : Type 1} → statement M
+doumbaht_text_spec = tie.close (tie.spec
+    render-answer-requires
+    bytes_written-requires
+    shape_of-out
+    returns)

@@ -6,17 +6,21 @@ use borrow.Author.Rules.{rules}
 use Rattle.timing.proofs.admitted.Statement.{statement}
 use Rattle.timing.proofs.admitted.Tie as tie
 
-returns : tie.Need-returns
-returns c = row-long _ _ _ _ c.if1.true
+returns-then-row-gt4 : tie.Need-returns-then-row-gt4
+returns-then-row-gt4 c = row-long _ _ _ _ c.if-row-gt4.true
 
-returns-2 : tie.Need-returns-2
-returns-2 c = column-long _ _ _ _ (omega arith) c.if2.true
+returns-then-column-gt4 : tie.Need-returns-then-column-gt4
+returns-then-column-gt4 c = column-long _ _ _ _ (omega arith) c.if-column-gt4.true
 
 residues-requires : tie.Need-residues-requires
 residues-requires c κs = search rules
 
-returns-3 : tie.Need-returns-3
-returns-3 c = c.residues.ensures ∙ by-table _ _ _ _ (omega arith) (omega arith)
+returns : tie.Need-returns
+returns c = c.residues.ensures ∙ by-table _ _ _ _ (omega arith) (omega arith)
 
-pub admitted-spec : {M : Type 1} → statement M
-admitted-spec = tie.close (tie.spec returns returns-2 residues-requires returns-3)
+pub admitted_spec : {M : Type 1} → statement M
+admitted_spec = tie.close (tie.spec
+    returns-then-row-gt4
+    returns-then-column-gt4
+    residues-requires
+    returns)

@@ -23,56 +23,56 @@ answered k w =
     let a = (start k).args in pairing (prime_of w) a.table.now a.i a.row.now a.column.now a.j a.pair.now
 
 -- Where the lists are those asked for.
-right : (e : tie.Else2) → let a = (start e.before).args in
-    admitted (prime_of e.before.before.width-for.result) a.table.now a.row.now a.column.now ≡ true
-right e = let k = e.before in sym k.admitted.ensures ∙ not-false k.admitted.result e.if2.false
+right : (e : tie.Else-not-admitted) → let a = (start e.before).args in
+    admitted (prime_of e.width_for-w.result) a.table.now a.row.now a.column.now ≡ true
+right e = let k = e.before in sym k.admitted.ensures ∙ e.if-not-admitted.false
 
-returns : tie.Need-returns
-returns c = pairing-length _ _ _ _ _ _ _ c.if1.true
+returns-then-pair-ne2 : tie.Need-returns-then-pair-ne2
+returns-then-pair-ne2 c = pairing-length _ _ _ _ _ _ _ c.if-pair-ne2.true
 
-width-for-requires : tie.Need-width-for-requires
-width-for-requires c κs = search rules
+width_for-w-requires : tie.Need-width_for-w-requires
+width_for-w-requires c κs = search rules
 
 admitted-requires : tie.Need-admitted-requires
 admitted-requires c κs = search rules
 
-returns-2 : tie.Need-returns-2
-returns-2 c =
+returns-then-not-admitted : tie.Need-returns-then-not-admitted
+returns-then-not-admitted c =
     let k = c.before in
-    pairing-refused _ _ _ _ _ _ _ k.before.before.if1.false
-    (sym k.admitted.ensures ∙ not-true k.admitted.result c.if2.true)
-    ∙ ap (answered k) k.before.width-for.ensures
+    pairing-refused _ _ _ _ _ _ _ k.if-pair-ne2.false
+    (sym k.admitted.ensures ∙ c.if-not-admitted.true)
+    ∙ ap (answered k) k.width_for-w.ensures
 
-pair-for-requires : tie.Need-pair-for-requires
-pair-for-requires c κs = admitted-facts _ _ _ _ (right c)
+pair_for-said-requires : tie.Need-pair_for-said-requires
+pair_for-said-requires c κs = admitted-facts _ _ _ _ (right c)
 
-slice-write-pair : tie.Need-slice-write-pair
-slice-write-pair c = search rules
+bounds-pair-0 : tie.Need-bounds-pair-0
+bounds-pair-0 c = search rules
 
-slice-write-pair-2 : tie.Need-slice-write-pair-2
-slice-write-pair-2 c = search rules
+bounds-pair-1 : tie.Need-bounds-pair-1
+bounds-pair-1 c = search rules
 
-same_length : tie.Need-same-length
-same_length c = search rules
+shape_of-pair : tie.Need-shape_of-pair
+shape_of-pair c = search rules
 
-returns-3 : tie.Need-returns-3
-returns-3 c =
+returns : tie.Need-returns
+returns c =
     let e = c.before in
     let k = e.before in
-    pairing-said _ _ _ _ _ _ _ k.before.before.if1.false (right e) _ _
-    (ap (λ (q : Pair). (q.first, q.second)) c.pair-for.ensures)
-    ∙ ap (answered k) k.before.width-for.ensures
+    pairing-said _ _ _ _ _ _ _ k.if-pair-ne2.false (right e) _ _
+    (ap (λ (q : Pair). (q.first, q.second)) c.pair_for-said.ensures)
+    ∙ ap (answered k) k.width_for-w.ensures
 
-pub timing-pair-spec : {M : Type 1} → statement M
-timing-pair-spec =
+pub timing_pair_spec : {M : Type 1} → statement M
+timing_pair_spec =
     tie.close
     (tie.spec
-    returns
-    width-for-requires
+    returns-then-pair-ne2
+    width_for-w-requires
     admitted-requires
-    returns-2
-    pair-for-requires
-    slice-write-pair
-    slice-write-pair-2
-    same_length
-    returns-3)
+    returns-then-not-admitted
+    pair_for-said-requires
+    bounds-pair-0
+    bounds-pair-1
+    shape_of-pair
+    returns)

@@ -22,30 +22,35 @@ answered k w =
     reporting (prime_of w) a.n a.table.now a.i a.row.now a.column.now a.firsts.now a.seconds.now
 
 -- Where the lists are those asked for.
-right : (e : tie.Else1) → let a = (start e.before).args in
-    admitted (prime_of e.before.before.width-for.result) a.table.now a.row.now a.column.now ≡ true
-right e = let k = e.before in sym k.admitted.ensures ∙ not-false k.admitted.result e.if1.false
+right : (e : tie.Else-not-admitted) → let a = (start e.before).args in
+    admitted (prime_of e.width_for-w.result) a.table.now a.row.now a.column.now ≡ true
+right e = let k = e.before in sym k.admitted.ensures ∙ e.if-not-admitted.false
 
-width-for-requires : tie.Need-width-for-requires
-width-for-requires c κs = search rules
+width_for-w-requires : tie.Need-width_for-w-requires
+width_for-w-requires c κs = search rules
 
 admitted-requires : tie.Need-admitted-requires
 admitted-requires c κs = search rules
 
-returns : tie.Need-returns
-returns c =
+returns-then-not-admitted : tie.Need-returns-then-not-admitted
+returns-then-not-admitted c =
     let k = c.before in
-    reporting-refused _ _ _ _ _ _ _ _ (sym k.admitted.ensures ∙ not-true k.admitted.result c.if1.true)
-    ∙ ap (answered k) k.before.width-for.ensures
+    reporting-refused _ _ _ _ _ _ _ _ (sym k.admitted.ensures ∙ c.if-not-admitted.true)
+    ∙ ap (answered k) k.width_for-w.ensures
 
 report-requires : tie.Need-report-requires
 report-requires c κs = admitted-facts _ _ _ _ (right c)
 
-returns-2 : tie.Need-returns-2
-returns-2 c =
+returns : tie.Need-returns
+returns c =
     let e = c.before in
-    c.report.ensures ∙ reporting-given _ _ _ _ _ _ _ _ (right e) ∙ ap (answered e.before) e.before.before.width-for.ensures
+    c.report.ensures ∙ reporting-given _ _ _ _ _ _ _ _ (right e) ∙ ap (answered c.before.before) e.width_for-w.ensures
 
-pub timing-report-spec : {M : Type 1} → statement M
-timing-report-spec =
-    tie.close (tie.spec width-for-requires admitted-requires returns report-requires returns-2)
+pub timing_report_spec : {M : Type 1} → statement M
+timing_report_spec =
+    tie.close (tie.spec
+    width_for-w-requires
+    admitted-requires
+    returns-then-not-admitted
+    report-requires
+    returns)

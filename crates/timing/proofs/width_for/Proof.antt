@@ -6,11 +6,13 @@ use Rattle.field.specs.declared.Width.TheVariants.{Narrow, Wide}
 use Rattle.timing.proofs.width_for.Statement.{statement}
 use Rattle.timing.proofs.width_for.Tie as tie
 
+returns-then-wide-eq0 : tie.Need-returns-then-wide-eq0
+returns-then-wide-eq0 c = ap (λ (b : Bool). cond b Narrow Wide) (sym (eq-eqb c.args.wide 0 c.if-wide-eq0.true))
+
 returns : tie.Need-returns
-returns c = ap (λ (b : Bool). cond b Narrow Wide) (sym (eq-eqb c.before.args.wide 0 c.if1.true))
+returns c = ap (λ (b : Bool). cond b Narrow Wide) (sym (ne_eqb c.args.wide 0 c.if-wide-eq0.false))
 
-returns-2 : tie.Need-returns-2
-returns-2 c = ap (λ (b : Bool). cond b Narrow Wide) (sym (ne_eqb c.before.args.wide 0 c.if1.false))
-
-pub width-for-spec : {M : Type 1} → statement M
-width-for-spec = tie.close (tie.spec returns returns-2)
+pub width_for_spec : {M : Type 1} → statement M
+width_for_spec = tie.close (tie.spec
+    returns-then-wide-eq0
+    returns)

@@ -16,62 +16,62 @@ put_next : (out list : List ℕ) (k : ℕ) → k < length out → k < length lis
 put_next out list k a b e =
     rw (add-one k) (take-suc-set out k (get_or list k 0) a ∙ ap (λ (l : List ℕ). l ++ get_or list k 0 ∷ []) e ∙ sym (take-suc list k 0 b))
 
-abbrev invariant-loop : tie.invariant-loop
-invariant-loop out₀ list k₀ out k = (k ≤ length out) × (length out ≡ length out₀) × (take k out ≡ take k list)
+abbrev invariant-loop-k : tie.invariant-loop-k
+invariant-loop-k out₀ list k₀ out k = (k ≤ length out) × (length out ≡ length out₀) × (take k out ≡ take k list)
 
-abbrev decreases-loop : tie.decreases-loop
-decreases-loop out₀ list k₀ out k = length out₀ - k
+abbrev decreases-loop-k : tie.decreases-loop-k
+decreases-loop-k out₀ list k₀ out k = length out₀ - k
 
-loop-holds : tie.Need-loop-init invariant-loop decreases-loop
-loop-holds c = (omega arith, refl, refl)
+loop-k-init : tie.Need-loop-k-init invariant-loop-k decreases-loop-k
+loop-k-init c = (omega arith, refl, refl)
 
-mul-out : tie.Need-overflow-mul-out invariant-loop decreases-loop
-mul-out c = search rules
+offset_bounds-list-k : tie.Need-offset_bounds-list-k invariant-loop-k decreases-loop-k
+offset_bounds-list-k c = search rules
 
-array-read-out : tie.Need-array-read-out invariant-loop decreases-loop
-array-read-out c = omega arith
+bounds-list-k : tie.Need-bounds-list-k invariant-loop-k decreases-loop-k
+bounds-list-k c = omega arith
 
-mul-out-2 : tie.Need-overflow-mul-out-2 invariant-loop decreases-loop
-mul-out-2 c = search rules
+offset_bounds-out-k : tie.Need-offset_bounds-out-k invariant-loop-k decreases-loop-k
+offset_bounds-out-k c = search rules
 
-slice-write-out : tie.Need-slice-write-out invariant-loop decreases-loop
-slice-write-out c = search rules
+bounds-out-k : tie.Need-bounds-out-k invariant-loop-k decreases-loop-k
+bounds-out-k c = search rules
 
-add-k : tie.Need-overflow-add-k invariant-loop decreases-loop
-add-k c = search rules
+overflow_add-k : tie.Need-overflow_add-k invariant-loop-k decreases-loop-k
+overflow_add-k c = search rules
 
-loop-less : tie.Need-loop-smaller invariant-loop decreases-loop
-loop-less c = search rules
+loop-k-smaller : tie.Need-loop-k-smaller invariant-loop-k decreases-loop-k
+loop-k-smaller c = search rules
 
-loop-again : tie.Need-loop-preserved invariant-loop decreases-loop
-loop-again c =
-    let k = c.before.loop in
-    let list = c.before.before.args.t1 in
+loop-k-preserved : tie.Need-loop-k-preserved invariant-loop-k decreases-loop-k
+loop-k-preserved c =
+    let k = c.loop-k in
+    let list = c.args.list in
     let s = length-set k.out k.k (get_or list k.k 0) in
     (omega arith, omega arith, put_next k.out list k.k (omega arith) (omega arith) k.invariant.2)
 
-same_length : tie.Need-same-length invariant-loop decreases-loop
-same_length c = search rules
+shape_of-out : tie.Need-shape_of-out invariant-loop-k decreases-loop-k
+shape_of-out c = search rules
 
-returns : tie.Need-returns invariant-loop decreases-loop
+returns : tie.Need-returns invariant-loop-k decreases-loop-k
 returns c =
-    let k = c.before.loop in
-    let e : k.k ≡ length c.before.before.args.out.now = omega arith in
-    sym (take_all k.k k.out (omega arith)) ∙ k.invariant.2 ∙ ap (λ z. take z c.before.before.args.t1) e
+    let k = c.loop-k in
+    let e : k.k ≡ length c.args.out.now = omega arith in
+    sym (take_all k.k k.out (omega arith)) ∙ k.invariant.2 ∙ ap (λ z. take z c.args.list) e
 
-pub put-front-spec : {M : Type 1} → statement M
-put-front-spec =
+pub put_front_spec : {M : Type 1} → statement M
+put_front_spec =
     tie.close
     (tie.spec
-    invariant-loop
-    decreases-loop
-    loop-holds
-    mul-out
-    array-read-out
-    mul-out-2
-    slice-write-out
-    add-k
-    loop-less
-    loop-again
-    same_length
+    invariant-loop-k
+    decreases-loop-k
+    loop-k-init
+    offset_bounds-list-k
+    bounds-list-k
+    offset_bounds-out-k
+    bounds-out-k
+    overflow_add-k
+    loop-k-smaller
+    loop-k-preserved
+    shape_of-out
     returns)

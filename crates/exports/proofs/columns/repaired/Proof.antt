@@ -12,46 +12,46 @@ use Rattle.exports.proofs.columns.repaired.Statement.{statement}
 use Rattle.exports.proofs.columns.repaired.Tie as tie
 
 -- Past the test the points are a table.
-table : (e : tie.Else1) → let a = e.before.before.before.before.args in
+table : (e : tie.Else-not-is_table) → let a = e.args in
     is_table (prime_of a.w) (length a.xs.now) a.xs.now ≡ true
-table e = sym e.before.is-table.ensures ∙ not-false e.before.is-table.result e.if1.false
+table e = sym e.is_table.ensures ∙ e.if-not-is_table.false
 
-cast-is-table : tie.Need-overflow-cast-is-table
-cast-is-table c = search rules
+overflow_cast-xs : tie.Need-overflow_cast-xs
+overflow_cast-xs c = search rules
 
-is-table-requires : tie.Need-is-table-requires
-is-table-requires c κs = search rules
+is_table-requires : tie.Need-is_table-requires
+is_table-requires c κs = search rules
 
-refused-fit-requires : tie.Need-refused-fit-requires
-refused-fit-requires c κs = search rules
+refused_fit-requires : tie.Need-refused_fit-requires
+refused_fit-requires c κs = search rules
 
-returns : tie.Need-returns
-returns c =
+returns-then-not-is_table : tie.Need-returns-then-not-is_table
+returns-then-not-is_table c =
     let v = c.before.before in
-    let a = v.before.before.before.args in
-    c.refused-fit.ensures
+    let a = v.args in
+    c.refused_fit.ensures
     ∙ points-refused (prime_of a.w) a.t a.xs.now a.ys.now
-    (sym v.is-table.ensures ∙ not-true v.is-table.result c.before.if1.true)
+    (sym v.is_table.ensures ∙ c.if-not-is_table.true)
 
-sub_fit : tie.Need-overflow-sub-fit
-sub_fit c = search rules
+overflow_sub-xs : tie.Need-overflow_sub-xs
+overflow_sub-xs c = search rules
 
 fit-requires : tie.Need-fit-requires
 fit-requires c κs = table-points _ _ _ (table-facts _ _ _ (table c))
 
-returns-2 : tie.Need-returns-2
-returns-2 c =
+returns : tie.Need-returns
+returns c =
     let e = c.before in
-    c.fit.ensures ∙ points-fit _ _ _ _ e.before.before.before.before.requires (table e)
+    c.fit.ensures ∙ points-fit _ _ _ _ e.requires (table e)
 
-pub repaired-spec : {M : Type 1} → statement M
-repaired-spec =
+pub repaired_spec : {M : Type 1} → statement M
+repaired_spec =
     tie.close
     (tie.spec
-    cast-is-table
-    is-table-requires
-    refused-fit-requires
-    returns
-    sub_fit
+    overflow_cast-xs
+    is_table-requires
+    refused_fit-requires
+    returns-then-not-is_table
+    overflow_sub-xs
     fit-requires
-    returns-2)
+    returns)

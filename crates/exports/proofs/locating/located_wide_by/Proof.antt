@@ -12,51 +12,51 @@ use Rattle.exports.proofs.locating.located_wide_by.Statement.{statement}
 use Rattle.exports.proofs.locating.located_wide_by.Tie as tie
 
 -- Where no test refuses.
-right : (o : tie.After-enum-told) → let a = o.before.before.before.args in
+right : (o : tie.In-Pass) → let a = o.args in
     Openings wide_modulus a.n a.t (take a.n a.table) a.shares.now
-right o = o.before.before.before.requires o.enum_told.given.1
+right o = o.requires o.in-Pass.is
 
-enum-known-admitted : tie.Need-enum-known-admitted
-enum-known-admitted c = search rules
+enum_known-admitted : tie.Need-enum_known-admitted
+enum_known-admitted c = search rules
 
-refusal-number-requires : tie.Need-refusal-number-requires
-refusal-number-requires c κs = search rules
+refusal_number-requires : tie.Need-refusal_number-requires
+refusal_number-requires c κs = search rules
 
-enum_told : tie.Need-enum-told
-enum_told c = search rules
+enum_told-1 : tie.Need-enum_told-1
+enum_told-1 c = search rules
 
-located-requires : tie.Need-located-requires
-located-requires c κs = let all = right c in (all.size, all.lengths, all.table)
+located-fitted-requires : tie.Need-located-fitted-requires
+located-fitted-requires c κs = let all = right c in (all.size, all.lengths, all.table)
 
-array-read-put-wide-opened : tie.Need-array-read-put-wide-opened
-array-read-put-wide-opened c = search rules
+bounds-coefficients-0 : tie.Need-bounds-coefficients-0
+bounds-coefficients-0 c = search rules
 
-put-wide-opened-requires : tie.Need-put-wide-opened-requires
-put-wide-opened-requires c κs = search rules
+put_wide_opened-requires : tie.Need-put_wide_opened-requires
+put_wide_opened-requires c κs = search rules
 
-returns : tie.Need-returns
-returns c =
-    let a = c.before.before.before.before.before.args in
-    ap (λ (k : ℕ). (a.opened.now, k)) c.refusal-number.ensures
+returns-in-Fail : tie.Need-returns-in-Fail
+returns-in-Fail c =
+    let a = c.args in
+    ap (λ (k : ℕ). (a.opened.now, k)) c.refusal_number.ensures
     ∙ ap (λ b. opened_if b a.opened.now (opening_of wide_modulus a.t (take a.n a.table) a.shares.now))
-    (sym c.before.before.admitted.given.1)
+    (sym c.in-Fail.is)
 
-returns-2 : tie.Need-returns-2
-returns-2 c =
+returns-in-Pass : tie.Need-returns-in-Pass
+returns-in-Pass c =
     let fitted = c.before.before.before in
     let told = fitted.before in
-    opened-by wide_modulus _ _ _ _ _ fitted.located.ensures _ _ _ (right told) told.enum_told.given.1
-    c.put-wide-opened.ensures
+    opened-by wide_modulus _ _ _ _ _ fitted.located-fitted.ensures _ _ _ (right told) told.in-Pass.is
+    c.put_wide_opened.ensures
 
-pub located-wide-by-spec : {M : Type 1} → statement M
-located-wide-by-spec =
+pub located_wide_by_spec : {M : Type 1} → statement M
+located_wide_by_spec =
     tie.close
     (tie.spec
-    enum-known-admitted
-    refusal-number-requires
-    enum_told
-    located-requires
-    array-read-put-wide-opened
-    put-wide-opened-requires
-    returns
-    returns-2)
+    enum_known-admitted
+    refusal_number-requires
+    enum_told-1
+    located-fitted-requires
+    bounds-coefficients-0
+    put_wide_opened-requires
+    returns-in-Fail
+    returns-in-Pass)

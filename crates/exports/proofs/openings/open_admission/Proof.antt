@@ -21,59 +21,59 @@ abbrev first : tie.Start → List Test
 first s = let a = s.args in opening_lengths a.n a.t a.shares a.points
 
 abbrev behind : tie.Start → List Test
-behind s = let a = s.args in (is_table (prime_of a.w) a.n (take a.n a.t4), WrongTable) ∷ []
+behind s = let a = s.args in (is_table (prime_of a.w) a.n (take a.n a.table), WrongTable) ∷ []
 
 -- Where the first pass, n numbers of the array can be lent.
-few : (o : tie.After-enum-told) → o.before.before.before.args.n ≤ 16
+few : (o : tie.In-Pass) → o.args.n ≤ 16
 few o =
-    let v = o.before.before in
-    let a = v.before.args in
-    (lengths-passed a.n a.t a.shares a.points (sym v.open-lengths.ensures ∙ o.enum_told.given.1)).3
+    let v = o.before in
+    let a = v.args in
+    (lengths-passed a.n a.t a.shares a.points (sym v.open_lengths-sized.ensures ∙ o.in-Pass.is)).3
 
-open-lengths-requires : tie.Need-open-lengths-requires
-open-lengths-requires c κs = search rules
+open_lengths-sized-requires : tie.Need-open_lengths-sized-requires
+open_lengths-sized-requires c κs = search rules
 
-enum-known-sized : tie.Need-enum-known-sized
-enum-known-sized c = search rules
+enum_known-sized : tie.Need-enum_known-sized
+enum_known-sized c = search rules
 
-enum_told : tie.Need-enum-told
-enum_told c = search rules
+enum_told-1 : tie.Need-enum_told-1
+enum_told-1 c = search rules
 
-array-share-prefix-table : tie.Need-array-share-prefix-table
-array-share-prefix-table c = let f = few c in search rules
+slice_bounds-table-end : tie.Need-slice_bounds-table-end
+slice_bounds-table-end c = let f = few c in search rules
 
-slice-aggregate-is-table : tie.Need-slice-aggregate-is-table
-slice-aggregate-is-table c = let f = few c.before in sym (length-take-le _ _ (search rules))
+slice_bounds-is_table-end : tie.Need-slice_bounds-is_table-end
+slice_bounds-is_table-end c = let f = few c.before in sym (length-take-le _ _ (search rules))
 
-is-table-requires : tie.Need-is-table-requires
-is-table-requires c κs = search rules
+is_table-requires : tie.Need-is_table-requires
+is_table-requires c κs = search rules
 
 also-requires : tie.Need-also-requires
 also-requires c κs = search rules
 
-returns : tie.Need-returns
-returns c =
-    let v = c.before.before.before in
-    sym (lowest-first (first v.before) (behind v.before) (sym v.open-lengths.ensures ∙ c.before.sized.given.1))
+returns-in-Fail : tie.Need-returns-in-Fail
+returns-in-Fail c =
+    let v = c.before in
+    sym (lowest-first (first c.before.before) (behind c.before.before) (sym v.open_lengths-sized.ensures ∙ c.in-Fail.is))
 
-returns-2 : tie.Need-returns-2
-returns-2 c =
+returns-in-Pass : tie.Need-returns-in-Pass
+returns-in-Pass c =
     let told = c.before.before.before in
-    let v = told.before.before in
+    let v = told.before in
     c.also.ensures
-    ∙ ap (λ b. also Pass b WrongTable) c.before.is-table.ensures
-    ∙ sym (lowest-then (first v.before) (behind v.before) (sym v.open-lengths.ensures ∙ told.enum_told.given.1))
+    ∙ ap (λ b. also Pass b WrongTable) c.is_table.ensures
+    ∙ sym (lowest-then (first c.before.before.before.before.before) (behind c.before.before.before.before.before) (sym v.open_lengths-sized.ensures ∙ told.in-Pass.is))
 
-pub open-admission-spec : {M : Type 1} → statement M
-open-admission-spec =
+pub open_admission_spec : {M : Type 1} → statement M
+open_admission_spec =
     tie.close
     (tie.spec
-    open-lengths-requires
-    enum-known-sized
-    enum_told
-    array-share-prefix-table
-    slice-aggregate-is-table
-    is-table-requires
+    open_lengths-sized-requires
+    enum_known-sized
+    enum_told-1
+    slice_bounds-table-end
+    slice_bounds-is_table-end
+    is_table-requires
     also-requires
-    returns
-    returns-2)
+    returns-in-Fail
+    returns-in-Pass)

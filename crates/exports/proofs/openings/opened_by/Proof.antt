@@ -19,85 +19,85 @@ use Rattle.exports.proofs.openings.opened_by.Statement.{statement}
 use Rattle.exports.proofs.openings.opened_by.Tie as tie
 
 -- Where no test refuses.
-right : (o : tie.After-enum-told) → let a = o.before.before.before.args in
+right : (o : tie.In-Pass) → let a = o.args in
     Openings modulus a.n a.t (take a.n a.table) a.shares.now
-right o = o.before.before.before.requires o.enum_told.given.1
+right o = o.requires o.in-Pass.is
 
-few : (o : tie.After-enum-told) → o.before.before.before.args.n ≤ 16
-few o = let a = o.before.before.before.args in (sizes-facts a.n a.t (right o).size).3
+few : (o : tie.In-Pass) → o.args.n ≤ 16
+few o = let a = o.args in (sizes-facts a.n a.t (right o).size).3
 
 -- The array has the list in front, so what fits is what fits the list.
-same : (o : tie.After-published) → let a = o.before.before.before.before.before.before.before.before.args in
-    o.published.result ≡ published_in modulus a.n a.t (take a.n a.table) a.shares.now
+same : (o : tie.After-published-fitted) → let a = o.args in
+    o.published-fitted.result ≡ published_in modulus a.n a.t (take a.n a.table) a.shares.now
 same o =
     let list = o.before.before.before in
     let told = list.before.before in
-    let a = told.before.before.before.args in
-    o.published.ensures
+    let a = told.args in
+    o.published-fitted.ensures
     ∙ ap (published_in modulus a.n a.t (take a.n a.table))
     (front-list a.shares.now _ (drop a.n (replicate 16 0)) a.n (right told).lengths list.widened.ensures)
 
-enum-known-admitted : tie.Need-enum-known-admitted
-enum-known-admitted c = search rules
+enum_known-admitted : tie.Need-enum_known-admitted
+enum_known-admitted c = search rules
 
-refusal-number-requires : tie.Need-refusal-number-requires
-refusal-number-requires c κs = search rules
+refusal_number-requires : tie.Need-refusal_number-requires
+refusal_number-requires c κs = search rules
 
-enum_told : tie.Need-enum-told
-enum_told c = search rules
+enum_told-1 : tie.Need-enum_told-1
+enum_told-1 c = search rules
 
-array-borrow-prefix-list : tie.Need-array-borrow-prefix-list
-array-borrow-prefix-list c = let f = few c in search rules
+slice_bounds-list-end : tie.Need-slice_bounds-list-end
+slice_bounds-list-end c = let f = few c in search rules
 
-slice-aggregate-widened : tie.Need-slice-aggregate-widened
-slice-aggregate-widened c = let f = few c.before in sym (length-take-le _ _ (search rules))
+slice_bounds-widened-end : tie.Need-slice_bounds-widened-end
+slice_bounds-widened-end c = let f = few c.before in sym (length-take-le _ _ (search rules))
 
 widened-requires : tie.Need-widened-requires
 widened-requires c κs = let f = few c.before in (right c.before).lengths ∙ sym (length-take-le _ _ (search rules))
 
-array-share-prefix-list : tie.Need-array-share-prefix-list
-array-share-prefix-list c = front-within _ _ _ _ (right c.before.before.before).lengths c.before.widened.ensures
+slice_bounds-list-end-in-Pass : tie.Need-slice_bounds-list-end-in-Pass
+slice_bounds-list-end-in-Pass c = front-within _ _ _ _ (right c.before.before.before).lengths c.widened.ensures
 
-slice-aggregate-published : tie.Need-slice-aggregate-published
-slice-aggregate-published c =
-    let list = c.before.before in sym (front-size _ _ _ _ (right list.before.before).lengths list.widened.ensures)
+slice_bounds-published-end : tie.Need-slice_bounds-published-end
+slice_bounds-published-end c =
+    let list = c.before.before in sym (front-size _ _ _ _ (right c.before.before.before.before).lengths list.widened.ensures)
 
-published-requires : tie.Need-published-requires
-published-requires c κs = (right c.before.before.before.before).table
+published-fitted-requires : tie.Need-published-fitted-requires
+published-fitted-requires c κs = (right c.before.before.before.before).table
 
-array-read-put-opened : tie.Need-array-read-put-opened
-array-read-put-opened c = search rules
+bounds-coefficients-0 : tie.Need-bounds-coefficients-0
+bounds-coefficients-0 c = search rules
 
-put-opened-requires : tie.Need-put-opened-requires
-put-opened-requires c κs = opened-narrow modulus _ _ _ _ _ (same c.before.before) (prime-of Narrow) (omega arith)
+put_opened-requires : tie.Need-put_opened-requires
+put_opened-requires c κs = opened-narrow modulus _ _ _ _ _ (same c.before.before) (prime-of Narrow) (omega arith)
 
-returns : tie.Need-returns
-returns c =
-    let a = c.before.before.before.before.before.args in
-    ap (λ (k : ℕ). (a.opened.now, k)) c.refusal-number.ensures
+returns-in-Fail : tie.Need-returns-in-Fail
+returns-in-Fail c =
+    let a = c.args in
+    ap (λ (k : ℕ). (a.opened.now, k)) c.refusal_number.ensures
     ∙ ap (λ b. opened_if b a.opened.now (opening_of modulus a.t (take a.n a.table) a.shares.now))
-    (sym c.before.before.admitted.given.1)
+    (sym c.in-Fail.is)
 
-returns-2 : tie.Need-returns-2
-returns-2 c =
+returns-in-Pass : tie.Need-returns-in-Pass
+returns-in-Pass c =
     let fitted = c.before.before.before in
     let told = fitted.before.before.before.before.before in
-    opened-by modulus _ _ _ _ _ (same fitted) _ _ _ (right told) told.enum_told.given.1 c.put-opened.ensures
+    opened-by modulus _ _ _ _ _ (same fitted) _ _ _ (right told) told.in-Pass.is c.put_opened.ensures
 
-pub opened-by-spec : {M : Type 1} → statement M
-opened-by-spec =
+pub opened_by_spec : {M : Type 1} → statement M
+opened_by_spec =
     tie.close
     (tie.spec
-    enum-known-admitted
-    refusal-number-requires
-    enum_told
-    array-borrow-prefix-list
-    slice-aggregate-widened
+    enum_known-admitted
+    refusal_number-requires
+    enum_told-1
+    slice_bounds-list-end
+    slice_bounds-widened-end
     widened-requires
-    array-share-prefix-list
-    slice-aggregate-published
-    published-requires
-    array-read-put-opened
-    put-opened-requires
-    returns
-    returns-2)
+    slice_bounds-list-end-in-Pass
+    slice_bounds-published-end
+    published-fitted-requires
+    bounds-coefficients-0
+    put_opened-requires
+    returns-in-Fail
+    returns-in-Pass)

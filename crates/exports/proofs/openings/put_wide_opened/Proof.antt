@@ -6,48 +6,48 @@ use borrow.Author.Rules.{rules}
 use Rattle.exports.proofs.openings.put_wide_opened.Statement.{statement}
 use Rattle.exports.proofs.openings.put_wide_opened.Tie as tie
 
-enum_told : tie.Need-enum-told
-enum_told c = search rules
+enum_told-1 : tie.Need-enum_told-1
+enum_told-1 c = search rules
 
-enum-told-2 : tie.Need-enum-told-2
-enum-told-2 c = search rules
+enum_told-in-Nothing : tie.Need-enum_told-in-Nothing
+enum_told-in-Nothing c = search rules
 
-refusal-number-requires : tie.Need-refusal-number-requires
-refusal-number-requires c κs = search rules
+refusal_number-requires : tie.Need-refusal_number-requires
+refusal_number-requires c κs = search rules
 
-enum-known-outcome : tie.Need-enum-known-outcome
-enum-known-outcome c = search rules
+enum_known-outcome : tie.Need-enum_known-outcome
+enum_known-outcome c = search rules
 
-refusal-number-requires-2 : tie.Need-refusal-number-requires-2
-refusal-number-requires-2 c κs = search rules
+refusal_number-requires-in-Refused : tie.Need-refusal_number-requires-in-Refused
+refusal_number-requires-in-Refused c κs = search rules
 
-returns : tie.Need-returns
-returns c =
-    let a = c.before.before.args in
-    ap (λ o. opened_by o a.constant a.opened.now) (sym c.enum_told.given.1)
+returns-in-Found : tie.Need-returns-in-Found
+returns-in-Found c =
+    let a = c.args in
+    ap (λ o. opened_by o a.constant a.opened.now) (sym c.in-Found.is)
 
-returns-2 : tie.Need-returns-2
-returns-2 c =
-    let a = c.before.before.before.args in
-    ap (λ (k : ℕ). (a.opened.now, k)) c.refusal-number.ensures
-    ∙ ap (λ o. opened_by o a.constant a.opened.now) (sym c.before.enum-told2.given.1)
+returns-in-Nothing : tie.Need-returns-in-Nothing
+returns-in-Nothing c =
+    let a = c.args in
+    ap (λ (k : ℕ). (a.opened.now, k)) c.refusal_number.ensures
+    ∙ ap (λ o. opened_by o a.constant a.opened.now) (sym c.in-Nothing.is)
 
-returns-3 : tie.Need-returns-3
-returns-3 c =
-    let found = c.before.before in
-    let a = found.before.before.args in
-    ap (λ (k : ℕ). (a.opened.now, k)) c.refusal-number2.ensures
-    ∙ ap (λ o. opened_by o a.constant a.opened.now) (sym found.outcome.given.1)
+returns-in-Refused : tie.Need-returns-in-Refused
+returns-in-Refused c =
+    
+    let a = c.args in
+    ap (λ (k : ℕ). (a.opened.now, k)) c.refusal_number-in-Refused.ensures
+    ∙ ap (λ o. opened_by o a.constant a.opened.now) (sym c.in-Refused.is)
 
-pub put-wide-opened-spec : {M : Type 1} → statement M
-put-wide-opened-spec =
+pub put_wide_opened_spec : {M : Type 1} → statement M
+put_wide_opened_spec =
     tie.close
     (tie.spec
-    enum_told
-    enum-told-2
-    refusal-number-requires
-    enum-known-outcome
-    refusal-number-requires-2
-    returns
-    returns-2
-    returns-3)
+    enum_told-1
+    enum_told-in-Nothing
+    refusal_number-requires
+    enum_known-outcome
+    refusal_number-requires-in-Refused
+    returns-in-Found
+    returns-in-Nothing
+    returns-in-Refused)
