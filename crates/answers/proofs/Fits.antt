@@ -1,14 +1,13 @@
 -- What a fit answers, taken apart again.
 --   found-is     where one is found it is the polynomial, and its constant stands first
 --   nothing_is   where none is, there is none
-use mathlib.Core.Path.{◌≡◌, refl, sym, ◌∙◌}
+use mathlib.Core.Path.{◌≡◌, refl}
 use mathlib.Core.Option.{Option, none, some}
 use mathlib.Core.List.{List, [], ◌∷◌}
 use Prim.Native.Nat.{ℕ}
 use native.Mathlib.Omega.{arith}
 use lib.ListN.{get_or}
 use Rattle.answers.specs.declared.Refusal.{Refusal}
-use Rattle.answers.specs.declared.Decoding.{Decoding}
 use Rattle.answers.specs.declared.Decoding.TheVariants.{Found, Nothing, Refused}
 use Rattle.answers.specs.declared.Fitted.{Fitted}
 use Rattle.answers.specs.Fits.{decoded, constant}

@@ -1,6 +1,6 @@
 -- A list written over the front of an array, which is lent for it and comes back with the rest behind it.
 --   front-list, front-within, front-size   the front of the array is the list, the array is as long, and the front
-use mathlib.Core.Path.{◌≡◌, sym, ap, ◌∙◌}
+use mathlib.Core.Path.{◌≡◌, ap, ◌∙◌}
 use mathlib.Core.List.{List, ◌++◌}
 use Prim.Native.Nat.{ℕ, ◌≤◌}
 use native.Mathlib.Omega.{arith}

@@ -15,7 +15,7 @@ use lib.Seq.{length-take-le, take_at, get_or-take}
 use Rattle.lists.specs.Tabulate.{pad}
 use Rattle.lists.proofs.Padded.{four}
 use Rattle.lists.proofs.All.{all-get_or, all_take, all_append, distinct-take}
-use Rattle.field.specs.Arithmetic.{Prime, add, mul}
+use Rattle.field.specs.Arithmetic.{Prime, mul}
 use Rattle.field.proofs.Ring.{mul-zero, mul-one}
 use Rattle.polynomial.specs.Polynomial.{Poly, Points, Residues, value}
 use Rattle.polynomial.proofs.Below.{zeros-residues}

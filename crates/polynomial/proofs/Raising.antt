@@ -2,11 +2,10 @@
 --   raise-value, raise-value-here   the value elsewhere, and at a
 --   divided-again                   the quotient and the remainder of f give f: an identity of coefficients
 --   raise-divided                   and those of y + (X − a) q are q and y
-use mathlib.Core.Path.{◌≡◌, refl, sym, ap, ap₂, subst, ◌∙◌}
+use mathlib.Core.Path.{◌≡◌, refl, ap, ap₂, subst, ◌∙◌}
 use mathlib.Core.List.{List, [], ◌∷◌}
 use Prim.Native.Nat.{ℕ, suc, ◌%◌, ◌<◌}
 use native.Mathlib.Nat.{mod-eq_of_lt}
-use native.Mathlib.Omega.{arith}
 use lib.ListN.{length}
 use Rattle.field.specs.Arithmetic.{add, sub, mul}
 use Rattle.field.proofs.Ring.{add_comm, add-zero, mul-zero, mul_comm, add-mod, add-sub, sub-lt, sub-add}

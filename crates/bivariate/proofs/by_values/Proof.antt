@@ -1,10 +1,9 @@
 -- `bivariate::by_values` meets its contract: the numbers of the column are written one after another.
 use borrow.Author.Rules.{rules}
 use native.Mathlib.Omega.{arith}
-use mathlib.Core.Path.{◌≡◌, sym, ◌∙◌}
-use Prim.Native.Nat.{ℕ, ◌+◌, ◌-◌, ◌<◌}
-use lib.ListN.{length, get_or}
-use Rattle.lists.proofs.All.{all-get_or}
+use mathlib.Core.Path.{◌∙◌}
+use Prim.Native.Nat.{◌-◌}
+use lib.ListN.{length}
 use Rattle.lists.proofs.InPlace.{Zipping, zip_start, zip-next, zip_end}
 use Rattle.field.specs.Modulus.{prime_of}
 use Rattle.bivariate.specs.Bivariate.{column}

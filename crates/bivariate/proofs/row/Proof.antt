@@ -2,7 +2,7 @@
 use borrow.Author.Rules.{rules}
 use native.Mathlib.Omega.{arith}
 use Rattle.bivariate.proofs.Lent.{row-in, row_out}
-use borrow.Author.Tests.{eqb-true, eqb-false, not-true, not-false}
+use borrow.Author.Tests.{eqb-true, eqb-false}
 use Rattle.bivariate.proofs.Loops.{RowLoop, block-residues, row-start, row-bounds, row_next, row-end}
 use Rattle.field.specs.Modulus.{prime_of}
 use mathlib.Core.Path.{sym, ap, ◌∙◌}

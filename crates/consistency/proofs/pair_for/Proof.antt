@@ -2,7 +2,6 @@
 use mathlib.Core.Path.{◌≡◌, sym, ap, ap₂, ◌∙◌}
 use mathlib.Core.Bool.{true}
 use Prim.Native.Nat.{ℕ, ◌<◌}
-use borrow.Author.Tests.{not-true, not-false}
 use Rattle.field.specs.Modulus.{prime_of}
 use Rattle.field.proofs.Primes.{positive}
 use Rattle.polynomial.specs.Polynomial.{Residues, value}

@@ -2,7 +2,6 @@
 use mathlib.Core.Path.{◌≡◌, sym, ◌∙◌}
 use mathlib.Core.Bool.{true}
 use native.Mathlib.Omega.{arith}
-use borrow.Author.Tests.{not-true, not-false}
 use Rattle.parties.specs.Parties.{is_party}
 use Rattle.consistency.proofs.Reports.{report-unsound, report-many, report-nobody, report-firsts, report-seconds, report-within}
 use borrow.Author.Rules.{rules}

@@ -1,5 +1,5 @@
 -- `dealer::write_narrow_deal` meets its contract: the deal goes into the front of an array, and that into the lent part.
-use mathlib.Core.Path.{◌≡◌, sym, ◌∙◌}
+use mathlib.Core.Path.{sym, ◌∙◌}
 use Prim.Native.Nat.{◌*◌}
 use native.Mathlib.Omega.{arith}
 use lib.Dec.{lit<, lit≤}

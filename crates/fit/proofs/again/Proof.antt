@@ -1,10 +1,7 @@
 -- `fit::again` meets its contract: where all were sent the first points have failed, and with fewer sent than must agree they fail too.
 use mathlib.Core.Path.{sym, ap, ◌∙◌}
-use Prim.Native.Nat.{◌+◌}
 use native.Mathlib.Omega.{arith}
-use Rattle.field.specs.Modulus.{prime_of}
 use Rattle.field.proofs.Primes.{prime-of}
-use Rattle.trial.specs.Trial.{tried}
 use Rattle.trial.specs.Results.{result_of}
 use Rattle.fit.proofs.First.{first-too-few}
 use borrow.Author.Rules.{rules}

@@ -1,6 +1,6 @@
 -- `key_equation::agreeing` meets its contract. The loop keeps `Agreeing`.
 use borrow.Author.Rules.{rules}
-use borrow.Author.Tests.{not-false, eqb-true}
+use borrow.Author.Tests.{eqb-true}
 use mathlib.Core.Path.{◌≡◌, sym, ap, ◌∙◌}
 use mathlib.Core.Bool.{true}
 use Prim.Native.Nat.{ℕ, ◌-◌, ◌<◌}

@@ -2,8 +2,6 @@
 use borrow.Author.Rules.{rules}
 use native.Mathlib.Omega.{arith}
 use Prim.Native.Nat.{◌-◌}
-use mathlib.Core.Path.{◌≡◌}
-use lib.ListN.{length}
 use Rattle.field.specs.Modulus.{prime_of}
 use Rattle.field.proofs.Primes.{positive}
 use Rattle.key_equation.proofs.Loops.{Raising, raising-start, raising-small, raising-next, raising-end}

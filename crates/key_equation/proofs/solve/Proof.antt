@@ -1,7 +1,6 @@
 -- `key_equation::solve` meets its contract: the start goes as far as f does.
 use borrow.Author.Rules.{rules}
 use Prim.Native.Nat.{◌+◌}
-use native.Mathlib.Omega.{arith}
 use Rattle.polynomial.specs.Polynomial.{Residues}
 use Rattle.field.specs.Modulus.{prime_of}
 use Rattle.field.proofs.Primes.{prime-of}

@@ -1,8 +1,6 @@
 -- `locator::exact_quotient` meets its contract.
 use borrow.Author.Rules.{rules}
 use mathlib.Core.Path.{sym, ◌∙◌}
-use native.Mathlib.Omega.{arith}
-use lib.ListN.{length}
 use lib.Seq.{length-take-le}
 use Rattle.locator.proofs.Judging.{exact-not, exact-found}
 use Rattle.locator.proofs.exact_quotient.Statement.{statement}

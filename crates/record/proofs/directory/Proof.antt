@@ -3,7 +3,6 @@ use mathlib.Core.Path.{◌≡◌, sym, ◌∙◌}
 use mathlib.Core.Bool.{true}
 use Prim.Native.Nat.{ℕ, ◌+◌, ◌*◌, ◌≤◌}
 use native.Mathlib.Omega.{arith}
-use borrow.Author.Tests.{not-true, not-false}
 use Rattle.parties.specs.Parties.{sizes}
 use Rattle.record.proofs.Sections.{counts-small, lengths-small, directory-legal, directory-zeros, directory-made}
 use borrow.Author.Rules.{rules}

@@ -1,7 +1,6 @@
 -- `record::read_as` meets its contract: each test that fails settles the answer.
 use mathlib.Core.Path.{◌≡◌, sym, ◌∙◌}
 use mathlib.Core.Bool.{true}
-use borrow.Author.Tests.{not-true, not-false}
 use Rattle.parties.specs.Parties.{sizes}
 use Rattle.record.proofs.Answers.{as-size, as-wrong, as-fine}
 use borrow.Author.Rules.{rules}

@@ -103,7 +103,6 @@ shape_of-out-in-Refused c = search rules
 
 returns-in-Refused : tie.Need-returns-in-Refused
 returns-in-Refused c =
-    
     let q = c.before.before in
     let a = q.args in
     let f = q.fitted-opening in

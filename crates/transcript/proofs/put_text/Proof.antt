@@ -1,5 +1,5 @@
 -- `transcript::put_text` meets its contract: one line for a refused record, and the text of one that is not.
-use mathlib.Core.Path.{◌≡◌, sym, subst, ◌∙◌}
+use mathlib.Core.Path.{sym, subst, ◌∙◌}
 use native.Mathlib.Omega.{arith}
 use Rattle.text.specs.Letters.{Added}
 use Rattle.text.proofs.Letters.{puts-within}
@@ -18,7 +18,6 @@ enum_known-answer c = search rules
 
 put_record-requires : tie.Need-put_record-requires
 put_record-requires c κs =
-    
     (sym c.read-answer.ensures ∙ c.in-Fine.is, search rules)
 
 enum_known-answer-in-Refused-1 : tie.Need-enum_known-answer-in-Refused-1
@@ -36,7 +35,6 @@ shape_of-out-in-Fine c = search rules
 returns-in-Fine : tie.Need-returns-in-Fine
 returns-in-Fine c =
     let p = c.put_record in
-    
     let q = c.read-answer in
     let a = c.args in
     let line = text-fine q.result a.bytes.now q.ensures _ _ _ c.in-Fine.is in
@@ -49,7 +47,6 @@ returns-in-Refused : tie.Need-returns-in-Refused
 returns-in-Refused c =
     let p = c.put_refused in
     let k = c.refusal_number in
-    
     let q = c.read-answer in
     let a = c.args in
     let put = puts-within (refused_words k.result) _ _ _ _ 26 p.ensures (refused-short k.result) (omega arith) in

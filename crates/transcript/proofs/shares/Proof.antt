@@ -2,7 +2,7 @@
 use mathlib.Core.Path.{◌≡◌, sym, ap, ◌∙◌}
 use Prim.Native.Nat.{◌≤◌}
 use native.Mathlib.Omega.{arith}
-use lib.ListN.{length, take, replicate}
+use lib.ListN.{length, take}
 use lib.Seq.{take_at, length-take-le}
 use Rattle.field.specs.declared.Width.{Width}
 use Rattle.field.specs.declared.Width.TheVariants.{Narrow, Wide}

@@ -1,5 +1,5 @@
 -- `trial::search` meets its contract: each return is one law of proofs/Arrays.
-use Rattle.std.proofs.Common.{◌≡◌, length, sym, ap, ◌∙◌, arith, pos_of_ne-zero, ◌<◌}
+use Rattle.std.proofs.Common.{ap, ◌∙◌, arith, pos_of_ne-zero}
 use Rattle.field.specs.Modulus.{prime_of}
 use Rattle.trial.specs.Results.{result_of}
 use Rattle.trial.proofs.Arrays.{found-one, found_none, found-unsent, Branches, branches}

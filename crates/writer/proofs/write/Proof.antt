@@ -5,7 +5,6 @@ use mathlib.Core.List.{List}
 use Prim.Native.Nat.{ℕ}
 use lib.ListN.{length}
 use borrow.Author.Rules.{rules}
-use borrow.Author.Tests.{not-true, not-false}
 use Rattle.field.specs.declared.Width.TheVariants.{Narrow}
 use Rattle.parties.specs.Parties.{sizes}
 use Rattle.answers.specs.declared.Writing.{Writing}

@@ -43,7 +43,6 @@ returns-in-Nothing c =
 
 returns-in-Refused : tie.Need-returns-in-Refused
 returns-in-Refused c =
-    
     let a = c.args in
     ap (λ (k : ℕ). (a.out.now, k)) c.refusal_number-in-Refused.ensures
     ∙ ap (λ o. column_by o a.list a.out.now) (sym c.in-Refused.is)

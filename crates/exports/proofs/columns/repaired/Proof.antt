@@ -2,7 +2,6 @@
 use mathlib.Core.Path.{◌≡◌, sym, ◌∙◌}
 use mathlib.Core.Bool.{true}
 use lib.ListN.{length}
-use borrow.Author.Tests.{not-true, not-false}
 use Rattle.field.specs.Modulus.{prime_of}
 use Rattle.tables.specs.Tables.{is_table}
 use Rattle.tables.proofs.Tables.{table-facts, table-points}

@@ -34,7 +34,6 @@ returns-in-Nothing c =
 
 returns-in-Refused : tie.Need-returns-in-Refused
 returns-in-Refused c =
-    
     let a = c.args in
     ap (λ (k : ℕ). (a.opened.now, k)) c.refusal_number-in-Refused.ensures
     ∙ ap (λ o. opened_by o a.constant a.opened.now) (sym c.in-Refused.is)

@@ -19,7 +19,6 @@ enum_told-1 c = search rules
 -- src/made.rt:44:1
 returns-in-Fail : tie.Need-returns-in-Fail
 returns-in-Fail c =
-    
     let l = c.args.lamp in
     c.refuse.ensures ∙ ap (made_by l) (sym c.in-Fail.is)
 

@@ -30,7 +30,6 @@ returns-in-Nothing c =
 
 returns-in-Refused : tie.Need-returns-in-Refused
 returns-in-Refused c =
-    
     let a = c.args in
     c.refuse-in-Refused.ensures ∙ ap (λ o. opened_by a.lamp o a.constant) (sym c.in-Refused.is)
 

@@ -1,5 +1,5 @@
 -- `lamp::reporting::heard_wide` meets its contract: the pairs are taken apart, and reported on.
-use mathlib.Core.Path.{◌≡◌, refl, sym, ap, ◌∙◌}
+use mathlib.Core.Path.{refl, sym, ap, ◌∙◌}
 use Prim.Native.Nat.{◌*◌, ◌≤◌}
 use borrow.Author.Rules.{rules}
 use Rattle.lamp.proofs.Checks.{valid-facts}

@@ -1,6 +1,5 @@
 -- `lamp::reporting::own_report` meets its contract.
 use Rattle.lamp.proofs.Checks.{valid-facts}
-use borrow.Author.Rules.{rules}
 use Rattle.lamp.proofs.reporting.own_report.Statement.{statement}
 use Rattle.lamp.proofs.reporting.own_report.Tie as tie
 

@@ -39,7 +39,6 @@ returns-in-Nothing c =
 
 returns-in-Refused : tie.Need-returns-in-Refused
 returns-in-Refused c =
-    
     let a = c.args in
     c.refuse.ensures ∙ ap (λ o. repaired_by a.lamp a.set o a.constant) (sym c.in-Refused.is)
 
