@@ -1,5 +1,5 @@
-//! Links the proved library and the functions for the benches alone, libtiming.a: the folder in DOUMBAHT_LIB, or
-//! target/staticlib of the repository. Where DOUMBAHT_OLD names a folder, also the older ones in it, libold.a and, if it is
+//! Links the proved library and the functions for the benches alone, libtiming.a: both of the folder in DOUMBAHT_LIB, or
+//! each of its crate's out/ in the repository. Where DOUMBAHT_OLD names a folder, also the older ones in it, libold.a and, if it is
 //! there, libold_timing.a, whose names begin with `old_` (benches/ab). The library may be older than the openings by locator:
 //! whether it has them is seen by their name in it.
 
@@ -7,15 +7,19 @@ use std::path::{Path, PathBuf};
 use std::{env, fs};
 
 fn main() {
-    let folder = match env::var_os("DOUMBAHT_LIB") {
-        Some(folder) => PathBuf::from(folder),
-        None => PathBuf::from(env::var_os("CARGO_MANIFEST_DIR").unwrap()).join("../target/staticlib"),
-    };
     println!("cargo:rerun-if-env-changed=DOUMBAHT_LIB");
     println!("cargo:rerun-if-env-changed=DOUMBAHT_OLD");
     println!("cargo:rustc-check-cfg=cfg(old, old_locator, old_timing)");
-    link(&folder, "exports");
-    link(&folder, "timing");
+    for name in ["exports", "timing"] {
+        let folder = match env::var_os("DOUMBAHT_LIB") {
+            Some(folder) => PathBuf::from(folder),
+            None => {
+                let crates = Path::new(&env::var_os("CARGO_MANIFEST_DIR").unwrap()).join("../crates");
+                crates.join(name).join("out")
+            }
+        };
+        link(&folder, name);
+    }
     if let Some(folder) = env::var_os("DOUMBAHT_OLD") {
         println!("cargo:rustc-cfg=old");
         link(Path::new(&folder), "old");

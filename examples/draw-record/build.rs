@@ -1,4 +1,4 @@
-//! Links the proved library: the folder in DOUMBAHT_LIB, or target/staticlib of the repository.
+//! Links the proved library: of the folder in DOUMBAHT_LIB, or crates/exports/out of the repository.
 
 use std::env;
 use std::path::PathBuf;
@@ -8,7 +8,7 @@ fn main() {
         Some(folder) => PathBuf::from(folder),
         None => {
             let here = PathBuf::from(env::var_os("CARGO_MANIFEST_DIR").unwrap());
-            here.ancestors().nth(2).unwrap().join("target/staticlib")
+            here.ancestors().nth(2).unwrap().join("crates/exports/out")
         }
     };
     let library = folder.join("libexports.a");
@@ -17,7 +17,7 @@ fn main() {
     if !library.is_file() {
         // Said here, since a linker would only say that it cannot find -lexports. A cargo that does not know this key stops at
         // it too, and shows the line.
-        println!("cargo::error=no libexports.a in {}: run `rt staticlib exports` first", folder.display());
+        println!("cargo::error=no libexports.a in {}: run `rt lib` in crates/exports first", folder.display());
         return;
     }
     println!("cargo::rustc-link-search=native={}", folder.display());
