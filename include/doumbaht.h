@@ -2,7 +2,7 @@
  * Doumbaht: verifiable secret sharing with t faulty among n lamps, modulo 65,521 or 2,147,483,647, for C and what
  * speaks C.
  *
- * The functions are those of crates/exports, built by `rt staticlib exports` into target/staticlib/libexports.a.
+ * The functions are those of crates/exports, built by `rt lib` in that folder into crates/exports/out/libexports.a.
  * Each is proved to answer what its contract there says, for every argument, and to return. What the words mean
  * (lamp, deal, row, column, report, happy set, fit) stands in docs/PROTOCOL.md.
  *
