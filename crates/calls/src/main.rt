@@ -13,8 +13,9 @@ mod wide;
 ghost use Rattle.std.specs.Prelude.{◌≤◌};
 
 use lamp::{Lamp, Reply};
-use libc::STDIN_FILENO;
 use recovery::Decoder;
+use std::io;
+use std::io::{Read, Write};
 
 // The lamp after a call, and whether there was one whose line is written.
 #[derive(Clone, Copy)]
@@ -72,60 +73,69 @@ fn call(lamp: Lamp, kind: u8, list: &[u16]) -> Reply {
 }
 
 // Deals, and writes out the answer and what the list of deals holds then.
-fn dealt(n: u8, t: u8, list: &[u16], deals: &mut [u16]) {
-    replies::dealing(dealer::deal(n, t, list, deals));
-    replies::numbers(deals);
+fn dealt<W: Write>(out: &mut W, n: u8, t: u8, list: &[u16], deals: &mut [u16]) -> io::Result<()> {
+    replies::dealing(out, dealer::deal(n, t, list, deals))?;
+    replies::numbers(out, deals)
 }
 
 // The desk, with as much room for the deals as is asked for, which holds "not sent" before.
-fn desk(list: &[u16]) -> bool {
+fn desk<W: Write>(out: &mut W, list: &[u16]) -> io::Result<bool> {
     if list.len() < 3 {
-        return false;
+        return Ok(false);
     }
     let room = small(list, 2) as usize;
     if 200 < room {
-        return false;
+        return Ok(false);
     }
     let mut deals = [65535u16; 200];
     let end = list.len();
     dealt(
+        out,
         small(list, 0),
         small(list, 1),
         &list[3..end],
         &mut deals[..room],
-    );
-    true
+    )?;
+    Ok(true)
 }
 
 // Deals with a table, and writes out the answer and what the list of deals holds then.
-fn dealt_with(n: u8, t: u8, table: &[u16], list: &[u16], deals: &mut [u16]) {
-    replies::dealing(dealer::deal_with(n, t, table, list, deals));
-    replies::numbers(deals);
+fn dealt_with<W: Write>(
+    out: &mut W,
+    n: u8,
+    t: u8,
+    table: &[u16],
+    list: &[u16],
+    deals: &mut [u16],
+) -> io::Result<()> {
+    replies::dealing(out, dealer::deal_with(n, t, table, list, deals))?;
+    replies::numbers(out, deals)
 }
 
 // The desk with a table.
-fn desk_with(list: &[u16]) -> bool {
+fn desk_with<W: Write>(out: &mut W, list: &[u16]) -> io::Result<bool> {
     if list.len() < 4 {
-        return false;
+        return Ok(false);
     }
     let room = small(list, 2) as usize;
     if 200 < room {
-        return false;
+        return Ok(false);
     }
     let behind = 4 + small(list, 3) as usize;
     let end = list.len();
     if end < behind {
-        return false;
+        return Ok(false);
     }
     let mut deals = [65535u16; 200];
     dealt_with(
+        out,
         small(list, 0),
         small(list, 1),
         &list[4..behind],
         &list[behind..end],
         &mut deals[..room],
-    );
-    true
+    )?;
+    Ok(true)
 }
 
 // Whether a call of this kind has so many numbers.
@@ -143,19 +153,19 @@ pub(crate) fn takes(kind: u8, count: usize) -> bool {
 }
 
 // As many of the input's numbers as the bytes hold, over the front of the list; whether the input had them all.
-fn take(bytes: &mut [u8], list: &mut [u16]) -> bool {
-    let n = io::read_full(STDIN_FILENO, bytes);
+fn take<R: Read>(input: &mut R, bytes: &mut [u8], list: &mut [u16]) -> bool {
+    let n = replies::read_full(input, bytes);
     record::numbers(&bytes[..n], list);
     n == bytes.len()
 }
 
 // The next numbers of the input, over the front of the list; whether it had them all.
-fn lent(count: usize, list: &mut [u16]) -> bool
+fn lent<R: Read>(input: &mut R, count: usize, list: &mut [u16]) -> bool
     requires { count ≤ 200 }
 {
     let mut bytes = [0u8; 400];
     let end = 2 * count;
-    take(&mut bytes[..end], list)
+    take(input, &mut bytes[..end], list)
 }
 
 pub(crate) fn over(lamp: Lamp) -> Turn {
@@ -165,93 +175,112 @@ pub(crate) fn over(lamp: Lamp) -> Turn {
     }
 }
 
-// The end of a line: what the lamp holds. Where it cannot be written the calls are over.
-fn ended(lamp: Lamp) -> Turn {
-    replies::word(b" ;");
-    replies::state(lamp);
-    if !replies::word(b"\n") {
-        os::fail(b"calls: a line could not be written");
-        return over(lamp);
-    }
-    Turn {
+// The end of a line: what the lamp holds.
+fn ended<W: Write>(out: &mut W, lamp: Lamp) -> io::Result<Turn> {
+    replies::word(out, b" ;")?;
+    replies::state(out, lamp)?;
+    replies::word(out, b"\n")?;
+    Ok(Turn {
         lamp: lamp,
         called: true,
-    }
+    })
 }
 
 // The line of a lamp's reply.
-pub(crate) fn replied(reply: Reply) -> Turn {
+pub(crate) fn replied<W: Write>(out: &mut W, reply: Reply) -> io::Result<Turn> {
     let answer = reply.answer;
     let after = reply.lamp;
-    replies::answer(answer);
-    ended(after)
+    replies::answer(out, answer)?;
+    ended(out, after)
 }
 
 // The line of a dealing, where there was one.
-pub(crate) fn desk_line(lamp: Lamp, dealt: bool) -> Turn {
+pub(crate) fn desk_line<W: Write>(out: &mut W, lamp: Lamp, dealt: bool) -> io::Result<Turn> {
     if !dealt {
-        return over(lamp);
+        return Ok(over(lamp));
     }
-    ended(lamp)
+    ended(out, lamp)
 }
 
 // Makes a call or a dealing with the numbers lent, and writes its line.
-fn answered(lamp: Lamp, kind: u8, list: &[u16]) -> Turn {
+fn answered<W: Write>(out: &mut W, lamp: Lamp, kind: u8, list: &[u16]) -> io::Result<Turn> {
     if kind == 6 {
-        return desk_line(lamp, desk(list));
+        let dealt = desk(out, list)?;
+        return desk_line(out, lamp, dealt);
     }
     if kind == 8 {
-        return desk_line(lamp, desk_with(list));
+        let dealt = desk_with(out, list)?;
+        return desk_line(out, lamp, dealt);
     }
-    replied(call(lamp, kind, list))
+    replied(out, call(lamp, kind, list))
 }
 
 // A call of the kind, with as many numbers as it counts from the input.
-fn narrow(lamp: Lamp, kind: u8, count: usize) -> Turn
+fn narrow<R: Read, W: Write>(
+    input: &mut R,
+    out: &mut W,
+    lamp: Lamp,
+    kind: u8,
+    count: usize,
+) -> io::Result<Turn>
     requires { count ≤ 200 }
 {
     if !takes(kind, count) {
-        return over(lamp);
+        return Ok(over(lamp));
     }
     let mut list = [0u16; 200];
-    if !lent(count, &mut list) {
-        return over(lamp);
+    if !lent(input, count, &mut list) {
+        return Ok(over(lamp));
     }
-    answered(lamp, kind, &list[..count])
+    answered(out, lamp, kind, &list[..count])
 }
 
 // The same, of numbers of 16 bits or of 32.
-fn asked(lamp: Lamp, kind: u8, count: usize) -> Turn {
+fn asked<R: Read, W: Write>(
+    input: &mut R,
+    out: &mut W,
+    lamp: Lamp,
+    kind: u8,
+    count: usize,
+) -> io::Result<Turn> {
     if 200 < count {
-        return over(lamp);
+        return Ok(over(lamp));
     }
     if kind < 128 {
-        return narrow(lamp, kind, count);
+        return narrow(input, out, lamp, kind, count);
     }
-    wide::asked(lamp, kind - 128, count)
+    wide::asked(input, out, lamp, kind - 128, count)
 }
 
 // The next call of the input, if there is one.
-fn next(lamp: Lamp) -> Turn {
+fn next<R: Read, W: Write>(input: &mut R, out: &mut W, lamp: Lamp) -> io::Result<Turn> {
     let mut head = [0u8; 3];
-    let n = io::read_full(STDIN_FILENO, &mut head);
+    let n = replies::read_full(input, &mut head);
     if n < 3 {
-        return over(lamp);
+        return Ok(over(lamp));
     }
-    asked(lamp, head[0], record::number(&head[1..3], 0) as usize)
+    let count = record::number(&head[1..3], 0) as usize;
+    asked(input, out, lamp, head[0], count)
 }
 
-// The input may never end, and a proved loop has to: the turns are counted down from more than any run takes.
-fn main() {
+// The calls of the input, until it ends or a line cannot be written. The input may never end, and a proved loop has to: the turns are
+// counted, to more than any run takes.
+fn run<R: Read, W: Write>(input: &mut R, out: &mut W) -> io::Result<()> {
     let made = Lamp::make(0, 0, 0);
     let mut lamp = made.lamp;
-    let mut turns = u64::MAX;
-    while turns > 0 {
-        let turn = next(lamp);
+    for _ in 0..u64::MAX {
+        let turn = next(input, out, lamp)?;
         if !turn.called {
-            return;
+            return Ok(());
         }
         lamp = turn.lamp;
-        turns -= 1;
+    }
+    Ok(())
+}
+
+fn main(rt: HostRuntime) {
+    if let Err(error) = run(&mut rt.stdin(), &mut rt.stdout()) {
+        let what = b"calls: a line could not be written";
+        replies::unwritten(&mut rt.stderr(), rt.alloc(), what, error);
     }
 }

@@ -3,8 +3,9 @@ ghost use Rattle.std.specs.Prelude.{◌≤◌};
 
 use crate::{Turn, byte_of, desk_line, over, replied, takes};
 use lamp::{Lamp, Reply};
-use libc::STDIN_FILENO;
 use recovery::Decoder;
+use std::io;
+use std::io::{Read, Write};
 
 // The number at the place as a byte; 0 where there is none.
 fn small(list: &[u32], place: usize) -> u8 {
@@ -45,87 +46,98 @@ fn call(lamp: Lamp, kind: u8, list: &[u32]) -> Reply {
 }
 
 // Deals, and writes out the answer and what the list of deals holds then.
-fn dealt(n: u8, t: u8, list: &[u32], deals: &mut [u32]) {
-    replies::dealing(dealer::deal_wide(n, t, list, deals));
-    replies::wide_numbers(deals);
+fn dealt<W: Write>(out: &mut W, n: u8, t: u8, list: &[u32], deals: &mut [u32]) -> io::Result<()> {
+    replies::dealing(out, dealer::deal_wide(n, t, list, deals))?;
+    replies::wide_numbers(out, deals)
 }
 
 // The desk, with as much room for the deals as is asked for, which holds "not sent" before.
-fn desk(list: &[u32]) -> bool {
+fn desk<W: Write>(out: &mut W, list: &[u32]) -> io::Result<bool> {
     if list.len() < 3 {
-        return false;
+        return Ok(false);
     }
     let room = small(list, 2) as usize;
     if 200 < room {
-        return false;
+        return Ok(false);
     }
     let mut deals = [4294967295u32; 200];
     let end = list.len();
     dealt(
+        out,
         small(list, 0),
         small(list, 1),
         &list[3..end],
         &mut deals[..room],
-    );
-    true
+    )?;
+    Ok(true)
 }
 
 // Deals with a table, and writes out the answer and what the list of deals holds then.
-fn dealt_with(n: u8, t: u8, table: &[u32], list: &[u32], deals: &mut [u32]) {
-    replies::dealing(dealer::deal_wide_with(n, t, table, list, deals));
-    replies::wide_numbers(deals);
+fn dealt_with<W: Write>(
+    out: &mut W,
+    n: u8,
+    t: u8,
+    table: &[u32],
+    list: &[u32],
+    deals: &mut [u32],
+) -> io::Result<()> {
+    replies::dealing(out, dealer::deal_wide_with(n, t, table, list, deals))?;
+    replies::wide_numbers(out, deals)
 }
 
 // The desk with a table.
-fn desk_with(list: &[u32]) -> bool {
+fn desk_with<W: Write>(out: &mut W, list: &[u32]) -> io::Result<bool> {
     if list.len() < 4 {
-        return false;
+        return Ok(false);
     }
     let room = small(list, 2) as usize;
     if 200 < room {
-        return false;
+        return Ok(false);
     }
     let behind = 4 + small(list, 3) as usize;
     let end = list.len();
     if end < behind {
-        return false;
+        return Ok(false);
     }
     let mut deals = [4294967295u32; 200];
     dealt_with(
+        out,
         small(list, 0),
         small(list, 1),
         &list[4..behind],
         &list[behind..end],
         &mut deals[..room],
-    );
-    true
+    )?;
+    Ok(true)
 }
 
 // As many of the input's numbers as the bytes hold, over the front of the list; whether the input had them all.
-fn take(bytes: &mut [u8], list: &mut [u32]) -> bool {
-    let n = io::read_full(STDIN_FILENO, bytes);
+fn take<R: Read>(input: &mut R, bytes: &mut [u8], list: &mut [u32]) -> bool {
+    let n = replies::read_full(input, bytes);
     record::wide_numbers(&bytes[..n], list);
     n == bytes.len()
 }
 
 // The next numbers of the input, over the front of the list; whether it had them all.
-fn lent(count: usize, list: &mut [u32]) -> bool
+fn lent<R: Read>(input: &mut R, count: usize, list: &mut [u32]) -> bool
     requires { count ≤ 200 }
 {
     let mut bytes = [0u8; 800];
     let end = 4 * count;
-    take(&mut bytes[..end], list)
+    take(input, &mut bytes[..end], list)
 }
 
 // Makes a call or a dealing with the numbers lent, and writes its line.
-fn answered(lamp: Lamp, kind: u8, list: &[u32]) -> Turn {
+fn answered<W: Write>(out: &mut W, lamp: Lamp, kind: u8, list: &[u32]) -> io::Result<Turn> {
     if kind == 6 {
-        return desk_line(lamp, desk(list));
+        let dealt = desk(out, list)?;
+        return desk_line(out, lamp, dealt);
     }
     if kind == 8 {
-        return desk_line(lamp, desk_with(list));
+        let dealt = desk_with(out, list)?;
+        return desk_line(out, lamp, dealt);
     }
-    replied(call(lamp, kind, list))
+    replied(out, call(lamp, kind, list))
 }
 
 // Whether a wide call of this kind has so many numbers: saying a pair and settling are lent none of the field.
@@ -140,15 +152,21 @@ fn takes_wide(kind: u8, count: usize) -> bool {
 }
 
 // A call of the kind, with as many numbers as it counts from the input.
-pub(crate) fn asked(lamp: Lamp, kind: u8, count: usize) -> Turn
+pub(crate) fn asked<R: Read, W: Write>(
+    input: &mut R,
+    out: &mut W,
+    lamp: Lamp,
+    kind: u8,
+    count: usize,
+) -> io::Result<Turn>
     requires { count ≤ 200 }
 {
     if !takes_wide(kind, count) {
-        return over(lamp);
+        return Ok(over(lamp));
     }
     let mut list = [0u32; 200];
-    if !lent(count, &mut list) {
-        return over(lamp);
+    if !lent(input, count, &mut list) {
+        return Ok(over(lamp));
     }
-    answered(lamp, kind, &list[..count])
+    answered(out, lamp, kind, &list[..count])
 }

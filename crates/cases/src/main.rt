@@ -1,65 +1,85 @@
 // Writes the text of each record whose file its arguments name, under a line with the name.
 #![tactic(auto)]
 
-use libc::STDOUT_FILENO;
+use std::env::FillError;
+use std::io::{ErrorKind, Read, Write};
+use std::rt::{Env, Files};
+use std::{fs, io};
 
-fn put(text: &[u8]) -> bool {
-    io::write_all(STDOUT_FILENO, text)
+fn put<W: Write>(out: &mut W, text: &[u8]) -> io::Result<()> {
+    out.write_all(text)
 }
 
-// The line with the name of a file; whether it could be written.
-fn put_name(path: &[u8]) -> bool {
-    if !put(b"# ") {
-        return false;
-    }
-    if !put(path) {
-        return false;
-    }
-    put(b"\n")
+// The line with the name of a file.
+fn put_name<W: Write>(out: &mut W, path: &[u8]) -> io::Result<()> {
+    put(out, b"# ")?;
+    put(out, path)?;
+    put(out, b"\n")
 }
 
-// The text of the record in an open file, of which at most 4,096 bytes are read: more than any record has. Whether it could be written.
-fn put_text(fd: i32) -> bool {
-    let mut buffer = io::buffer();
-    let n = io::read_full(fd, &mut buffer);
-    let mut out = [0u8; 512];
-    let answer = transcript::render(&buffer[..n], &mut out);
-    put(transcript::text_in(&out, answer))
+// The text of the record in an open file, of which at most 4,096 bytes are read: more than any record has.
+fn put_text<R: Read, W: Write>(file: &mut R, out: &mut W) -> io::Result<()> {
+    let mut buffer = [0u8; 4096];
+    let n = replies::read_full(file, &mut buffer);
+    let mut text = [0u8; 512];
+    let answer = transcript::render(&buffer[..n], &mut text);
+    put(out, transcript::text_in(&text, answer))
 }
 
-// An open file under its name. Where that cannot be written it says why, before another call can change the reason.
-fn shown(path: &[u8], fd: i32) -> bool {
-    if put_name(path) {
-        if put_text(fd) {
-            return true;
+// An open file under its name.
+fn put_file<R: Read, W: Write>(path: &[u8], file: &mut R, out: &mut W) -> io::Result<()> {
+    put_name(out, path)?;
+    put_text(file, out)
+}
+
+// The same on standard output. Where that cannot be written it says why.
+fn shown<R: Read>(rt: &HostRuntime, path: &[u8], file: &mut R) -> bool {
+    match put_file(path, file, &mut rt.stdout()) {
+        Ok(()) => true,
+        Err(error) => {
+            let what = b"cases: the text could not be written";
+            replies::unwritten(&mut rt.stderr(), rt.alloc(), what, error);
+            false
         }
     }
-    os::fail(b"cases: the text could not be written");
-    false
 }
 
-// The file that argument i names, or why it cannot be opened; whether there is any use in going on.
-fn case(i: usize) -> bool {
-    let mut path = io::buffer();
-    let n = os::arg(i, &mut path);
-    if os::errno() != 0 {
-        os::fail(b"cases");
-        return true;
+// The file of this name. The library takes names that are text.
+fn opened<R: Files>(rt: &R, path: &[u8]) -> io::Result<R::File> {
+    match str::from_utf8(path) {
+        Ok(path) => fs::open(rt, path),
+        Err(_) => Err(io::Error::new(ErrorKind::InvalidFilename, "the name is not UTF-8 text")),
     }
-    let fd = os::open_read(&path[..n]);
-    if fd < 0 {
-        os::fail(&path[..n]);
-        return true;
-    }
-    let done = shown(&path[..n], fd);
-    libc::close(fd);
-    done
 }
 
-fn main() {
-    let count = os::arg_count();
-    for i in 1..count {
-        if !case(i) {
+// The file of this name, or why it cannot be opened; whether there is any use in going on.
+fn named(rt: &HostRuntime, path: &[u8]) -> bool {
+    match opened(rt, path) {
+        Ok(mut file) => shown(rt, path, &mut file),
+        Err(error) => {
+            replies::fail(&mut rt.stderr(), rt.alloc(), path, error);
+            true
+        }
+    }
+}
+
+// The same of the name that is argument i. Behind the last one there is none.
+fn case(rt: &HostRuntime, i: usize) -> bool {
+    let mut path = [0u8; 4096];
+    match rt.arg(i, &mut path) {
+        Ok(n) => named(rt, &path[..n]),
+        Err(FillError::TooLong) => {
+            let error = io::Error::new(ErrorKind::InvalidFilename, "File name too long");
+            replies::fail(&mut rt.stderr(), rt.alloc(), b"cases", error);
+            true
+        }
+        Err(FillError::NotPresent) => false,
+    }
+}
+
+fn main(rt: HostRuntime) {
+    for i in 1..usize::MAX {
+        if !case(&rt, i) {
             return;
         }
     }

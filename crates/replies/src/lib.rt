@@ -1,80 +1,85 @@
-// What a call answers and what the lamp holds after it, as words on standard output.
+// What a call answers and what the lamp holds after it, as words; and what the programs share of reading and of telling what failed.
 #![tactic(auto)]
+
+mod streams;
 
 use answers::Answer;
 use dealer::Dealing;
 use lamp::Lamp;
-use libc::STDOUT_FILENO;
+use std::io;
+use std::io::Write;
+pub use streams::{fail, read_full, unwritten};
 
-// Whether the letters could be written.
-pub fn word(letters: &[u8]) -> bool {
-    io::write_all(STDOUT_FILENO, letters)
+pub fn word<W: Write>(out: &mut W, letters: &[u8]) -> io::Result<()> {
+    out.write_all(letters)
 }
 
-pub fn number(x: u32) {
-    word(b" ");
-    io::print_decimal(STDOUT_FILENO, x as u64);
+// A number behind a space.
+pub fn number<W: Write>(out: &mut W, x: u32) -> io::Result<()> {
+    write!(out, " {x}")
 }
 
 // The numbers of a list.
-pub fn numbers(list: &[u16]) {
-    for k in 0..list.len() {
-        number(arrays::wide(list[k]));
+pub fn numbers<W: Write>(out: &mut W, list: &[u16]) -> io::Result<()> {
+    for x in list {
+        number(out, arrays::wide(*x))?;
     }
+    Ok(())
 }
 
 // The same of numbers of 32 bits.
-pub fn wide_numbers(list: &[u32]) {
-    for k in 0..list.len() {
-        number(list[k]);
+pub fn wide_numbers<W: Write>(out: &mut W, list: &[u32]) -> io::Result<()> {
+    for x in list {
+        number(out, *x)?;
     }
+    Ok(())
 }
 
-fn refused(k: u8) {
-    word(b"refused");
-    number(k as u32);
+fn refused<W: Write>(out: &mut W, k: u8) -> io::Result<()> {
+    word(out, b"refused")?;
+    number(out, k as u32)
 }
 
-fn ok(x: u32) {
-    word(b"ok");
-    number(x);
+fn ok<W: Write>(out: &mut W, x: u32) -> io::Result<()> {
+    word(out, b"ok")?;
+    number(out, x)
 }
 
-fn done() {
-    word(b"ok");
+fn done<W: Write>(out: &mut W) -> io::Result<()> {
+    word(out, b"ok")
 }
 
-fn pair(first: u32, second: u32) {
-    ok(first);
-    number(second);
+fn pair<W: Write>(out: &mut W, first: u32, second: u32) -> io::Result<()> {
+    ok(out, first)?;
+    number(out, second)
 }
 
 // What the lamp answered: "ok" with the values, or the number of the refusal.
-pub fn answer(answer: Answer) {
+pub fn answer<W: Write>(out: &mut W, answer: Answer) -> io::Result<()> {
     match answer {
-        Answer::Done => done(),
-        Answer::Pair(first, second) => pair(first, second),
-        Answer::Report(bits) => ok(bits as u32),
-        Answer::Accepted => done(),
-        Answer::Opened(secret) => ok(secret),
-        Answer::Refused(why) => refused(answers::refusal_number(why)),
+        Answer::Done => done(out),
+        Answer::Pair(first, second) => pair(out, first, second),
+        Answer::Report(bits) => ok(out, bits as u32),
+        Answer::Accepted => done(out),
+        Answer::Opened(secret) => ok(out, secret),
+        Answer::Refused(why) => refused(out, answers::refusal_number(why)),
     }
 }
 
 // What the desk answered.
-pub fn dealing(answer: Dealing) {
+pub fn dealing<W: Write>(out: &mut W, answer: Dealing) -> io::Result<()> {
     match answer {
-        Dealing::Written => done(),
-        Dealing::Refused(why) => refused(answers::refusal_number(why)),
+        Dealing::Written => done(out),
+        Dealing::Refused(why) => refused(out, answers::refusal_number(why)),
     }
 }
 
 // The lamp's stage, share, happy set and report.
-pub fn state(lamp: Lamp) {
+pub fn state<W: Write>(out: &mut W, lamp: Lamp) -> io::Result<()> {
     let sharing = lamp.sharing;
     let stage = sharing.stage;
-    number(answers::stage_number(stage) as u32);
-    number(sharing.share);
-    number(sharing.happy as u32);
-    number(sharing.report as u32);
+    number(out, answers::stage_number(stage) as u32)?;
+    number(out, sharing.share)?;
+    number(out, sharing.happy as u32)?;
+    number(out, sharing.report as u32)
 }
