@@ -10,7 +10,11 @@
 
 mod wide;
 
-ghost use Rattle.std.specs.Prelude.{◌≤◌};
+ghost use Rattle.std.specs.Prelude.{◌≡◌, ◌≤◌, [], true, false, min, get_or, cond, IfOk, OnOk};
+ghost use Rattle.std.specs.Io.KnownBytes.{Appends};
+ghost use Rattle.field.specs.Modulus.{modulus};
+ghost use Rattle.dealer.specs.Desk.{desk, desk_with};
+ghost use Rattle.calls.specs.Lines.{turn, line_end, reply_line, desk_words};
 
 use lamp::{Lamp, Reply};
 use recovery::Decoder;
@@ -25,7 +29,9 @@ pub struct Turn {
 }
 
 // A number as a byte, the largest byte for a larger number, which is no size and no lamp either.
-pub(crate) fn byte_of(x: u32) -> u8 {
+pub(crate) fn byte_of(x: u32) -> u8
+    ensures { result ≡ min x 255 }
+{
     if 255 < x {
         return 255;
     }
@@ -33,7 +39,9 @@ pub(crate) fn byte_of(x: u32) -> u8 {
 }
 
 // The number at the place as a byte; 0 where there is none.
-fn small(list: &[u16], place: usize) -> u8 {
+fn small(list: &[u16], place: usize) -> u8
+    ensures { result ≡ min (get_or list.now place 0) 255 }
+{
     if list.len() <= place {
         return 0;
     }
@@ -73,7 +81,9 @@ fn call(lamp: Lamp, kind: u8, list: &[u16]) -> Reply {
 }
 
 // Deals, and writes out the answer and what the list of deals holds then.
-fn dealt<W: Write>(out: &mut W, n: u8, t: u8, list: &[u16], deals: &mut [u16]) -> io::Result<()> {
+fn dealt<W: Write>(out: &mut W, n: u8, t: u8, list: &[u16], deals: &mut [u16]) -> io::Result<()>
+    ensures written { OnOk result (Appends (W.contents out.old) (W.contents out.new) (desk_words (desk modulus n t list.now deals.old))) }
+{
     replies::dealing(out, dealer::deal(n, t, list, deals))?;
     replies::numbers(out, deals)
 }
@@ -107,7 +117,9 @@ fn dealt_with<W: Write>(
     table: &[u16],
     list: &[u16],
     deals: &mut [u16],
-) -> io::Result<()> {
+) -> io::Result<()>
+    ensures written { OnOk result (Appends (W.contents out.old) (W.contents out.new) (desk_words (desk_with modulus n t table.now list.now deals.old))) }
+{
     replies::dealing(out, dealer::deal_with(n, t, table, list, deals))?;
     replies::numbers(out, deals)
 }
@@ -168,7 +180,9 @@ fn lent<R: Read>(input: &mut R, count: usize, list: &mut [u16]) -> bool
     take(input, &mut bytes[..end], list)
 }
 
-pub(crate) fn over(lamp: Lamp) -> Turn {
+pub(crate) fn over(lamp: Lamp) -> Turn
+    ensures { result ≡ turn lamp false }
+{
     Turn {
         lamp: lamp,
         called: false,
@@ -176,7 +190,10 @@ pub(crate) fn over(lamp: Lamp) -> Turn {
 }
 
 // The end of a line: what the lamp holds.
-fn ended<W: Write>(out: &mut W, lamp: Lamp) -> io::Result<Turn> {
+fn ended<W: Write>(out: &mut W, lamp: Lamp) -> io::Result<Turn>
+    ensures line { OnOk result (Appends (W.contents out.old) (W.contents out.new) (line_end lamp)) }
+    ensures after { IfOk result (λ after. after ≡ turn lamp true) }
+{
     replies::word(out, b" ;")?;
     replies::state(out, lamp)?;
     replies::word(out, b"\n")?;
@@ -187,7 +204,10 @@ fn ended<W: Write>(out: &mut W, lamp: Lamp) -> io::Result<Turn> {
 }
 
 // The line of a lamp's reply.
-pub(crate) fn replied<W: Write>(out: &mut W, reply: Reply) -> io::Result<Turn> {
+pub(crate) fn replied<W: Write>(out: &mut W, reply: Reply) -> io::Result<Turn>
+    ensures line { OnOk result (Appends (W.contents out.old) (W.contents out.new) (reply_line reply)) }
+    ensures after { IfOk result (λ after. after ≡ turn reply.lamp true) }
+{
     let answer = reply.answer;
     let after = reply.lamp;
     replies::answer(out, answer)?;
@@ -195,7 +215,10 @@ pub(crate) fn replied<W: Write>(out: &mut W, reply: Reply) -> io::Result<Turn> {
 }
 
 // The line of a dealing, where there was one.
-pub(crate) fn desk_line<W: Write>(out: &mut W, lamp: Lamp, dealt: bool) -> io::Result<Turn> {
+pub(crate) fn desk_line<W: Write>(out: &mut W, lamp: Lamp, dealt: bool) -> io::Result<Turn>
+    ensures line { OnOk result (Appends (W.contents out.old) (W.contents out.new) (cond dealt (line_end lamp) [])) }
+    ensures after { IfOk result (λ after. after ≡ turn lamp dealt) }
+{
     if !dealt {
         return Ok(over(lamp));
     }

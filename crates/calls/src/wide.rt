@@ -1,5 +1,9 @@
 // The calls that are lent numbers of 32 bits: making, a deal, pairs, opening, and the desk.
-ghost use Rattle.std.specs.Prelude.{◌≤◌};
+ghost use Rattle.std.specs.Prelude.{◌≡◌, ◌≤◌, min, get_or, OnOk};
+ghost use Rattle.std.specs.Io.KnownBytes.{Appends};
+ghost use Rattle.field.specs.Modulus.{wide_modulus};
+ghost use Rattle.dealer.specs.Desk.{desk, desk_with};
+ghost use Rattle.calls.specs.Lines.{desk_words};
 
 use crate::{Turn, byte_of, desk_line, over, replied, takes};
 use lamp::{Lamp, Reply};
@@ -8,7 +12,9 @@ use std::io;
 use std::io::{Read, Write};
 
 // The number at the place as a byte; 0 where there is none.
-fn small(list: &[u32], place: usize) -> u8 {
+fn small(list: &[u32], place: usize) -> u8
+    ensures { result ≡ min (get_or list.now place 0) 255 }
+{
     if list.len() <= place {
         return 0;
     }
@@ -46,7 +52,9 @@ fn call(lamp: Lamp, kind: u8, list: &[u32]) -> Reply {
 }
 
 // Deals, and writes out the answer and what the list of deals holds then.
-fn dealt<W: Write>(out: &mut W, n: u8, t: u8, list: &[u32], deals: &mut [u32]) -> io::Result<()> {
+fn dealt<W: Write>(out: &mut W, n: u8, t: u8, list: &[u32], deals: &mut [u32]) -> io::Result<()>
+    ensures written { OnOk result (Appends (W.contents out.old) (W.contents out.new) (desk_words (desk wide_modulus n t list.now deals.old))) }
+{
     replies::dealing(out, dealer::deal_wide(n, t, list, deals))?;
     replies::wide_numbers(out, deals)
 }
@@ -80,7 +88,9 @@ fn dealt_with<W: Write>(
     table: &[u32],
     list: &[u32],
     deals: &mut [u32],
-) -> io::Result<()> {
+) -> io::Result<()>
+    ensures written { OnOk result (Appends (W.contents out.old) (W.contents out.new) (desk_words (desk_with wide_modulus n t table.now list.now deals.old))) }
+{
     replies::dealing(out, dealer::deal_wide_with(n, t, table, list, deals))?;
     replies::wide_numbers(out, deals)
 }

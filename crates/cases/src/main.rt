@@ -1,35 +1,37 @@
 // Writes the text of each record whose file its arguments name, under a line with the name.
 #![tactic(auto)]
 
+ghost use Rattle.std.specs.Prelude.{List, ℕ, ◌≤◌, ◌++◌, codes, length, OnOk};
+ghost use Rattle.std.specs.Io.KnownBytes.{Appends, Consumes};
+ghost use Rattle.transcript.specs.Transcript.{text};
+
 use std::env::FillError;
 use std::io::{ErrorKind, Read, Write};
 use std::rt::{Env, Files};
 use std::{fs, io};
 
-fn put<W: Write>(out: &mut W, text: &[u8]) -> io::Result<()> {
+fn put<W: Write>(out: &mut W, text: &[u8]) -> io::Result<()>
+    ensures { OnOk result (Appends (W.contents out.old) (W.contents out.new) text.now) }
+{
     out.write_all(text)
 }
 
 // The line with the name of a file.
-fn put_name<W: Write>(out: &mut W, path: &[u8]) -> io::Result<()> {
+fn put_name<W: Write>(out: &mut W, path: &[u8]) -> io::Result<()>
+    ensures { OnOk result (Appends (W.contents out.old) (W.contents out.new) (codes "# " ++ (path.now ++ codes "\n"))) }
+{
     put(out, b"# ")?;
     put(out, path)?;
     put(out, b"\n")
 }
 
-// The text of the record in an open file, of which at most 4,096 bytes are read: more than any record has.
-fn put_text<R: Read, W: Write>(file: &mut R, out: &mut W) -> io::Result<()> {
-    let mut buffer = [0u8; 4096];
-    let n = replies::read_full(file, &mut buffer);
-    let mut text = [0u8; 512];
-    let answer = transcript::render(&buffer[..n], &mut text);
-    put(out, transcript::text_in(&text, answer))
-}
-
 // An open file under its name.
-fn put_file<R: Read, W: Write>(path: &[u8], file: &mut R, out: &mut W) -> io::Result<()> {
+fn put_file<R: Read, W: Write>(path: &[u8], file: &mut R, out: &mut W) -> io::Result<()>
+    ensures { OnOk result ((bytes : List ℕ) × (length bytes ≤ 4096) × Consumes (R.remaining file.old) (R.remaining file.new) bytes
+        × Appends (W.contents out.old) (W.contents out.new) ((codes "# " ++ (path.now ++ codes "\n")) ++ text bytes)) }
+{
     put_name(out, path)?;
-    put_text(file, out)
+    replies::put_text(file, out)
 }
 
 // The same on standard output. Where that cannot be written it says why.

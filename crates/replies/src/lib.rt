@@ -1,7 +1,14 @@
-// What a call answers and what the lamp holds after it, as words; and what the programs share of reading and of telling what failed.
+// What a call answers and what the lamp holds after it, as words; the text of a record; and what the programs share of reading and of
+// telling what failed.
 #![tactic(auto)]
 
 mod streams;
+mod texts;
+
+ghost use Rattle.std.specs.Prelude.{[], ◌∷◌, ◌++◌, codes, OnOk};
+ghost use Rattle.std.specs.Io.KnownBytes.{Appends};
+ghost use Rattle.std.proofs.Math.Option.{none, some};
+ghost use Rattle.replies.specs.Words.{number_word, number_words, outcome_words, answer_words, dealing_words, state_words};
 
 use answers::Answer;
 use dealer::Dealing;
@@ -9,18 +16,25 @@ use lamp::Lamp;
 use std::io;
 use std::io::Write;
 pub use streams::{fail, read_full, unwritten};
+pub use texts::put_text;
 
-pub fn word<W: Write>(out: &mut W, letters: &[u8]) -> io::Result<()> {
+pub fn word<W: Write>(out: &mut W, letters: &[u8]) -> io::Result<()>
+    ensures { OnOk result (Appends (W.contents out.old) (W.contents out.new) letters.now) }
+{
     out.write_all(letters)
 }
 
 // A number behind a space.
-pub fn number<W: Write>(out: &mut W, x: u32) -> io::Result<()> {
+pub fn number<W: Write>(out: &mut W, x: u32) -> io::Result<()>
+    ensures { OnOk result (Appends (W.contents out.old) (W.contents out.new) (number_word x)) }
+{
     write!(out, " {x}")
 }
 
 // The numbers of a list.
-pub fn numbers<W: Write>(out: &mut W, list: &[u16]) -> io::Result<()> {
+pub fn numbers<W: Write>(out: &mut W, list: &[u16]) -> io::Result<()>
+    ensures { OnOk result (Appends (W.contents out.old) (W.contents out.new) (number_words list.now)) }
+{
     for x in list {
         number(out, arrays::wide(*x))?;
     }
@@ -28,34 +42,46 @@ pub fn numbers<W: Write>(out: &mut W, list: &[u16]) -> io::Result<()> {
 }
 
 // The same of numbers of 32 bits.
-pub fn wide_numbers<W: Write>(out: &mut W, list: &[u32]) -> io::Result<()> {
+pub fn wide_numbers<W: Write>(out: &mut W, list: &[u32]) -> io::Result<()>
+    ensures { OnOk result (Appends (W.contents out.old) (W.contents out.new) (number_words list.now)) }
+{
     for x in list {
         number(out, *x)?;
     }
     Ok(())
 }
 
-fn refused<W: Write>(out: &mut W, k: u8) -> io::Result<()> {
+fn refused<W: Write>(out: &mut W, k: u8) -> io::Result<()>
+    ensures { OnOk result (Appends (W.contents out.old) (W.contents out.new) (outcome_words (some k) [])) }
+{
     word(out, b"refused")?;
     number(out, k as u32)
 }
 
-fn ok<W: Write>(out: &mut W, x: u32) -> io::Result<()> {
+fn ok<W: Write>(out: &mut W, x: u32) -> io::Result<()>
+    ensures { OnOk result (Appends (W.contents out.old) (W.contents out.new) (outcome_words none (x ∷ []))) }
+{
     word(out, b"ok")?;
     number(out, x)
 }
 
-fn done<W: Write>(out: &mut W) -> io::Result<()> {
+fn done<W: Write>(out: &mut W) -> io::Result<()>
+    ensures { OnOk result (Appends (W.contents out.old) (W.contents out.new) (outcome_words none [])) }
+{
     word(out, b"ok")
 }
 
-fn pair<W: Write>(out: &mut W, first: u32, second: u32) -> io::Result<()> {
+fn pair<W: Write>(out: &mut W, first: u32, second: u32) -> io::Result<()>
+    ensures { OnOk result (Appends (W.contents out.old) (W.contents out.new) (outcome_words none (first ∷ second ∷ []))) }
+{
     ok(out, first)?;
     number(out, second)
 }
 
 // What the lamp answered: "ok" with the values, or the number of the refusal.
-pub fn answer<W: Write>(out: &mut W, answer: Answer) -> io::Result<()> {
+pub fn answer<W: Write>(out: &mut W, answer: Answer) -> io::Result<()>
+    ensures { OnOk result (Appends (W.contents out.old) (W.contents out.new) (answer_words answer)) }
+{
     match answer {
         Answer::Done => done(out),
         Answer::Pair(first, second) => pair(out, first, second),
@@ -67,7 +93,9 @@ pub fn answer<W: Write>(out: &mut W, answer: Answer) -> io::Result<()> {
 }
 
 // What the desk answered.
-pub fn dealing<W: Write>(out: &mut W, answer: Dealing) -> io::Result<()> {
+pub fn dealing<W: Write>(out: &mut W, answer: Dealing) -> io::Result<()>
+    ensures { OnOk result (Appends (W.contents out.old) (W.contents out.new) (dealing_words answer)) }
+{
     match answer {
         Dealing::Written => done(out),
         Dealing::Refused(why) => refused(out, answers::refusal_number(why)),
@@ -75,7 +103,9 @@ pub fn dealing<W: Write>(out: &mut W, answer: Dealing) -> io::Result<()> {
 }
 
 // The lamp's stage, share, happy set and report.
-pub fn state<W: Write>(out: &mut W, lamp: Lamp) -> io::Result<()> {
+pub fn state<W: Write>(out: &mut W, lamp: Lamp) -> io::Result<()>
+    ensures { OnOk result (Appends (W.contents out.old) (W.contents out.new) (state_words lamp)) }
+{
     let sharing = lamp.sharing;
     let stage = sharing.stage;
     number(out, answers::stage_number(stage) as u32)?;
