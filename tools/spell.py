@@ -7,6 +7,7 @@ The port's first script respells the library's names and some of ours. This one 
 must-fail edits and pages alike, by these rules:
   - a name that begins small and has a capital inside gets underscores: `primeOf` becomes `prime_of`, `toLamp1` `to_lamp_1`;
   - a lemma that is named after the library's old `getD` is named after its `get_or`;
+  - a record's field and a definition have underscores where they had dashes: `deal-first` becomes `deal_first`; a law keeps its dashes;
   - names of EXCEPTIONS, where the rule would give a name that something else has, or a fact a small letter.
 In edits, which the first script leaves, the names that it respelled in the sources get that spelling by the same rules, and a projection
 is written tight, as it writes it. An edit whose text does not stand in its file once then is told, for mending by hand.
@@ -46,7 +47,7 @@ def respelled(name):
     return "-".join(parts)
 
 
-def written(path, text):
+def written(path, text, fields):
     def one(match):
         name = match.group(0)
         tail = ""
@@ -54,6 +55,8 @@ def written(path, text):
             name, tail = name[:-1], tail + "-"
         if name in FOREIGN:
             return match.group(0)
+        if name in fields:
+            return respelled(name).replace("-", "_") + tail
         if name in ONLY_IN and not path.replace(os.sep, "/").endswith(ONLY_IN[name]):
             return match.group(0)
         if name in EXCEPTIONS or CAMEL.search(name) or name.startswith("get_d_"):
@@ -61,6 +64,55 @@ def written(path, text):
         return match.group(0)
 
     return NAME.sub(one, text)
+
+
+FIELD = re.compile(r"\s+(?:pub )?([a-z][A-Za-z0-9_'-]*) :")
+DEFINED = re.compile(r"\s*(?:abbrev|unfoldable)(?: pub)? ([a-z][A-Za-z0-9_'-]*) :")
+# What Rattle asks of a proof by name: an invariant, a measure.
+ASKED = ("invariant-", "decreases-")
+# Fields that stay, since a definition has the name that they would get.
+KEPT = {"same-width", "its-points"}
+
+
+def dashed():
+    """The fields of records, and the definitions outside of functions' own proofs, that have dashes."""
+    found = set()
+    for path in files():
+        if not path.endswith(".antt"):
+            continue
+        own = os.path.basename(path) in ("Proof.antt", "Answers.antt", "Invariants.antt") and os.sep + "proofs" + os.sep in path
+        record = None
+        with open(path, encoding="utf-8") as f:
+            for line in f.read().split("\n"):
+                indent = len(line) - len(line.lstrip())
+                if re.match(r"\s*(?:pub )?record \S+", line):
+                    record = indent
+                elif not line.strip():
+                    record = None
+                elif record is not None and indent > record and FIELD.match(line):
+                    found.add(FIELD.match(line).group(1))
+                elif DEFINED.match(line) and not own:
+                    found.add(DEFINED.match(line).group(1))
+    return {name for name in found if "-" in name and not name.startswith(ASKED)} - KEPT
+
+
+WORD = re.compile(r"(--   )(\S.*?)( {2,})(\S.*)$")
+
+
+def columns(text):
+    """The vocabulary at a file's head, its meanings in one column again: that of most of its lines."""
+    lines = text.split("\n")
+    head = next((at for at, line in enumerate(lines) if not line.startswith("--")), len(lines))
+    found = [WORD.match(line) for line in lines[:head]]
+    places = [match.start(4) for match in found if match]
+    if places:
+        column = max(sorted(set(places)), key=places.count)
+        for at, match in enumerate(found):
+            if match:
+                left = match.group(1) + match.group(2)
+                line = (left.ljust(column) if len(left) + 2 <= column else left + "   ") + match.group(4)
+                lines[at] = line if len(line) <= 140 else lines[at]
+    return "\n".join(lines)
 
 
 def tight(text, bare, grouped):
@@ -110,10 +162,13 @@ def files():
 
 def main():
     changed = 0
+    fields = dashed()
     for path in files():
         with open(path, encoding="utf-8") as f:
             before = f.read()
-        after = written(path, before)
+        after = written(path, before, fields)
+        if path.endswith(".antt"):
+            after = columns(after)
         if path.endswith(".edit"):
             after, left = mended(path, after)
             for text in left:

@@ -84,21 +84,21 @@ module _ (s : Setting) (legal : Legal s) (e : Execution) (pr : Premises s e) (ta
 
   -- ---- what the honest hold, hear and report
   seen-long : length e.seen ≡ s.n
-  seen-long = let w = one-honest s legal e pr in ap length (sym (pr.same w.0 w.1)) ∙ (pr.brings w.0 w.1).reports-length
+  seen-long = let w = one-honest s legal e pr in ap length (sym (pr.same w.0 w.1)) ∙ (pr.brings w.0 w.1).reports_length
 
   heard : Heard s e.honest rows columns pairs e.seen
   heard = record {
     few = pr.few;
-    row-sizes = λ i q g.
+    row_sizes = λ i q g.
         let h : Honest s e i = record { party = q; good = g } in
         one.row-length s i (lamps.ready s legal e pr i h) (e.calls i) (e.run i) (pr.brings i h);
-    column-sizes = λ i q g.
+    column_sizes = λ i q g.
         let h : Honest s e i = record { party = q; good = g } in
         one.column-length s i (lamps.ready s legal e pr i h) (e.calls i) (e.run i) (pr.brings i h);
     long = seen-long;
     own = λ i q g.
         let h : Honest s e i = record { party = q; good = g } in
-        ap (λ rs. entry rs i) (sym (pr.same i h)) ∙ (pr.brings i h).reports-own;
+        ap (λ rs. entry rs i) (sym (pr.same i h)) ∙ (pr.brings i h).reports_own;
     firsts = λ i j qi gi qj gj d. (pr.hear i j (record { party = qi; good = gi }) (record { party = qj; good = gj }) d).0;
     seconds = λ i j qi gi qj gj d. (pr.hear i j (record { party = qi; good = gi }) (record { party = qj; good = gj }) d).1;
   }
@@ -134,7 +134,7 @@ module _ (s : Setting) (legal : Legal s) (e : Execution) (pr : Premises s e) (ta
           let jn : In j = inside j (record { party = qj; good = gj }) mj in
           let apart : i ≢ j = λ q. not-both mj (ap (member S) (sym q) ∙ out) in
           sym (crossing (prime s) (terms s) (terms s) F (point s i) (point s j) on.poly.size)
-          ∙ ap (λ f. value (prime s) f (point s i)) (on.on-rows j jn)
+          ∙ ap (λ f. value (prime s) f (point s i)) (on.on_rows j jn)
           ∙ sym (heard-first s legal e.honest rows columns pairs e.seen heard many i j h.party h.good jn apart)
           ∙ sym (heard-entry s.n (pairs i) j qj))
 
@@ -150,7 +150,7 @@ module _ (s : Setting) (legal : Legal s) (e : Execution) (pr : Premises s e) (ta
           settled-happy (reported i h) S many m
           ∙ ap (λ f. held (constant f))
           (one.dealt-column s i (lamps.ready s legal e pr i h) (e.calls i) (e.run i) (pr.brings i h)
-          ∙ sym (on.on-columns i (inside i h m)))
+          ∙ sym (on.on_columns i (inside i h m)))
           ∙ ap held constants)
           (λ (m : member S i ≡ false).
           settled-repaired (reported i h) S many (column_for s F i) m (repair-found i h m)
@@ -188,7 +188,7 @@ module _ (s : Setting) (legal : Legal s) (e : Execution) (pr : Premises s e) (ta
         replied =
             ap (λ z. step z (open_shares (e.run i).width ys)) (lamps.ended s legal e pr i h _ (holds i h) xs)
             ∙ shares-opened holding (one.made-valid s i (lamps.ready s legal e pr i h)) (e.run i).width ys
-            (pr.brings i h).own-width long refl
+            (pr.brings i h).own_width long refl
 
         abbrev Secret : Type 0
         Secret = Gives (answer_at s i (since_settling (e.run i) xs) (open_shares (e.run i).width ys)) (value_of s F 0 0 ∷ [])
@@ -208,12 +208,12 @@ module _ (s : Setting) (legal : Legal s) (e : Execution) (pr : Premises s e) (ta
               let hj : Honest s e j = record { party = qj; good = gj } in
               places j hj d was-sent ∙ share-is j hj ∙ sym (on_row j)
 
-          opens-enough : 2 * s.t + 1 ≤ honest_there s e i ys → Secret
-          opens-enough many =
+          opens_enough : 2 * s.t + 1 ≤ honest_there s e i ys → Secret
+          opens_enough many =
               found (opening-by ∙ own-opens-enough s legal e.honest pr.few f row_fine i h.party ys long in_place many)
 
-          opens-no-other : Secret ⊎ Refuses (answer_at s i (since_settling (e.run i) xs) (open_shares (e.run i).width ys)) 10
-          opens-no-other = go (opening holding ys) refl
+          opens_no_other : Secret ⊎ Refuses (answer_at s i (since_settling (e.run i) xs) (open_shares (e.run i).width ys)) 10
+          opens_no_other = go (opening holding ys) refl
             where
               go : (o : Option (List ℕ)) → opening holding ys ≡ o
                   → Secret ⊎ Refuses (answer_at s i (since_settling (e.run i) xs) (open_shares (e.run i).width ys)) 10
@@ -230,7 +230,7 @@ module _ (s : Setting) (legal : Legal s) (e : Execution) (pr : Premises s e) (ta
             let sent : (j : ℕ) → Honest s e j → (j ≡ i → ⊥) → entry ys j < prime s = λ j hj d.
             subst (λ v. v < prime s) (sym (places j hj d ∙ share-is j hj ∙ sym (on_row j)))
             (value-lt (prime s) f (point s j) (omega (arith, legal.prime.two))) in
-            opens-enough (λ j hj d was-sent. places j hj d) (omega (arith, honest-there s e pr.few i ys sent))
+            opens_enough (λ j hj d was-sent. places j hj d) (omega (arith, honest-there s e pr.few i ys sent))
 
       accepts : (i : ℕ) → Honest s e i → Accepts s e s i F
       unfolding at_end with_pairs with_deal share
@@ -242,21 +242,21 @@ module _ (s : Setting) (legal : Legal s) (e : Execution) (pr : Premises s e) (ta
                 (ap (λ (z : Reply). number_of z.answer) known, ap (λ (z : Reply). values_of z.answer) known);
             stays = lamps.stays s legal e pr i h _ is;
             opens = λ xs ys at long places. opens-all i h xs ys long places;
-            opens-enough = λ xs ys at long places many. opens-enough i h xs ys long places many;
-            opens-no-other = λ xs ys at long places. opens-no-other i h xs ys long places;
+            opens_enough = λ xs ys at long places many. opens_enough i h xs ys long places many;
+            opens_no_other = λ xs ys at long places. opens_no_other i h xs ys long places;
           }
 
       to-lies : (G : List ℕ) → OnF s e G → On G
       to-lies G g = record {
         poly = g.poly;
-        on-rows = λ i m. g.rows i (record { party = m.party; good = m.good }) m.happy;
-        on-columns = λ i m. g.columns i (record { party = m.party; good = m.good }) m.happy;
+        on_rows = λ i m. g.rows i (record { party = m.party; good = m.good }) m.happy;
+        on_columns = λ i m. g.columns i (record { party = m.party; good = m.good }) m.happy;
       }
 
       accepted : AllAccept s e F
       accepted = record {
-        set-right = happy-right s legal e.honest rows columns pairs e.seen heard;
-        on = record { poly = on.poly; rows = λ i h m. on.on-rows i (inside i h m); columns = λ i h m. on.on-columns i (inside i h m) };
+        set_right = happy-right s legal e.honest rows columns pairs e.seen heard;
+        on = record { poly = on.poly; rows = λ i h m. on.on_rows i (inside i h m); columns = λ i h m. on.on_columns i (inside i h m) };
         only = λ G g. lies-once s legal e.honest pr.few S within many rows columns G F (to-lies G g) on;
         hold = λ i h. in-own (λ o. Accepts s e o i F) i h (accepts i h);
       }
@@ -292,8 +292,8 @@ module _ (s : Setting) (legal : Legal s) (e : Execution) (pr : Premises s e) (ta
       (λ i q g. row_of i (record { party = q; good = g })) (λ i q g. column-of i (record { party = q; good = g })) in (
         accepted many F (record {
           poly = record { residues = w.below; size = w.square };
-          on-rows = λ i m. row_of i (record { party = m.party; good = m.good });
-          on-columns = λ i m. column-of i (record { party = m.party; good = m.good });
+          on_rows = λ i m. row_of i (record { party = m.party; good = m.good });
+          on_columns = λ i m. column-of i (record { party = m.party; good = m.good });
         }),
         at-secret (prime s) s.t s.t F (omega (arith, legal.prime.two)) w.below,
       )
@@ -301,7 +301,7 @@ module _ (s : Setting) (legal : Legal s) (e : Execution) (pr : Premises s e) (ta
   conclusions : Conclusions s e
   conclusions = record {
     speak = λ i h. in-own (λ o. Speaks s e o i) i h (lamps.speaks s legal e pr i h);
-    one-verdict = verdict;
+    one_verdict = verdict;
     dealer = dealer;
   }
 

@@ -66,7 +66,7 @@ module _ (s : Setting) (i : ℕ) (ready : Ready s i) (cs : List Call) (r : Run) 
   start-awaits (open_shares w xs) e = refl
 
   pub start-never : Never (awaited start) (to_deal r)
-  start-never = never-map (is_deal s) (awaited start) start-awaits (to_deal r) b.deal-first
+  start-never = never-map (is_deal s) (awaited start) start-awaits (to_deal r) b.deal_first
 
   pub to-deal : lamp_at s i (to_deal r) ≡ start
   to-deal = all_quiet start (made-valid s i ready) (to_deal r) start-never
@@ -78,7 +78,7 @@ module _ (s : Setting) (i : ℕ) (ready : Ready s i) (cs : List Call) (r : Run) 
   pub deal-taken : step start (take_deal r.width d) ≡ reply dealt Done
   deal-taken =
       takes start (made-valid s i ready) r.width d
-      (ap (λ z. z && true) (fits r.width s.width b.own-width (length d) (2 * terms s) b.deal-length))
+      (ap (λ z. z && true) (fits r.width s.width b.own_width (length d) (2 * terms s) b.deal_length))
 
   pub dealt-valid : Valid dealt.party
   unfolding with_deal
@@ -89,10 +89,10 @@ module _ (s : Setting) (i : ℕ) (ready : Ready s i) (cs : List Call) (r : Run) 
   dealt-started = refl
 
   pub row-length : length (dealt_row s d) ≡ terms s
-  row-length = length-take-le (terms s) d (omega (arith, b.deal-length))
+  row-length = length-take-le (terms s) d (omega (arith, b.deal_length))
 
   pub column-length : length (dealt_column s d) ≡ terms s
-  column-length = length-drop (terms s) d ∙ omega (arith, b.deal-length)
+  column-length = length-drop (terms s) d ∙ omega (arith, b.deal_length)
 
   dealt-row : row_of_lamp dealt ≡ dealt_row s d
   unfolding with_deal
@@ -112,10 +112,10 @@ module _ (s : Setting) (i : ℕ) (ready : Ready s i) (cs : List Call) (r : Run) 
   pub kept_pair : (l : Lamp) → Kept dealt l → (j : ℕ) → said_pair l j ≡ pair_by s i d j
   unfolding said_pair with_deal
   kept_pair l k j =
-      let rows : row_of_lamp l ≡ dealt_row s d = ap₂ (λ (a : Party) b. take (suc a.t) b) k.same-party k.same_row ∙ dealt-row in
+      let rows : row_of_lamp l ≡ dealt_row s d = ap₂ (λ (a : Party) b. take (suc a.t) b) k.same_party k.same_row ∙ dealt-row in
       let columns : column_of_lamp l ≡ dealt_column s d =
-      ap₂ (λ (a : Party) b. take (suc a.t) b) k.same-party k.same-column ∙ dealt-column in
-      ap (λ (a : Party). pair_for (its_prime a) (table_of a) a.number (row_of_lamp l) (column_of_lamp l) j) k.same-party
+      ap₂ (λ (a : Party) b. take (suc a.t) b) k.same_party k.same_column ∙ dealt-column in
+      ap (λ (a : Party). pair_for (its_prime a) (table_of a) a.number (row_of_lamp l) (column_of_lamp l) j) k.same_party
       ∙ ap (λ T. pair_for (prime s) T i (row_of_lamp l) (column_of_lamp l) j) (made_table s i ready)
       ∙ ap₂ (λ a c. pair_for (prime s) s.table i a c j) rows columns
 
@@ -128,7 +128,7 @@ module _ (s : Setting) (i : ℕ) (ready : Ready s i) (cs : List Call) (r : Run) 
       ap (λ z. (step z (say_pair j)).answer) (since-deal xs)
       ∙ ap (λ (q : Reply). q.answer)
       (pair-said l (kept-valid dealt l k dealt-valid) j
-      (ap (λ (a : Party). is_party a.n j) k.same-party ∙ other) k.started)
+      (ap (λ (a : Party). is_party a.n j) k.same_party ∙ other) k.started)
       ∙ ap (λ (q : ℕ × ℕ). Pair q.0 q.1) (kept_pair l k j)
 
   dealt-awaits : (c : Call) → is_hearing s c ≡ false → awaited dealt c ≡ false
@@ -152,7 +152,7 @@ module _ (s : Setting) (i : ℕ) (ready : Ready s i) (cs : List Call) (r : Run) 
   hears-awaited : awaited dealt (hear_pairs r.width r.its_pairs) ≡ true
   unfolding with_deal
   hears-awaited =
-      ap (λ z. z && true) (fits r.width s.width b.own-width (length r.its_pairs) (2 * s.n) b.pairs-length)
+      ap (λ z. z && true) (fits r.width s.width b.own_width (length r.its_pairs) (2 * s.n) b.pairs_length)
 
   pub report-is : report_from dealt r.its_pairs ≡ its
   unfolding report_from with_deal
@@ -182,7 +182,7 @@ module _ (s : Setting) (i : ℕ) (ready : Ready s i) (cs : List Call) (r : Run) 
       ∙ ap (λ (q : Reply). after q.lamp xs) pairs-heard
 
   pub reported-never : Never (awaited reported) r.before_reports
-  reported-never = never-map (is_settling s i its) (awaited reported) reported-awaits r.before_reports b.reports-first
+  reported-never = never-map (is_settling s i its) (awaited reported) reported-awaits r.before_reports b.reports_first
 
   pub to-reports : lamp_at s i (to_reports r) ≡ reported
   to-reports = since-pairs r.before_reports ∙ all_quiet reported reported-valid r.before_reports reported-never
@@ -194,8 +194,8 @@ module _ (s : Setting) (i : ℕ) (ready : Ready s i) (cs : List Call) (r : Run) 
   settles-awaited : awaited reported (settle r.its_reports) ≡ true
   unfolding with_pairs with_deal
   settles-awaited =
-      ap₂ (λ a c. (a && true) && c) (eq-eqb (length r.its_reports) s.n b.reports-length)
-      (eq-eqb (entry r.its_reports i) (report_from dealt r.its_pairs) (b.reports-own ∙ sym report-is))
+      ap₂ (λ a c. (a && true) && c) (eq-eqb (length r.its_reports) s.n b.reports_length)
+      (eq-eqb (entry r.its_reports i) (report_from dealt r.its_pairs) (b.reports_own ∙ sym report-is))
 
   pub settling : step reported (settle r.its_reports) ≡ outcome
   settling = settles reported reported-valid r.its_reports settles-awaited

@@ -25,14 +25,14 @@ module _ (p : ℕ) (T : List ℕ) (i : ℕ) (row column : List ℕ) where
   sound-facts e =
       let a = (and-eq-true_iff (residues p row && residues p column) (eqb (value p row (point_at T i)) (value p column (point_at T i)))).0 e in
       let b = (and-eq-true_iff (residues p row) (residues p column)).0 a.0 in
-      record { row_below = residues-facts p row b.0; column-below = residues-facts p column b.1; crossing = eqb-true _ _ a.1 }
+      record { row_below = residues-facts p row b.0; column_below = residues-facts p column b.1; crossing = eqb-true _ _ a.1 }
 
   pub sound-true : Sound p T i row column → sound p T i row column ≡ true
   unfolding sound
   sound-true h =
       (and-eq-true_iff (residues p row && residues p column) (eqb (value p row (point_at T i)) (value p column (point_at T i)))).1 (
         (and-eq-true_iff (residues p row) (residues p column)).1
-            (residues-true p row h.row_below, residues-true p column h.column-below),
+            (residues-true p row h.row_below, residues-true p column h.column_below),
         eq-eqb _ _ h.crossing,
       )
 

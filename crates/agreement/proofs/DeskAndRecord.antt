@@ -73,14 +73,14 @@ module _ (bytes : List ℕ) (w : Width) (n t : ℕ) where
       let q = (and-eq-true_iff (eqb (length bytes) (records.section_start w n t 4)) (stand_at bytes 2 list)).0 e in
       let each : (k : ℕ) → k < 8 → number_at bytes (2 + 2 * k) ≡ get_or list k 0 = stand-facts bytes 2 list q.1 in
       record {
-        deals-from = each 0 (omega arith);
-        deals-long = each 1 (omega arith);
-        pairs-from = each 2 (omega arith);
-        pairs-long = each 3 (omega arith);
-        reports-from = each 4 (omega arith);
-        reports-long = each 5 (omega arith);
-        shares-from = each 6 (omega arith);
-        shares-long = each 7 (omega arith);
+        deals_from = each 0 (omega arith);
+        deals_long = each 1 (omega arith);
+        pairs_from = each 2 (omega arith);
+        pairs_long = each 3 (omega arith);
+        reports_from = each 4 (omega arith);
+        reports_long = each 5 (omega arith);
+        shares_from = each 6 (omega arith);
+        shares_long = each 7 (omega arith);
         end = eqb-true _ _ q.0;
       }
 
@@ -89,14 +89,14 @@ module _ (bytes : List ℕ) (w : Width) (n t : ℕ) where
   has_right d =
       simp (
         eq-eqb _ _ d.end,
-        eq-eqb _ _ d.deals-from,
-        eq-eqb _ _ d.deals-long,
-        eq-eqb _ _ d.pairs-from,
-        eq-eqb _ _ d.pairs-long,
-        eq-eqb _ _ d.reports-from,
-        eq-eqb _ _ d.reports-long,
-        eq-eqb _ _ d.shares-from,
-        eq-eqb _ _ d.shares-long,
+        eq-eqb _ _ d.deals_from,
+        eq-eqb _ _ d.deals_long,
+        eq-eqb _ _ d.pairs_from,
+        eq-eqb _ _ d.pairs_long,
+        eq-eqb _ _ d.reports_from,
+        eq-eqb _ _ d.reports_long,
+        eq-eqb _ _ d.shares_from,
+        eq-eqb _ _ d.shares_long,
       )
 
   -- What is tested for is what the protocol says.
@@ -127,8 +127,8 @@ module _ (bytes : List ℕ) where
   pub reads : byte0 < 128 → Reads bytes Narrow byte0 (records.reading bytes)
   reads low = subst (Reads bytes Narrow byte0) (read-as-narrow bytes low) (reads_as Narrow byte0)
 
-  pub reads-wide : 128 ≤ byte0 → Reads bytes Wide (byte0 - 128) (records.reading bytes)
-  reads-wide high = subst (Reads bytes Wide (byte0 - 128)) (read-as-wide bytes high) (reads_as Wide (byte0 - 128))
+  pub reads_wide : 128 ≤ byte0 → Reads bytes Wide (byte0 - 128) (records.reading bytes)
+  reads_wide high = subst (Reads bytes Wide (byte0 - 128)) (read-as-wide bytes high) (reads_as Wide (byte0 - 128))
 
   -- The reader of old records alone.
   pub reads_old : Reads bytes Narrow byte0 (records.reading_narrow bytes)

@@ -93,15 +93,15 @@ module _ (s : Setting) (honest : ℕ → Bool) (S : ℕ) where
   module _ (rows columns : ℕ → List ℕ) where
     -- The parties inside have rows and columns of t + 1 residues, which cross, each one's own included.
     pub record Crossed : Type 0 where
-      pub row-polys : (i : ℕ) → Inside i → Poly (prime s) (terms s) (rows i)
-      pub column-polys : (i : ℕ) → Inside i → Poly (prime s) (terms s) (columns i)
+      pub row_polys : (i : ℕ) → Inside i → Poly (prime s) (terms s) (rows i)
+      pub column_polys : (i : ℕ) → Inside i → Poly (prime s) (terms s) (columns i)
       pub cross : (i j : ℕ) → Inside i → Inside j → value (prime s) (rows i) (point s j) ≡ value (prime s) (columns j) (point s i)
 
     -- F has (t + 1)² coefficients, residues, and every party inside has F's row and column.
     pub record Lies (F : List ℕ) : Type 0 where
       pub poly : Poly (prime s) (terms s * terms s) F
-      pub on-rows : (i : ℕ) → Inside i → row_for s F i ≡ rows i
-      pub on-columns : (i : ℕ) → Inside i → column_for s F i ≡ columns i
+      pub on_rows : (i : ℕ) → Inside i → row_for s F i ≡ rows i
+      pub on_columns : (i : ℕ) → Inside i → column_for s F i ≡ columns i
 
 module _ (s : Setting) (legal : Legal s) where
   pub points-fine : Points (prime s) s.table
@@ -217,8 +217,8 @@ module _ (s : Setting) (legal : Legal s) where
         all-on F h = record {
           residues = h.poly.residues;
           size = h.poly.size;
-          rows = λ i m. h.on-rows i (mem-inside i m);
-          columns = λ i m. h.on-columns i (mem-inside i m);
+          rows = λ i m. h.on_rows i (mem-inside i m);
+          columns = λ i m. h.on_columns i (mem-inside i m);
         }
 
         pub lies-once : (F G : List ℕ) → On F → On G → F ≡ G
@@ -231,12 +231,12 @@ module _ (s : Setting) (legal : Legal s) where
             let r =
             lie-on (prime s) legal.prime (point s) inside inside-points (terms s) (omega (arith, inside-many)) (terms s) rows columns
             (omega (arith, inside-many))
-            (λ i m. c.row-polys i (mem-inside i m)) (λ i m. c.column-polys i (mem-inside i m))
+            (λ i m. c.row_polys i (mem-inside i m)) (λ i m. c.column_polys i (mem-inside i m))
             (λ i j mi mj. c.cross i j (mem-inside i mi) (mem-inside j mj)) in (
               r.0,
               record {
                 poly = record { residues = r.1.residues; size = r.1.size };
-                on-rows = λ i h. r.1.rows i (inside-mem i h);
-                on-columns = λ i h. r.1.columns i (inside-mem i h);
+                on_rows = λ i h. r.1.rows i (inside-mem i h);
+                on_columns = λ i h. r.1.columns i (inside-mem i h);
               },
             )

@@ -36,19 +36,19 @@ use Rattle.agreement.proofs.Steps.{width_same}
 
 -- ---- the tests
 pub legal-sizes : (n t : ℕ) → sizes n t ≡ true → Sizes n t
-legal-sizes n t e = let f = sizes-facts n t e in record { some-faulty = f.0; few-faulty = f.1; enough = f.2; few = f.3 }
+legal-sizes n t e = let f = sizes-facts n t e in record { some_faulty = f.0; few_faulty = f.1; enough = f.2; few = f.3 }
 
 pub size-test : (n t : ℕ) → Tests (sizes n t) (Sizes n t → ⊥)
 unfolding sizes
 size-test n t =
     unless (sizes n t) (legal-sizes n t)
-    (λ s. simp (le-leb 1 t s.some-faulty, le-leb t 3 s.few-faulty, le-leb (4 * t + 1) n s.enough, le-leb n 16 s.few))
+    (λ s. simp (le-leb 1 t s.some_faulty, le-leb t 3 s.few_faulty, le-leb (4 * t + 1) n s.enough, le-leb n 16 s.few))
 
 pub party-test : (n i : ℕ) → Tests (is_party n i) (Among n i → ⊥)
 party-test n i =
     unless (is_party n i)
-    (λ e. let f = party-facts n i e in record { from_one = f.0; to-n = f.1 })
-    (λ a. party-true n i a.from_one a.to-n)
+    (λ e. let f = party-facts n i e in record { from_one = f.0; to_n = f.1 })
+    (λ a. party-true n i a.from_one a.to_n)
 
 pub same_test : (a b : ℕ) → Tests (eqb a b) (a ≡ b → ⊥)
 same_test a b = unless (eqb a b) (eqb-true a b) (eq-eqb a b)

@@ -28,7 +28,7 @@ use Rattle.lamp.specs.Lamp.{step, after}
 use Rattle.lamp.proofs.Checks.{Passed, passed}
 use Rattle.lamp.proofs.Calls.{step-refused, make-admitted}
 use Rattle.agreement.proofs.Rows.{none-some}
-use Rattle.agreement.proofs.Sentences.{same-party}
+use Rattle.agreement.proofs.Sentences.{same_party}
 
 -- A call that no test refuses has a valid party.
 passed-valid : (l : Lamp) (c : Call) → Passed l c → Valid l.party
@@ -84,5 +84,5 @@ module _ (w : Width) (n t i : ℕ) (T : List ℕ) where
       go : (found : Admission) → lowest (tests l c) ≡ found → (j : ℕ) × (number_of (step l c).answer ≡ some j)
       go (Fail why) e = (refusal_number why, ap (λ (r : Reply). number_of r.answer) (sym (step-refused l c e)))
       go Pass e =
-          let v : Valid a = subst Valid (same-party (made_with w n t i T) refl cs).0 (passed-valid l c (passed l c e)) in
+          let v : Valid a = subst Valid (same_party (made_with w n t i T) refl cs).0 (passed-valid l c (passed l c e)) in
           absurd (none-some _ k (ap (λ (r : Reply). number_of r.answer) (sym (make-admitted w n t i T (made-passes v)))) bad)

@@ -71,7 +71,7 @@ pub missing-opened : (w : Width) → Gives (answer w (first w ∷ []) (two_missi
 unfolding tabulate is_party
 missing-opened w =
     ((plain-accepted w).hold 5 (record { party = refl; good = refl })
-    ).opens-enough (first w ∷ []) (two_missing w (one_to 5)) (open_shares w (lie_alone w (one_to 5)) ∷ [], refl) refl (places w) (three-there w)
+    ).opens_enough (first w ∷ []) (two_missing w (one_to 5)) (open_shares w (lie_alone w (one_to 5)) ∷ [], refl) refl (places w) (three-there w)
 
 -- Of the others' places at lie_alone only the liar's holds a number.
 alone-places : (w : Width) → ShareOrUnsent (five w) (story w) 5 (lie_alone w (one_to 5))
@@ -90,4 +90,4 @@ pub alone-answered : (w : Width) → let a = answer w (first w ∷ second w ∷ 
 unfolding tabulate is_party
 alone-answered w =
     ((plain-accepted w).hold 5 (record { party = refl; good = refl })
-    ).opens-no-other (first w ∷ second w ∷ []) (lie_alone w (one_to 5)) ([], refl) refl (alone-places w)
+    ).opens_no_other (first w ∷ second w ∷ []) (lie_alone w (one_to 5)) ([], refl) refl (alone-places w)

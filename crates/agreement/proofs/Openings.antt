@@ -1,5 +1,5 @@
 -- What shares open, where those of the honest that were sent lie on one f: f with 2t + 1 of them there, and nothing else with fewer.
---   opens-enough, opens-no-other           of a list by itself
+--   opens_enough, opens_no_other           of a list by itself
 --   own-opens-enough, own-opens-no-other   with one party's own share in its own place
 --   honest-there                           where every honest lamp sent, all but t of the n are there
 use mathlib.Core.Path.{◌≡◌, sym, ap, subst, ◌∙◌}
@@ -53,12 +53,12 @@ module _ (s : Setting) (legal : Legal s) (honest : ℕ → Bool) (few : count (�
                   (subst (λ z. get_or ys z 0 < prime s) place was-sent))),
             )
 
-        pub opens-no-other : (g : List ℕ) → opening_of (prime s) s.t s.table ys ≡ some g → g ≡ f
-        opens-no-other = opening-other (prime s) legal.prime s.t s.table ys same (points-fine s legal) f hf few-wrong
+        pub opens_no_other : (g : List ℕ) → opening_of (prime s) s.t s.table ys ≡ some g → g ≡ f
+        opens_no_other = opening-other (prime s) legal.prime s.t s.table ys same (points-fine s legal) f hf few-wrong
 
-        pub opens-enough : 2 * s.t + 1 ≤ count (λ i. honest i && ltb (entry ys i) (prime s)) (parties s.n)
+        pub opens_enough : 2 * s.t + 1 ≤ count (λ i. honest i && ltb (entry ys i) (prime s)) (parties s.n)
             → opening_of (prime s) s.t s.table ys ≡ some f
-        opens-enough many =
+        opens_enough many =
             opening-found (prime s) legal.prime s.t s.table ys same (points-fine s legal) f (record {
               poly = hf;
               many = omega (
@@ -107,12 +107,12 @@ module _ (s : Setting) (legal : Legal s) (honest : ℕ → Bool) (few : count (�
           ]
 
       pub own-opens-no-other : (g : List ℕ) → opening_of (prime s) s.t s.table own ≡ some g → g ≡ f
-      own-opens-no-other = opens-no-other f own hf (length-set ys (i - 1) (on i) ∙ long) on-f
+      own-opens-no-other = opens_no_other f own hf (length-set ys (i - 1) (on i) ∙ long) on-f
 
       pub own-opens-enough : 2 * s.t + 1 ≤ count (λ j. honest j && there j) (parties s.n)
           → opening_of (prime s) s.t s.table own ≡ some f
       own-opens-enough many =
-          opens-enough f own hf (length-set ys (i - 1) (on i) ∙ long) on-f
+          opens_enough f own hf (length-set ys (i - 1) (on i) ∙ long) on-f
           (omega (arith, many, count-parties s.n (λ j. honest j && there j) (λ j. honest j && ltb (entry own j) (prime s)) sent-too))
         where
           sent-too : (j : ℕ) → is_party s.n j ≡ true → honest j && there j ≡ true → honest j && ltb (entry own j) (prime s) ≡ true

@@ -26,7 +26,7 @@ use Rattle.agreement.specs.Demand2.{its_points}
 use Rattle.agreement.specs.Demand3.{Gives, Refuses, Demand3}
 use Rattle.agreement.specs.Plain.{plain_making, plain_dealing, Plain}
 use Rattle.agreement.proofs.Rows.{Unused, not-given, skipped}
-use Rattle.agreement.proofs.Sentences.{same-party}
+use Rattle.agreement.proofs.Sentences.{same_party}
 use Rattle.agreement.proofs.Refusals.{demand1}
 use Rattle.agreement.proofs.Rightness.{demand2}
 use Rattle.agreement.proofs.Agreement.{demand3}
@@ -75,7 +75,7 @@ module _ (w : Width) where
     l = after (made w n t i) cs
 
     its : (l.party ≡ (made w n t i).party) × (length l.sharing.heard ≡ 16)
-    its = same-party (made w n t i) refl cs
+    its = same_party (made w n t i) refl cs
 
     its-points : n ≤ 16 → its_points l ≡ one_to n
     its-points few =
@@ -98,8 +98,8 @@ module _ (w : Width) where
     unused (settle rs) = (tt, λ a. (tt, λ b. (tt, λ c. (fine a, λ d. (tt, λ e. (tt, λ f. (tt, λ g. (tt, λ h. tt))))))))
     unused (open_shares v xs) = (tt, λ a. (tt, λ b. (tt, λ c. (tt, λ d. (fine a, λ e. (tt, λ f. (tt, λ g. tt)))))))
 
-    never-14 : (c : Call) → Refuses (step l c).answer 14 → ⊥
-    never-14 c e = not-given _ _ _ (refusals l c) (demand1.calls l its.1 c) 14 (unused c) e
+    never_14 : (c : Call) → Refuses (step l c).answer 14 → ⊥
+    never_14 c e = not-given _ _ _ (refusals l c) (demand1.calls l its.1 c) 14 (unused c) e
 
   -- ---- what the desk deals
   dealt : (n t : ℕ) (F out : List ℕ) → dealing_number (desk p n t F out).1 ≡ none → (i : ℕ) → is_party n i ≡ true
@@ -118,7 +118,7 @@ module _ (w : Width) where
     makes = makes;
     deals = deals;
     dealt = dealt;
-    never-14 = never-14;
+    never_14 = never_14;
     agreement = λ n t e loaded widths pr. demand3 w n t (one_to n) e pr (record {
       table = one-to-table p n (omega (arith, sizes-facts n t pr.size, above-16 w));
       loaded = loaded;

@@ -40,7 +40,7 @@ use Rattle.agreement.proofs.Rightness.{goes-open, opens-right}
 use Rattle.agreement.proofs.Guards.{size-test, party-test, same-width, width-test, same_test, table-test, at_stage}
 use Rattle.agreement.proofs.Guards.{stage-test, waiting-test, Guard, against, replying, seven}
 use Rattle.agreement.proofs.Sayings.{says, reports}
-use Rattle.agreement.proofs.DeskAndRecord.{deals, reads, reads-wide, reads_old, writes}
+use Rattle.agreement.proofs.DeskAndRecord.{deals, reads, reads_wide, reads_old, writes}
 
 -- ---- what settling and opening answer, where nothing is wrong with the call
 abbrev ending : Lamp → List ℕ → Rows Lamp
@@ -90,13 +90,13 @@ module _ (l : Lamp) (P : Prime (its_prime l.party)) where
             by : (o : Option (List ℕ)) → found ≡ o → Ends (settled l S)
             by none q =
                 let e = settled-mended l S many m ∙ ap (repaired l S) q in
-                subst Ends (sym e) (inr (enough many, inl ((m, (repairs-right l P rs h many m).none-fits.0 (number e)), refl, refl)))
+                subst Ends (sym e) (inr (enough many, inl ((m, (repairs-right l P rs h many m).none_fits.0 (number e)), refl, refl)))
             by (some f) q =
                 let e = settled-repaired l S many f m q in
                 subst Ends (sym e) (inr (
                   enough many,
                   inr (
-                    λ w. none-some _ 9 (number e) ((repairs-right l P rs h many m).none-fits.1 w.1),
+                    λ w. none-some _ 9 (number e) ((repairs-right l P rs h many m).none_fits.1 w.1),
                     (refl, ((refl, refl), refl)),
                   ),
                 ))
@@ -108,10 +108,10 @@ module _ (l : Lamp) (P : Prime (its_prime l.party)) where
 
     opens : (o : Option (List ℕ)) → opening l xs ≡ o
         → Replies ((10, NoOpeningFits l xs, l) ∷ []) (AcceptedSays l (open_shares w xs)) (opened l o)
-    opens none q = inl ((opens-right l P w xs h).none-fits.0 (opening-number q), refl, refl)
+    opens none q = inl ((opens-right l P w xs h).none_fits.0 (opening-number q), refl, refl)
     opens (some f) q =
         inr (
-          λ fits-none. none-some _ 10 (opening-number q) ((opens-right l P w xs h).none-fits.1 fits-none),
+          λ fits-none. none-some _ 10 (opening-number q) ((opens-right l P w xs h).none_fits.1 fits-none),
           (refl, refl),
         )
 
@@ -174,7 +174,7 @@ module _ (l : Lamp) (P : Prime (its_prime l.party)) where
         (λ (a, (b, (v, (c, (k, (d, u)))))).
         opens w xs (record {
           valid = record { size = a; party = b; table = k };
-          own-width = same-width w l.party.width v;
+          own_width = same-width w l.party.width v;
           stage = at_stage Holding l d;
           long = eqb-true _ _ c;
         })
@@ -197,14 +197,14 @@ makes w n t i T =
 fresh : (w : Width) (n t i : ℕ) (T : List ℕ) → Fresh w n t i T (made_with w n t i T)
 fresh w n t i T = record {
   same-width = refl;
-  same-n = refl;
-  same-t = refl;
+  same_n = refl;
+  same_t = refl;
   same_number = refl;
   waiting = refl;
-  no-share = refl;
-  no-set = refl;
-  same-table = kept-front n T;
-  zeros-behind = λ few same. sym (kept_whole n T few same);
+  no_share = refl;
+  no_set = refl;
+  same_table = kept-front n T;
+  zeros_behind = λ few same. sym (kept_whole n T few same);
   no_table = λ d. ⊎_elim (λ few. sym (kept-not n T few (λ e. d (few, e)))) (λ many. sym (kept-many n T many)) (le-or-lt n 16);
 }
 
@@ -216,7 +216,7 @@ demand1 = record {
   calls = λ l long c. calls l (prime-of l.party.width) long c;
   deals = λ w n t T. deals (setting w n t T);
   reads = reads;
-  reads-wide = reads-wide;
+  reads_wide = reads_wide;
   reads_old = reads_old;
   writes = writes;
 }

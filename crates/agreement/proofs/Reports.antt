@@ -39,8 +39,8 @@ count_same a b (x ∷ xs) e =
 -- What the honest parties hold, hear and report.
 pub record Heard (s : Setting) (honest : ℕ → Bool) (rows columns pairs : ℕ → List ℕ) (rs : List ℕ) : Type 0 where
   pub few : count (λ i. not (honest i)) (parties s.n) ≤ s.t
-  pub row-sizes : (i : ℕ) → is_party s.n i ≡ true → honest i ≡ true → length (rows i) ≡ terms s
-  pub column-sizes : (i : ℕ) → is_party s.n i ≡ true → honest i ≡ true → length (columns i) ≡ terms s
+  pub row_sizes : (i : ℕ) → is_party s.n i ≡ true → honest i ≡ true → length (rows i) ≡ terms s
+  pub column_sizes : (i : ℕ) → is_party s.n i ≡ true → honest i ≡ true → length (columns i) ≡ terms s
   pub long : length rs ≡ s.n
   pub own : (i : ℕ) → is_party s.n i ≡ true → honest i ≡ true
       → entry rs i ≡ report_of (prime s) s.n s.table i (rows i) (columns i) (pairs i)
@@ -95,8 +95,8 @@ module _ (s : Setting) (legal : Legal s) (honest : ℕ → Bool) (rows columns p
 
     pub crossed : Crossed s honest (happy_set rs) rows columns
     crossed = record {
-      row-polys = λ i a. record { residues = (facts i a).row_below; size = h.row-sizes i a.party a.good };
-      column-polys = λ i a. record { residues = (facts i a).column-below; size = h.column-sizes i a.party a.good };
+      row_polys = λ i a. record { residues = (facts i a).row_below; size = h.row_sizes i a.party a.good };
+      column_polys = λ i a. record { residues = (facts i a).column_below; size = h.column_sizes i a.party a.good };
       cross = λ i j a b. elim (ℕ_discrete i j) [
         | yes e ↦ subst (λ k. value (prime s) (rows i) (point s k) ≡ value (prime s) (columns k) (point s i)) e (facts i a).crossing
         | no d ↦ sym (heard-first j i b.party b.good a (λ q. d (sym q))) ∙ (happy-ones j i b a (λ q. d (sym q))).first
@@ -124,7 +124,7 @@ module _ (s : Setting) (legal : Legal s) (honest : ℕ → Bool) (rows columns p
       row_below =
           (subst (Poly (prime s) (terms s)) (its-row i a.0 a.1)
           (row-poly (prime s) (terms s) (terms s) F (point s i) (omega (arith, legal.prime.two)))).residues;
-      column-below =
+      column_below =
           (subst (Poly (prime s) (terms s)) (its-column i a.0 a.1)
           (column-poly (prime s) (terms s) (terms s) F (point s i) (omega (arith, legal.prime.two)) square)).residues;
       crossing = cross i i a a;

@@ -65,12 +65,12 @@ module _ (l : Lamp) (P : Prime (its_prime l.party)) (w : Width) (shares : List �
   own = set shares (i - 1) l.sharing.share
 
   pub goes-open : step l (open_shares w shares) ≡ opened l (opening l shares)
-  goes-open = shares-opened l h.valid w shares h.own-width h.long (ap (λ s. eqb (stage_number s) 3) h.stage)
+  goes-open = shares-opened l h.valid w shares h.own_width h.long (ap (λ s. eqb (stage_number s) 3) h.stage)
 
   pub opens-right : OpensRight l w shares
   unfolding opening
   opens-right = record {
-    none-fits = (λ e. iff.0 (ten e), λ e. ap (λ (z : Reply). number_of z.answer) (goes-open ∙ ap (opened l) (iff.1 e)));
+    none_fits = (λ e. iff.0 (ten e), λ e. ap (λ (z : Reply). number_of z.answer) (goes-open ∙ ap (opened l) (iff.1 e)));
     only = opening-only p P t T own sizes-own fine;
     fits = found;
     as_before = λ f near. found f (near-opening p P t T own sizes-own enough f near);
@@ -116,11 +116,11 @@ deals-right s F out = record {
   stretches = λ w i q.
       let range = party-facts s.n i q in
       desk-stretch (prime s) s.n s.t s.table F out w i range.0 range.1;
-  all-written = λ w.
+  all_written = λ w.
       ap length (desk-list (prime s) s.n s.t s.table F out w)
       ∙ length-deals (prime s) (terms s) s.table F (desk-written (prime s) s.n s.t s.table F out w).square s.n;
-  row-right = λ y x. row_at (prime s) (terms s) (terms s) F x y;
-  column-right = λ e x y. column-at (prime s) (terms s) (terms s) F x y e;
+  row_right = λ y x. row_at (prime s) (terms s) (terms s) F x y;
+  column_right = λ e x y. column-at (prime s) (terms s) (terms s) F x y e;
 }
 
 -- ---- taking a deal and hearing pairs
@@ -129,7 +129,7 @@ unfolding with_deal
 takes-right l w d h =
     let is =
     takes l h.valid w d
-    (ap₂ (λ (a b : Bool). a && b) (fits w l.party.width h.own-width (length d) (2 * suc l.party.t) h.long)
+    (ap₂ (λ (a b : Bool). a && b) (fits w l.party.width h.own_width (length d) (2 * suc l.party.t) h.long)
     (ap (λ s. eqb (stage_number s) 0) h.stage)) in
     let row-size : length (row_of l.party.t d) ≡ suc l.party.t = length-take-le (suc l.party.t) d (omega (arith, h.long)) in
     let column-size : length (column_of l.party.t d) ≡ suc l.party.t = length-drop (suc l.party.t) d ∙ omega (arith, h.long) in
@@ -138,7 +138,7 @@ takes-right l w d h =
       row_kept =
           ap (λ (z : Reply). row_of_lamp z.lamp) is
           ∙ take_at (row_of l.party.t d) (replicate (4 - length (row_of l.party.t d)) 0) (suc l.party.t) row-size;
-      column-kept =
+      column_kept =
           ap (λ (z : Reply). column_of_lamp z.lamp) is
           ∙ take_at (column_of l.party.t d) (replicate (4 - length (column_of l.party.t d)) 0) (suc l.party.t) column-size;
     }
@@ -148,13 +148,13 @@ unfolding with_pairs report_from
 hears-right l w hs h =
     let is =
     hears l h.valid w hs
-    (ap₂ (λ (a b : Bool). a && b) (fits w l.party.width h.own-width (length hs) (2 * l.party.n) h.long)
+    (ap₂ (λ (a b : Bool). a && b) (fits w l.party.width h.own_width (length hs) (2 * l.party.n) h.long)
     (ap (λ s. eqb (stage_number s) 1) h.stage)) in
     record {
       answered = (ap (λ (z : Reply). number_of z.answer) is, ap (λ (z : Reply). values_of z.answer) is);
-      firsts-kept = λ j q. ap (λ (z : Reply). entry z.lamp.sharing.heard j) is ∙ heard-entry l.party.n hs j q;
+      firsts_kept = λ j q. ap (λ (z : Reply). entry z.lamp.sharing.heard j) is ∙ heard-entry l.party.n hs j q;
       row_kept = ap (λ (z : Reply). row_of_lamp z.lamp) is;
-      column-kept = ap (λ (z : Reply). column_of_lamp z.lamp) is;
+      column_kept = ap (λ (z : Reply). column_of_lamp z.lamp) is;
     }
 
 -- DEMAND 2.

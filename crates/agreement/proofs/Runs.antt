@@ -45,19 +45,19 @@ settled-ends l Q held closed S =
 
 -- ---- what no call changes after the deal
 pub record Kept (l m : Lamp) : Type 0 where
-  pub same-party : m.party ≡ l.party
+  pub same_party : m.party ≡ l.party
   pub same_row : m.sharing.row ≡ l.sharing.row
-  pub same-column : m.sharing.column ≡ l.sharing.column
+  pub same_column : m.sharing.column ≡ l.sharing.column
   pub started : is_at Waiting m.sharing ≡ false
 
 pub kept-valid : (l m : Lamp) → Kept l m → Valid l.party → Valid m.party
-kept-valid l m k v = subst Valid (sym k.same-party) v
+kept-valid l m k v = subst Valid (sym k.same_party) v
 
 kept_trans : (l m k : Lamp) → Kept l m → Kept m k → Kept l k
 kept_trans l m k a b = record {
-  same-party = b.same-party ∙ a.same-party;
+  same_party = b.same_party ∙ a.same_party;
   same_row = b.same_row ∙ a.same_row;
-  same-column = b.same-column ∙ a.same-column;
+  same_column = b.same_column ∙ a.same_column;
   started = b.started;
 }
 
@@ -65,16 +65,16 @@ pub settled-kept : (l : Lamp) (S : ℕ) → Kept l (settled l S).lamp
 unfolding at_end
 settled-kept l =
     settled-ends l (Kept l)
-    (λ S v. record { same-party = refl; same_row = refl; same-column = refl; started = refl })
-    (λ S v. record { same-party = refl; same_row = refl; same-column = refl; started = refl })
+    (λ S v. record { same_party = refl; same_row = refl; same_column = refl; started = refl })
+    (λ S v. record { same_party = refl; same_row = refl; same_column = refl; started = refl })
 
 pairs-kept : (l : Lamp) (hs : List ℕ) → Kept l (with_pairs l hs)
 unfolding with_pairs
-pairs-kept l hs = record { same-party = refl; same_row = refl; same-column = refl; started = refl }
+pairs-kept l hs = record { same_party = refl; same_row = refl; same_column = refl; started = refl }
 
 self-kept : (l m : Lamp) → is_at Waiting l.sharing ≡ false → m ≡ l → Kept l m
 self-kept l m h e =
-    subst (Kept l) (sym e) (record { same-party = refl; same_row = refl; same-column = refl; started = h })
+    subst (Kept l) (sym e) (record { same_party = refl; same_row = refl; same_column = refl; started = h })
 
 step_kept : (l : Lamp) (c : Call) → Valid l.party → is_at Waiting l.sharing ≡ false → Kept l (step l c).lamp
 step_kept l c valid h = ⊎_elim (moved c) (λ e. self-kept l (step l c).lamp h (quiet l valid c e)) (true-or-false (awaited l c))
@@ -96,15 +96,15 @@ after_kept l (c ∷ cs) valid h =
 -- ---- a lamp that settled awaits nothing
 pub record Late (l : Lamp) : Type 0 where
   pub waits : is_at Waiting l.sharing ≡ false
-  pub hears-not : is_at Dealt l.sharing ≡ false
-  pub settles-not : is_at Reported l.sharing ≡ false
+  pub hears_not : is_at Dealt l.sharing ≡ false
+  pub settles_not : is_at Reported l.sharing ≡ false
 
 pub settled-late : (l : Lamp) (S : ℕ) → Late (settled l S).lamp
 unfolding at_end
 settled-late l =
     settled-ends l Late
-    (λ S v. record { waits = refl; hears-not = refl; settles-not = refl })
-    (λ S v. record { waits = refl; hears-not = refl; settles-not = refl })
+    (λ S v. record { waits = refl; hears_not = refl; settles_not = refl })
+    (λ S v. record { waits = refl; hears_not = refl; settles_not = refl })
 
 pub and_right : (a b : Bool) → b ≡ false → (a && b) ≡ false
 and_right a b e = ap (λ z. a && z) e ∙ and-false a
@@ -112,10 +112,10 @@ and_right a b e = ap (λ z. a && z) e ∙ and-false a
 pub late-awaits : (l : Lamp) → Late l → (c : Call) → awaited l c ≡ false
 late-awaits l h (take_deal w d) = and_right (deal_fits l w d) (is_at Waiting l.sharing) h.waits
 late-awaits l h (say_pair j) = refl
-late-awaits l h (hear_pairs w hs) = and_right (pairs_fit l w hs) (is_at Dealt l.sharing) h.hears-not
+late-awaits l h (hear_pairs w hs) = and_right (pairs_fit l w hs) (is_at Dealt l.sharing) h.hears_not
 late-awaits l h (settle rs) =
     ap (λ b. b && eqb (entry rs l.party.number) l.sharing.report)
-    (and_right (eqb (length rs) l.party.n) (is_at Reported l.sharing) h.settles-not)
+    (and_right (eqb (length rs) l.party.n) (is_at Reported l.sharing) h.settles_not)
 late-awaits l h (open_shares w xs) = refl
 
 pub never-all : (test : Call → Bool) → ((c : Call) → test c ≡ false) → (cs : List Call) → Never test cs

@@ -96,13 +96,13 @@ reports l hs = record {
   bits = λ j a. (
     λ e.
         let c = confirmed (p l) T i (row_of_lamp l) (column_of_lamp l) hs j (sym (bit-of j a) ∙ e) in
-        record { other = c.other; soundly = soundly l c.soundly; first-right = c.first; second-right = c.second },
+        record { other = c.other; soundly = soundly l c.soundly; first_right = c.first; second_right = c.second },
     λ c.
         bit-of j a ∙ confirms-true (p l) T i (row_of_lamp l) (column_of_lamp l) hs j (record {
           other = c.other;
           soundly = sounds l c.soundly;
-          first = c.first-right;
-          second = c.second-right;
+          first = c.first_right;
+          second = c.second_right;
         }),
   );
 }
@@ -117,4 +117,4 @@ reports l hs = record {
         → member (report_of (p l) l.party.n T i (row_of_lamp l) (column_of_lamp l) hs) j
         ≡ confirms (p l) T i (row_of_lamp l) (column_of_lamp l) hs j
     bit-of j a =
-        report-bit (p l) T i (row_of_lamp l) (column_of_lamp l) hs j l.party.n (party-true l.party.n j a.from_one a.to-n)
+        report-bit (p l) T i (row_of_lamp l) (column_of_lamp l) hs j l.party.n (party-true l.party.n j a.from_one a.to_n)

@@ -1,5 +1,5 @@
 -- Sentences of the protocol about the lamp, each a short theorem: at every state and every list of calls, unless said otherwise.
---   same-party          no call changes the lamp's sizes, number, width and table, nor how many places it has for what it hears
+--   same_party          no call changes the lamp's sizes, number, width and table, nor how many places it has for what it hears
 --   until-it-settles    "Until it settles its share is 0 and its happy set empty."
 --   after-three-calls   "A lamp given these messages in turn is holding or closed after three accepted calls, a settling that gives 8 or 9
 --                       counted among them."
@@ -95,9 +95,9 @@ step_same a l h =
     step-makes (Same a) l h (λ w d ok. h) (λ w hs ok. (h.0, heard_all l.party.n hs (valid-facts l.party ok.0).room))
     (λ rs ok own. settled-ends l (Same a) (λ S v. h) (λ S v. h) (happy_set rs))
 
-pub same-party : (l : Lamp) → length l.sharing.heard ≡ 16 → (cs : List Call)
+pub same_party : (l : Lamp) → length l.sharing.heard ≡ 16 → (cs : List Call)
     → ((after l cs).party ≡ l.party) × (length (after l cs).sharing.heard ≡ 16)
-same-party l long = after-makes (Same l.party) (step_same l.party) l (refl, long)
+same_party l long = after-makes (Same l.party) (step_same l.party) l (refl, long)
 
 -- ---- until it settles
 abbrev Unsettled : Lamp → Type 0
@@ -148,14 +148,14 @@ after-three-calls s i d hs rs ready ld lh lr own =
     let r : Run = in_turn s.width d hs rs in
     let b : Brings s i (whole r) r = record {
       list = refl;
-      own-width = refl;
-      deal-length = ld;
-      deal-first = tt;
-      pairs-length = lh;
+      own_width = refl;
+      deal_length = ld;
+      deal_first = tt;
+      pairs_length = lh;
       pairs_first = tt;
-      reports-length = lr;
-      reports-own = own;
-      reports-first = tt;
+      reports_length = lr;
+      reports_own = own;
+      reports_first = tt;
     } in
     subst (λ (l : Lamp). (l.sharing.stage ≡ Holding) ⊎ (l.sharing.stage ≡ Closed))
     (sym (one.since-settling s i ready (whole r) r b []))
@@ -202,13 +202,13 @@ pub nothing_hidden : (s : Setting) (i : ℕ) (cs : List Call) (r q : Run) → Br
 nothing_hidden s i cs r q br bq =
     let a =
     first-once (is_deal s) r.before_deal (take_deal r.width r.its_deal) _ q.before_deal (take_deal q.width q.its_deal) _
-    br.deal-first bq.deal-first
-    (fits r.width s.width br.own-width _ _ br.deal-length) (fits q.width s.width bq.own-width _ _ bq.deal-length)
+    br.deal_first bq.deal_first
+    (fits r.width s.width br.own_width _ _ br.deal_length) (fits q.width s.width bq.own_width _ _ bq.deal_length)
     (sym (flat r) ∙ sym br.list ∙ bq.list ∙ flat q) in
     let b =
     first-once (is_hearing s) r.before_pairs (hear_pairs r.width r.its_pairs) _ q.before_pairs (hear_pairs q.width q.its_pairs) _
     br.pairs_first bq.pairs_first
-    (fits r.width s.width br.own-width _ _ br.pairs-length) (fits q.width s.width bq.own-width _ _ bq.pairs-length)
+    (fits r.width s.width br.own_width _ _ br.pairs_length) (fits q.width s.width bq.own_width _ _ bq.pairs_length)
     a.2 in
     let deals : r.its_deal ≡ q.its_deal = let e : take_deal r.width r.its_deal ≡ take_deal q.width q.its_deal = a.1 in cc in
     let pairs : r.its_pairs ≡ q.its_pairs = let e : hear_pairs r.width r.its_pairs ≡ hear_pairs q.width q.its_pairs = b.1 in cc in
@@ -217,14 +217,14 @@ nothing_hidden s i cs r q br bq =
     let c =
     first-once (is_settling s i (its r)) r.before_reports (settle r.its_reports) r.rest
     q.before_reports (settle q.its_reports) q.rest
-    br.reports-first (subst (λ k. Never (is_settling s i k) q.before_reports) same bq.reports-first)
-    (ap₂ (λ (x y : Bool). x && y) (eq-eqb (length r.its_reports) s.n br.reports-length)
-    (eq-eqb (entry r.its_reports i) (its r) br.reports-own))
-    (ap₂ (λ (x y : Bool). x && y) (eq-eqb (length q.its_reports) s.n bq.reports-length)
-    (eq-eqb (entry q.its_reports i) (its r) (bq.reports-own ∙ same)))
+    br.reports_first (subst (λ k. Never (is_settling s i k) q.before_reports) same bq.reports_first)
+    (ap₂ (λ (x y : Bool). x && y) (eq-eqb (length r.its_reports) s.n br.reports_length)
+    (eq-eqb (entry r.its_reports i) (its r) br.reports_own))
+    (ap₂ (λ (x y : Bool). x && y) (eq-eqb (length q.its_reports) s.n bq.reports_length)
+    (eq-eqb (entry q.its_reports i) (its r) (bq.reports_own ∙ same)))
     b.2 in
     let seen : r.its_reports ≡ q.its_reports = let e : settle r.its_reports ≡ settle q.its_reports = c.1 in cc in
-    let widths : r.width ≡ q.width = br.own-width ∙ sym bq.own-width in
+    let widths : r.width ≡ q.width = br.own_width ∙ sym bq.own_width in
     λ j. record {
       width = widths j;
       before_deal = a.0 j;

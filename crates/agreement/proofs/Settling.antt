@@ -132,7 +132,7 @@ module _ (l : Lamp) (P : Prime (its_prime l.party)) (rs : List ℕ) (h : Settles
       largest = largest;
       enough = many;
       counted = ones-members n S largest.within;
-      happy-share = λ m. holds-end l S (constant (column_of_lamp l)) (step l (settle rs)) (goes ∙ settled-happy l S many m);
+      happy_share = λ m. holds-end l S (constant (column_of_lamp l)) (step l (settle rs)) (goes ∙ settled-happy l S many m);
     }
       where
         mended : (o : Option (List ℕ)) → (repaired l S o).lamp.sharing.happy ≡ S
@@ -201,7 +201,7 @@ module _ (l : Lamp) (P : Prime (its_prime l.party)) (rs : List ℕ) (h : Settles
       repairs-right =
           let iff = near_none p P t xs ys fine (size-xs ∙ sym size-ys) enough in
           record {
-            none-fits = (
+            none_fits = (
               λ e. iff.0 (sym repair-is ∙ nine e),
               λ e. ap (λ (z : Reply). number_of z.answer) (closed (repair-is ∙ iff.1 e)),
             );

@@ -42,7 +42,7 @@ use Rattle.agreement.specs.Setting.{Setting, setting, Legal}
 use Rattle.agreement.proofs.Deals.{sound-facts, confirmed, report-bit}
 use Rattle.agreement.proofs.Geometry.{neighbour}
 use Rattle.agreement.proofs.Outcomes.{settled-rejects, settled-happy, settled-mended}
-use Rattle.agreement.proofs.Sentences.{step-makes, after-makes, same-party}
+use Rattle.agreement.proofs.Sentences.{step-makes, after-makes, same_party}
 
 -- Once the lamp has reported, a one in its report says that its column has residues.
 abbrev Backed : Lamp → Type 0
@@ -67,7 +67,7 @@ pairs-backed l hs e j party one =
     let said = report-bit (its_prime a) (table_of a) a.number (row_of_lamp l) (column_of_lamp l) hs j a.n party in
     (sound-facts (its_prime a) (table_of a) a.number (row_of_lamp l) (column_of_lamp l)
     (confirmed (its_prime a) (table_of a) a.number (row_of_lamp l) (column_of_lamp l) hs j (sym said ∙ one)).soundly
-    ).column-below
+    ).column_below
 
 -- Nothing at all has the constant 0.
 constant-below : (p : ℕ) (f : List ℕ) → 0 < p → Residues p f → constant f < p
@@ -165,5 +165,5 @@ step-storable l h =
 pub share-residue : (w : Width) (n t i : ℕ) (T : List ℕ) (cs : List Call) → (after (made_with w n t i T) cs).sharing.share < prime_of w
 share-residue w n t i T cs =
     let l : Lamp = made_with w n t i T in
-    subst (λ a. (after l cs).sharing.share < its_prime a) (same-party l refl cs).0
+    subst (λ a. (after l cs).sharing.share < its_prime a) (same_party l refl cs).0
     (after-makes Storable step-storable l (positive w, λ e. absurd (omega arith)) cs).0

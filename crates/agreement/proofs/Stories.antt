@@ -93,14 +93,14 @@ module _ (s : Setting) (q : Plot) where
     few = few;
     brings = λ i h. record {
       list = refl;
-      own-width = refl;
-      deal-length = long i h.party h.good;
-      deal-first = no-deal;
-      pairs-length = length-tabulate _ (2 * s.n);
+      own_width = refl;
+      deal_length = long i h.party h.good;
+      deal_first = no-deal;
+      pairs_length = length-tabulate _ (2 * s.n);
       pairs_first = no_pairs;
-      reports-length = length-tabulate _ s.n;
-      reports-own = own-report i h.party h.good;
-      reports-first = no-reports i _;
+      reports_length = length-tabulate _ s.n;
+      reports_own = own-report i h.party h.good;
+      reports_first = no-reports i _;
     };
     hear = λ i j hi hj d. (
       first-heard i j hj.party ∙ ap (λ (z : ℕ × ℕ). z.0) (honest-pair i j hj.good),
@@ -246,7 +246,7 @@ two-dealers-rejected w =
     ⊎_elim (λ all. all)
     (λ one. absurd (none-eight (sym (one.1.hold 1 first).answered.0 ∙ ap (λ os. head os) (two-dealers-outcome w))))
     (demand3 w 5 1 (one_to 5) (execution (five w) (two_dealers w)) (two-dealers-meet w)
-    (one_table (five w) (two_dealers w) (five-points w)) (one_width (five w) (two_dealers w))).one-verdict
+    (one_table (five w) (two_dealers w) (five-points w)) (one_width (five w) (two_dealers w))).one_verdict
   where
     first : Honest (five w) (execution (five w) (two_dealers w)) 1
     first = record { party = unfold is_party in refl; good = refl }

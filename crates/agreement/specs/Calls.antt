@@ -2,7 +2,7 @@
 --   Run                        a list taken apart at the three calls that bring the lamp its deal, its pairs and its reports, with the
 --                              width of those that lend field numbers
 --   to_deal, to_pairs, to_reports   the calls before each of the three; whole: all of them
---   since_deal r xs             the calls up to the deal, the deal, and the calls xs after it; since_settling likewise
+--   since_deal r xs            the calls up to the deal, the deal, and the calls xs after it; since_settling likewise
 --   At cs xs c                 in the list cs the call c comes right after the calls xs
 --   Begins cs xs               the list cs begins with the calls xs
 --   Never test cs              no call of cs passes the test

@@ -8,11 +8,11 @@
 --   dealt, reported, Fresh     the lamp that a deal or a hearing leaves, and one as made; that of a settling is demand 2's `standing`
 --   refusals l c               the rows of a lamp's call; NoTable, NoColumnFits, NoOpeningFits: when 14, 9 and 10 apply
 --   Sound p T i row column     party i's deal is sound, by its point in the table T; IsSound l: the lamp's is
---   point_in l j                party j's point, as the lamp l has it; row_at, column_at: its row and its column there
+--   point_in l j               party j's point, as the lamp l has it; row_at, column_at: its row and its column there
 --   Says l j a                 the answer a is the lamp's pair for j; SaysNothing l a: both its numbers are "not sent", which a sender of
 --                              the width w writes as `unsent w`
 --   Confirms, Reports          what a one in a report says, and which report is given
---   AcceptedSays l c r              what the reply r to an accepted call says, beside demand 2
+--   AcceptedSays l c r         what the reply r to an accepted call says, beside demand 2
 --   making_refusals, desk_refusals, reader_refusals, writer_refusals   the rows of the other calls
 --   Reads bytes w n r          the answer r of a record's reader that takes the width w and n; what a record is: Records
 --   Demand1                    the demand, for every lamp and desk of either width, with any table
@@ -64,15 +64,15 @@ Replies R done r = Follows R (done r) (number_of r.answer) r.lamp
 
 -- "t is 1 to 3; n is 4t+1 to 16"
 pub record Sizes (n t : ℕ) : Type 0 where
-  pub some-faulty : 1 ≤ t
-  pub few-faulty : t ≤ 3
+  pub some_faulty : 1 ≤ t
+  pub few_faulty : t ≤ 3
   pub enough : 4 * t + 1 ≤ n
   pub few : n ≤ 16
 
 -- "1 to n"
 pub record Among (n i : ℕ) : Type 0 where
   pub from_one : 1 ≤ i
-  pub to-n : i ≤ n
+  pub to_n : i ≤ n
 
 -- ---- what is left
 
@@ -109,20 +109,20 @@ reported l heard report = record {
 -- none, for one of another length.
 pub record Fresh (w : Width) (n t i : ℕ) (T : List ℕ) (l : Lamp) : Type 0 where
   pub same-width : l.party.width ≡ w
-  pub same-n : l.party.n ≡ n
-  pub same-t : l.party.t ≡ t
+  pub same_n : l.party.n ≡ n
+  pub same_t : l.party.t ≡ t
   pub same_number : l.party.number ≡ i
   pub waiting : l.sharing.stage ≡ Waiting
-  pub no-share : l.sharing.share ≡ 0
-  pub no-set : l.sharing.happy ≡ 0
-  pub same-table : n ≤ 16 → length T ≡ n → its_points l ≡ T
-  pub zeros-behind : n ≤ 16 → length T ≡ n → l.party.table ≡ pad 16 T
+  pub no_share : l.sharing.share ≡ 0
+  pub no_set : l.sharing.happy ≡ 0
+  pub same_table : n ≤ 16 → length T ≡ n → its_points l ≡ T
+  pub zeros_behind : n ≤ 16 → length T ≡ n → l.party.table ≡ pad 16 T
   pub no_table : ((n ≤ 16) × (length T ≡ n) → ⊥) → l.party.table ≡ replicate 16 0
 
 -- "every number is below 65,521 and the row at i equals the column at i", i standing for party i's point and 65,521 for the prime
 pub record Sound (p : ℕ) (T : List ℕ) (i : ℕ) (row column : List ℕ) : Type 0 where
   pub row_below : Residues p row
-  pub column-below : Residues p column
+  pub column_below : Residues p column
   pub crossing : value p row (point_at T i) ≡ value p column (point_at T i)
 
 -- Party j's point, as the lamp l has it.
@@ -216,8 +216,8 @@ pub record Says (l : Lamp) (j : ℕ) (a : Answer) : Type 0 where
 pub record Confirms (l : Lamp) (hs : List ℕ) (j : ℕ) : Type 0 where
   pub other : l.party.number ≡ j → ⊥
   pub soundly : IsSound l
-  pub first-right : first_from hs j ≡ column_at l j
-  pub second-right : second_from hs j ≡ row_at l j
+  pub first_right : first_from hs j ≡ column_at l j
+  pub second_right : second_from hs j ≡ row_at l j
 
 -- The report on the pairs hs: bit j−1 is one exactly so, and no bit stands behind the last lamp's.
 pub record Reports (l : Lamp) (hs : List ℕ) (report : ℕ) : Type 0 where
@@ -290,7 +290,7 @@ pub record Demand1 : Type 0 where
       Follows (desk_refusals s F out) (length r.0 ≡ length out) (desks.dealing_number r.1) r.0
   -- Below 128 byte 0 is n; "A wide record has 128 added to byte 0".
   pub reads : (bytes : List ℕ) → get_or bytes 0 0 < 128 → Reads bytes Narrow (get_or bytes 0 0) (records.reading bytes)
-  pub reads-wide : (bytes : List ℕ) → 128 ≤ get_or bytes 0 0 → Reads bytes Wide (get_or bytes 0 0 - 128) (records.reading bytes)
+  pub reads_wide : (bytes : List ℕ) → 128 ≤ get_or bytes 0 0 → Reads bytes Wide (get_or bytes 0 0 - 128) (records.reading bytes)
   -- "A reader that knows narrow records alone takes byte 0 for n, so a wide record is a wrong size (1) to it."
   pub reads_old : (bytes : List ℕ) → Reads bytes Narrow (get_or bytes 0 0) (records.reading_narrow bytes)
   pub writes : (w : Width) (n t : ℕ) (deals pairs reports shares out : List ℕ)

@@ -2,10 +2,10 @@
 -- meet. Which number a refusal has, when it is given and what it leaves is demand 1.
 --   Takes, Hears, Settles, Opens   nothing is wrong with the call: none of 1, 2, 18, 3, 14, 4 and 7 applies
 --   FewAgree n t rs                no n − t parties all agree with each other
---   its_points l                    the points of all parties: the first n numbers of the lamp's table
---   points_in l S, heard_in l S      the points of the parties in S, and what the lamp l heard first from them
+--   its_points l                   the points of all parties: the first n numbers of the lamp's table
+--   points_in l S, heard_in l S    the points of the parties in S, and what the lamp l heard first from them
 --   FitsHeard l S f                f fits that (the protocol's "fits", of a repair, is fit's `Near`)
---   with_own l xs                   the published shares xs with the lamp's own in its own place
+--   with_own l xs                  the published shares xs with the lamp's own in its own place
 --   FitsShares l xs f              f fits these by the rule for openings, fit's `Opening`; NearShares l xs f: at most t of all differ
 --   standing l stage S v           the very lamp l, at this stage, with the set S and the share v
 --   EndsHolding l S v r            the reply r accepts and leaves the lamp l holding, with the set S and the share v
@@ -90,14 +90,14 @@ pub record EndsHolding (l : Lamp) (S v : ℕ) (r : Reply) : Type 0 where
 -- Nothing is wrong with giving the lamp l the deal d, in numbers of the width w.
 pub record Takes (l : Lamp) (w : Width) (d : List ℕ) : Type 0 where
   pub valid : Valid l.party
-  pub own-width : w ≡ l.party.width
+  pub own_width : w ≡ l.party.width
   pub stage : l.sharing.stage ≡ Waiting
   pub long : length d ≡ 2 * suc l.party.t
 
 -- Nothing is wrong with telling the lamp l the pairs hs.
 pub record Hears (l : Lamp) (w : Width) (hs : List ℕ) : Type 0 where
   pub valid : Valid l.party
-  pub own-width : w ≡ l.party.width
+  pub own_width : w ≡ l.party.width
   pub stage : l.sharing.stage ≡ Dealt
   pub long : length hs ≡ 2 * l.party.n
 
@@ -112,7 +112,7 @@ pub record Settles (l : Lamp) (rs : List ℕ) : Type 0 where
 -- Nothing is wrong with opening the shares xs by the lamp l.
 pub record Opens (l : Lamp) (w : Width) (xs : List ℕ) : Type 0 where
   pub valid : Valid l.party
-  pub own-width : w ≡ l.party.width
+  pub own_width : w ≡ l.party.width
   pub stage : l.sharing.stage ≡ Holding
   pub long : length xs ≡ l.party.n
 
@@ -120,14 +120,14 @@ pub record Opens (l : Lamp) (w : Width) (xs : List ℕ) : Type 0 where
 pub record TakesRight (l : Lamp) (w : Width) (d : List ℕ) : Type 0 where
   pub answered : Gives (step l (take_deal w d)).answer []
   pub row_kept : row_of_lamp (step l (take_deal w d)).lamp ≡ row_of l.party.t d
-  pub column-kept : column_of_lamp (step l (take_deal w d)).lamp ≡ column_of l.party.t d
+  pub column_kept : column_of_lamp (step l (take_deal w d)).lamp ≡ column_of l.party.t d
 
 pub record HearsRight (l : Lamp) (w : Width) (hs : List ℕ) : Type 0 where
   pub answered : Gives (step l (hear_pairs w hs)).answer
       (report_of (its_prime l.party) l.party.n (its_points l) l.party.number (row_of_lamp l) (column_of_lamp l) hs ∷ [])
-  pub firsts-kept : (j : ℕ) → is_party l.party.n j ≡ true → entry (step l (hear_pairs w hs)).lamp.sharing.heard j ≡ first_from hs j
+  pub firsts_kept : (j : ℕ) → is_party l.party.n j ≡ true → entry (step l (hear_pairs w hs)).lamp.sharing.heard j ≡ first_from hs j
   pub row_kept : row_of_lamp (step l (hear_pairs w hs)).lamp ≡ row_of_lamp l
-  pub column-kept : column_of_lamp (step l (hear_pairs w hs)).lamp ≡ column_of_lamp l
+  pub column_kept : column_of_lamp (step l (hear_pairs w hs)).lamp ≡ column_of_lamp l
 
 -- "and otherwise accepted with the largest such set under the tie rule", whose ones are its members; a happy party's share is its
 -- column's constant.
@@ -136,18 +136,18 @@ pub record KeepsRight (l : Lamp) (rs : List ℕ) (S : ℕ) : Type 0 where
   pub largest : Largest (agree rs) l.party.n S
   pub enough : l.party.n - l.party.t ≤ ones S
   pub counted : ones S ≡ members S l.party.n
-  pub happy-share : member S l.party.number ≡ true → EndsHolding l S (constant (column_of_lamp l)) (step l (settle rs))
+  pub happy_share : member S l.party.number ≡ true → EndsHolding l S (constant (column_of_lamp l)) (step l (settle rs))
 
 -- "Repair": 9 exactly if nothing fits; what fits is the only one, and its constant is the share.
 pub record RepairsRight (l : Lamp) (rs : List ℕ) (S : ℕ) : Type 0 where
-  pub none-fits : Refuses (step l (settle rs)).answer 9 ↔ ((f : List ℕ) → FitsHeard l S f → ⊥)
+  pub none_fits : Refuses (step l (settle rs)).answer 9 ↔ ((f : List ℕ) → FitsHeard l S f → ⊥)
   pub only : (f g : List ℕ) → FitsHeard l S f → FitsHeard l S g → f ≡ g
   pub fits : (f : List ℕ) → FitsHeard l S f → EndsHolding l S (constant f) (step l (settle rs))
 
 -- "opening": 10 exactly if nothing fits the list with the lamp's own share in its own place; what fits is the only one, and its
 -- constant is answered. "Every list that opened before opens to the same number." The lamp is unchanged.
 pub record OpensRight (l : Lamp) (w : Width) (xs : List ℕ) : Type 0 where
-  pub none-fits : Refuses (step l (open_shares w xs)).answer 10 ↔ ((f : List ℕ) → FitsShares l xs f → ⊥)
+  pub none_fits : Refuses (step l (open_shares w xs)).answer 10 ↔ ((f : List ℕ) → FitsShares l xs f → ⊥)
   pub only : (f g : List ℕ) → FitsShares l xs f → FitsShares l xs g → f ≡ g
   pub fits : (f : List ℕ) → FitsShares l xs f → Gives (step l (open_shares w xs)).answer (constant f ∷ [])
   pub as_before : (f : List ℕ) → NearShares l xs f → Gives (step l (open_shares w xs)).answer (constant f ∷ [])
@@ -158,9 +158,9 @@ pub record OpensRight (l : Lamp) (w : Width) (xs : List ℕ) : Type 0 where
 pub record DealsRight (s : Setting) (F out : List ℕ) : Type 0 where
   pub stretches : desks.dealing_number (desk_for s F out).1 ≡ none → (i : ℕ) → is_party s.n i ≡ true
       → desks.stretch (terms s) (desk_for s F out).0 i ≡ row_for s F i ++ column_for s F i
-  pub all-written : desks.dealing_number (desk_for s F out).1 ≡ none → length (desk_for s F out).0 ≡ s.n * (2 * terms s)
-  pub row-right : (y x : ℕ) → value (prime s) (row (prime s) (terms s) (terms s) F y) x ≡ value_of s F x y
-  pub column-right : length F ≡ terms s * terms s → (x y : ℕ)
+  pub all_written : desks.dealing_number (desk_for s F out).1 ≡ none → length (desk_for s F out).0 ≡ s.n * (2 * terms s)
+  pub row_right : (y x : ℕ) → value (prime s) (row (prime s) (terms s) (terms s) F y) x ≡ value_of s F x y
+  pub column_right : length F ≡ terms s * terms s → (x y : ℕ)
       → value (prime s) (column (prime s) (terms s) (terms s) F x) y ≡ value_of s F x y
 
 -- DEMAND 2, over every lamp and every desk, whatever its width.

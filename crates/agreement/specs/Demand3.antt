@@ -11,10 +11,10 @@
 --   Gives, Refuses     an answer's values, or its number
 --   Speaks, Rejects, Accepts   what it concludes of each lamp; Stray: of a call that changes nothing; Stays: from settling to the end
 --   OnF s e F, share_of s e j   the honest happy rows and columns lie on F; lamp j's share
---   ShareOrUnsent s e i ys     in ys each other honest lamp's place holds that lamp's share or a number that was not sent
---   honest_there s e i ys       how many honest shares are there where lamp i opens ys, its own among them
---   Called, opening_answer      after settling and some calls the list has a call to open; its answer
---   AllReject, AllAccept       what it concludes of all together; Conclusions: all of it
+--   ShareOrUnsent s e i ys   in ys each other honest lamp's place holds that lamp's share or a number that was not sent
+--   honest_there s e i ys   how many honest shares are there where lamp i opens ys, its own among them
+--   Called, opening_answer   after settling and some calls the list has a call to open; its answer
+--   AllReject, AllAccept   what it concludes of all together; Conclusions: all of it
 --   Demand3 w          the demand, for numbers of the width w and any table
 use Rattle.std.specs.Prelude.{◌≡◌, ◌⊎◌, Bool, true, not, ◌&&◌, ◌||◌, List, [], ◌∷◌, ℕ, ◌+◌, ◌*◌, ◌≤◌, ◌<◌, ltb, eqb, length, get_or}
 use Rattle.std.proofs.Math.Option.{none, some}
@@ -68,14 +68,14 @@ module _ (s : Setting) where
   -- reports and its own report in its place": the list cs brings lamp i these three, deal and pairs by calls of its own width.
   pub record Brings (i : ℕ) (cs : List Call) (r : Run) : Type 0 where
     pub list : cs ≡ whole r
-    pub own-width : r.width ≡ s.width
-    pub deal-length : length r.its_deal ≡ 2 * terms s
-    pub deal-first : Never (is_deal s) r.before_deal
-    pub pairs-length : length r.its_pairs ≡ 2 * s.n
+    pub own_width : r.width ≡ s.width
+    pub deal_length : length r.its_deal ≡ 2 * terms s
+    pub deal_first : Never (is_deal s) r.before_deal
+    pub pairs_length : length r.its_pairs ≡ 2 * s.n
     pub pairs_first : Never (is_hearing s) r.before_pairs
-    pub reports-length : length r.its_reports ≡ s.n
-    pub reports-own : entry r.its_reports i ≡ report_by s i r.its_deal r.its_pairs
-    pub reports-first : Never (is_settling s i (report_by s i r.its_deal r.its_pairs)) r.before_reports
+    pub reports_length : length r.its_reports ≡ s.n
+    pub reports_own : entry r.its_reports i ≡ report_by s i r.its_deal r.its_pairs
+    pub reports_first : Never (is_settling s i (report_by s i r.its_deal r.its_pairs)) r.before_reports
 
   module _ (e : Execution) where
     -- Lamp i is one of the honest ones.
@@ -181,10 +181,10 @@ module _ (s : Setting) where
         pub opens : (xs : List Call) (ys : List ℕ) → Called xs ys → length ys ≡ s.n
             → ((j : ℕ) → Honest j → (j ≡ i → ⊥) → entry ys j ≡ share_of j)
             → Gives (opening_answer xs ys) (value_of s F 0 0 ∷ [])
-        pub opens-enough : (xs : List Call) (ys : List ℕ) → Called xs ys → length ys ≡ s.n
+        pub opens_enough : (xs : List Call) (ys : List ℕ) → Called xs ys → length ys ≡ s.n
             → ShareOrUnsent i ys → 2 * s.t + 1 ≤ honest_there i ys
             → Gives (opening_answer xs ys) (value_of s F 0 0 ∷ [])
-        pub opens-no-other : (xs : List Call) (ys : List ℕ) → Called xs ys → length ys ≡ s.n
+        pub opens_no_other : (xs : List Call) (ys : List ℕ) → Called xs ys → length ys ≡ s.n
             → ShareOrUnsent i ys
             → Gives (opening_answer xs ys) (value_of s F 0 0 ∷ []) ⊎ Refuses (opening_answer xs ys) 10
 
@@ -200,7 +200,7 @@ module _ (s : Setting) where
 
     -- Exactly this F, and every honest lamp accepts with it; the happy set is the one of step 4.
     pub record AllAccept (F : List ℕ) : Type 0 where
-      pub set-right : Largest (agree e.seen) s.n (happy_set e.seen)
+      pub set_right : Largest (agree e.seen) s.n (happy_set e.seen)
       pub on : OnF F
       pub only : (G : List ℕ) → OnF G → G ≡ F
       pub hold : (i : ℕ) → Honest i → Accepts (own i) i F
@@ -208,7 +208,7 @@ module _ (s : Setting) where
     -- One verdict; an honest dealer is accepted, with F its own, and F(0, 0) is its secret, the number at place 0.
     pub record Conclusions : Type 0 where
       pub speak : (i : ℕ) → Honest i → Speaks (own i) i
-      pub one-verdict : AllReject ⊎ ((F : List ℕ) × AllAccept F)
+      pub one_verdict : AllReject ⊎ ((F : List ℕ) × AllAccept F)
       pub dealer : (F : List ℕ) → HonestDealer F → AllAccept F × (value_of s F 0 0 ≡ get_or F 0 0)
 
 -- DEMAND 3, for numbers of either width, with any table.

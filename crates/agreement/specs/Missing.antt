@@ -1,7 +1,7 @@
 -- Openings with lamps dark, whose shares are missing, as a table of cases for either width. The shares lie on 7 + 3X (t = 1),
 -- 7 + 3X + X² (t = 2) and 7 + X + X² + X³ (t = 3).
 --   missing_shares w   five lamps, the request's lists among them
---   unaffected w      M3 to M6 again
+--   unaffected w       M3 to M6 again
 --   missing_pairs w    a repair where happy lamps said nothing
 --   most_missing w     nine and thirteen lamps: the most missing that still open, and one more; the most that lie, and one more
 -- Shown true in proofs/Marked.

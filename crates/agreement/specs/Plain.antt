@@ -49,6 +49,6 @@ pub record Plain (w : Width) : Type 0 where
       Follows (plain_dealing w n t F out) (length r.0 ≡ length out) (dealing_number r.1) r.0
   pub dealt : (n t : ℕ) (F out : List ℕ) → dealing_number (desk (prime_of w) n t F out).1 ≡ none → (i : ℕ) → is_party n i ≡ true
       → stretch (suc t) (desk (prime_of w) n t F out).0 i ≡ row (prime_of w) (suc t) (suc t) F i ++ column (prime_of w) (suc t) (suc t) F i
-  pub never-14 : (n t i : ℕ) (cs : List Call) (c : Call) → Refuses (step (after (made w n t i) cs) c).answer 14 → ⊥
+  pub never_14 : (n t i : ℕ) (cs : List Call) (c : Call) → Refuses (step (after (made w n t i) cs) c).answer 14 → ⊥
   pub agreement : (n t : ℕ) (e : Execution) → ((i : ℕ) → Honest (plain w n t) e i → e.tables i ≡ one_to n) → OneWidth (plain w n t) e
       → Premises (plain w n t) e → Conclusions (plain w n t) e

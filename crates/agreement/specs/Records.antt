@@ -1,8 +1,8 @@
 -- The protocol's record ("The record") in its own digits, so that what a reader must answer leans on no definition of the code's.
 --   two_bytes bytes at        "16 bits, high byte first": the number at a place
---   Directory bytes d p r s  bytes 2 to 17 and the end, for sections of d, p, r and s bytes
+--   Directory bytes d p r s   bytes 2 to 17 and the end, for sections of d, p, r and s bytes
 --   lengths_of w n t          the lengths of the four sections of a record of the width w
---   IsLaid w n t bytes       the bytes have its directory and its end
+--   IsLaid w n t bytes        the bytes have its directory and its end
 --   whole_length w n t        how many bytes that record has
 use Rattle.std.specs.Prelude.{◌≡◌, List, ℕ, ◌+◌, ◌*◌, length, get_or}
 use Rattle.field.specs.declared.Width.{Width}
@@ -14,14 +14,14 @@ two_bytes bytes at = get_or bytes at 0 * 256 + get_or bytes (at + 1) 0
 
 -- "The first offset is 18; each section begins where the one before it ends, and the last ends the record."
 pub record Directory (bytes : List ℕ) (deals pairs reports shares : ℕ) : Type 0 where
-  pub deals-from : two_bytes bytes 2 ≡ 18
-  pub deals-long : two_bytes bytes 4 ≡ deals
-  pub pairs-from : two_bytes bytes 6 ≡ 18 + deals
-  pub pairs-long : two_bytes bytes 8 ≡ pairs
-  pub reports-from : two_bytes bytes 10 ≡ 18 + deals + pairs
-  pub reports-long : two_bytes bytes 12 ≡ reports
-  pub shares-from : two_bytes bytes 14 ≡ 18 + deals + pairs + reports
-  pub shares-long : two_bytes bytes 16 ≡ shares
+  pub deals_from : two_bytes bytes 2 ≡ 18
+  pub deals_long : two_bytes bytes 4 ≡ deals
+  pub pairs_from : two_bytes bytes 6 ≡ 18 + deals
+  pub pairs_long : two_bytes bytes 8 ≡ pairs
+  pub reports_from : two_bytes bytes 10 ≡ 18 + deals + pairs
+  pub reports_long : two_bytes bytes 12 ≡ reports
+  pub shares_from : two_bytes bytes 14 ≡ 18 + deals + pairs + reports
+  pub shares_long : two_bytes bytes 16 ≡ shares
   pub end : length bytes ≡ 18 + deals + pairs + reports + shares
 
 -- With two bytes for a number 4n(t+1), 4n², 2n and 2n; "deals have 8n(t+1) bytes, round two 8n², reports 2n, published shares 4n".

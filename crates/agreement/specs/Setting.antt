@@ -1,16 +1,16 @@
 -- What stays fixed throughout one sharing, as one record, and the protocol's notions in it.
---   Setting                         the width of the numbers, the number n of parties, t, how many of them may be faulty, and the table of
+--   Setting                          the width of the numbers, the number n of parties, t, how many of them may be faulty, and the table of
 --                                   their points
---   setting w n t T                 the four together
+--   setting w n t T                  the four together
 --   with_table s T                   the same with another table
---   prime s                         the prime of its width
---   Legal s                         that is a prime, n and t are within the sizes, and the table is one
---   terms s                         t + 1: how many coefficients a row or a column has
---   point s i                       party i's point
+--   prime s                          the prime of its width
+--   Legal s                          that is a prime, n and t are within the sizes, and the table is one
+--   terms s                          t + 1: how many coefficients a row or a column has
+--   point s i                        party i's point
 --   value_of s F x y                 F(x, y)
---   row_for s F i, column_for s F i   party i's row F(X, x) and column F(x, Y), x being its point
+--   row_for s F i, column_for s F i  party i's row F(X, x) and column F(x, Y), x being its point
 --   zero_row s F                     F(X, 0): its value at party i's point is i's share, its constant the secret
---   dealt_row s d, dealt_column s d   row and column in the deal d
+--   dealt_row s d, dealt_column s d  row and column in the deal d
 --   pair_by s i d j                  party i's pair for j, by its deal d
 --   report_by s i d hs               party i's report, by its deal d and the pairs hs that it heard
 --   desk_for s F out                 what the desk makes of the lent list out, and its answer

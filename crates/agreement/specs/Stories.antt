@@ -4,7 +4,7 @@
 --   five_with w T, five w   n = 5 and t = 1 with the table T, and without one
 --   other w           the other width, of calls that go astray
 --   one_lie, two_missing, lie_alone   lists of published shares, at any table: lamp 3 lies, lamps 4 and 5 are dark besides, all others are
---   honest_dealer      a plot at any table; liar, two_dealers: two without one
+--   honest_dealer     a plot at any table; liar, two_dealers: two without one
 -- A plot within the sizes, with at most t faulty lamps, deals of the right length and no earlier right call, meets the premises:
 -- proofs/Stories.
 use Rattle.std.specs.Prelude.{Bool, true, cond, not, List, [], ◌∷◌, ℕ, suc, ◌*◌, ◌/◌, ◌%◌, eqb, leb, replicate}

@@ -1,7 +1,7 @@
 -- The lowest refusal that applies.
---   also_all       tests asked one after the other, as code asks them; in_order: that is the lowest refusal
---   AllPass       every test passes; lowest-pass: where none is refused they do
---   also-failed, also-fails   the two ways to fail
+--   also_all                    tests asked one after the other, as code asks them; in_order: that is the lowest refusal
+--   AllPass                     every test passes; lowest-pass: where none is refused they do
+--   also-failed, also-fails     the two ways to fail
 --   lowest-first, lowest-then   two lists of tests: the first list settles it, or passes
 --   lowest-also, passed-more    one test more; such that pass
 --   number-not-0                no refusal has the number 0

@@ -1,6 +1,6 @@
 -- What a fit answers.
 --   decoded o        the struct for the polynomial that fits, or for none
---   refused_fit why   the struct where there was nothing to decode
+--   refused_fit why  the struct where there was nothing to decode
 --   constant f       the constant of a polynomial
 use Rattle.std.proofs.Math.Option.{Option, none, some}
 use Rattle.std.specs.Prelude.{List, [], ℕ, get_or}

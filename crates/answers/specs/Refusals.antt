@@ -1,5 +1,5 @@
 -- Why a call is refused (docs/PROTOCOL.md, "What is refused").
---   refusal_number        the number of a refusal
+--   refusal_number       the number of a refusal
 --   lowest tests         the refusal of the first test that fails, which is the lowest but for 14 and 18
 --   also earlier b why   what is found with one test more
 -- Laws: proofs/Tests.

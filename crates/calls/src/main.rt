@@ -20,6 +20,7 @@ use lamp::{Lamp, Reply};
 use recovery::Decoder;
 use std::io;
 use std::io::{Read, Write};
+use std::process::ExitCode;
 
 // The lamp after a call, and whether there was one whose line is written.
 #[derive(Clone, Copy)]
@@ -301,9 +302,12 @@ fn run<R: Read, W: Write>(input: &mut R, out: &mut W) -> io::Result<()> {
     Ok(())
 }
 
-fn main(rt: HostRuntime) {
-    if let Err(error) = run(&mut rt.stdin(), &mut rt.stdout()) {
-        let what = b"calls: a line could not be written";
-        replies::unwritten(&mut rt.stderr(), rt.alloc(), what, error);
+fn main(rt: HostRuntime) -> ExitCode {
+    match run(&mut rt.stdin(), &mut rt.stdout()) {
+        Ok(()) => ExitCode::SUCCESS,
+        Err(error) => {
+            let what = b"calls: a line could not be written";
+            replies::unwritten(&mut rt.stderr(), rt.alloc(), what, error)
+        }
     }
 }

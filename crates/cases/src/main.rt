@@ -7,6 +7,7 @@ ghost use Rattle.transcript.specs.Transcript.{text};
 
 use std::env::FillError;
 use std::io::{ErrorKind, Read, Write};
+use std::process::ExitCode;
 use std::rt::{Env, Files};
 use std::{fs, io};
 
@@ -34,14 +35,13 @@ fn put_file<R: Read, W: Write>(path: &[u8], file: &mut R, out: &mut W) -> io::Re
     replies::put_text(file, out)
 }
 
-// The same on standard output. Where that cannot be written it says why.
-fn shown<R: Read>(rt: &HostRuntime, path: &[u8], file: &mut R) -> bool {
+// The same on standard output. Where that cannot be written it says why, and answers the status to end with.
+fn shown<R: Read>(rt: &HostRuntime, path: &[u8], file: &mut R) -> Result<(), ExitCode> {
     match put_file(path, file, &mut rt.stdout()) {
-        Ok(()) => true,
+        Ok(()) => Ok(()),
         Err(error) => {
             let what = b"cases: the text could not be written";
-            replies::unwritten(&mut rt.stderr(), rt.alloc(), what, error);
-            false
+            Err(replies::unwritten(&mut rt.stderr(), rt.alloc(), what, error))
         }
     }
 }
@@ -54,35 +54,36 @@ fn opened<R: Files>(rt: &R, path: &[u8]) -> io::Result<R::File> {
     }
 }
 
-// The file of this name, or why it cannot be opened; whether there is any use in going on.
-fn named(rt: &HostRuntime, path: &[u8]) -> bool {
+// The file of this name, or why it cannot be opened; or the status to end with.
+fn named(rt: &HostRuntime, path: &[u8]) -> Result<(), ExitCode> {
     match opened(rt, path) {
         Ok(mut file) => shown(rt, path, &mut file),
         Err(error) => {
             replies::fail(&mut rt.stderr(), rt.alloc(), path, error);
-            true
+            Ok(())
         }
     }
 }
 
-// The same of the name that is argument i. Behind the last one there is none.
-fn case(rt: &HostRuntime, i: usize) -> bool {
+// The same of the name that is argument i. Behind the last one there is none, and no more to do.
+fn case(rt: &HostRuntime, i: usize) -> Result<(), ExitCode> {
     let mut path = [0u8; 4096];
     match rt.arg(i, &mut path) {
         Ok(n) => named(rt, &path[..n]),
         Err(FillError::TooLong) => {
             let error = io::Error::new(ErrorKind::InvalidFilename, "File name too long");
             replies::fail(&mut rt.stderr(), rt.alloc(), b"cases", error);
-            true
+            Ok(())
         }
-        Err(FillError::NotPresent) => false,
+        Err(FillError::NotPresent) => Err(ExitCode::SUCCESS),
     }
 }
 
-fn main(rt: HostRuntime) {
+fn main(rt: HostRuntime) -> ExitCode {
     for i in 1..usize::MAX {
-        if !case(&rt, i) {
-            return;
+        if let Err(status) = case(&rt, i) {
+            return status;
         }
     }
+    ExitCode::SUCCESS
 }

@@ -1,11 +1,11 @@
 -- What follows from a party's deal: whether it is sound, the pairs it says, the report it gives.
---   row_of t d, column_of t d         row and column in a deal of 2(t + 1) numbers
+--   row_of t d, column_of t d           row and column in a deal of 2(t + 1) numbers
 --   first_from hs j, second_from hs j   the two numbers heard from party j, in a list of n pairs
---   sound p T i row column          the deal is sound (docs/PROTOCOL.md, "A lamp"), by party i's point in the table T
---   pair_for p T i row column j      party i's pair for j
---   said q                          a pair as the code answers it
+--   sound p T i row column              the deal is sound (docs/PROTOCOL.md, "A lamp"), by party i's point in the table T
+--   pair_for p T i row column j         party i's pair for j
+--   said q                              a pair as the code answers it
 --   confirms_by p T i row column j a b  party i has a one for j, which said a and b; confirms p T i row column hs j: by the pairs heard
---   report_of p n T i row column hs  party i's report
+--   report_of p n T i row column hs     party i's report
 --   report_by p n T i row column fs ss  the same by the first numbers heard and the second ones, two lists
 --   report_in p n T i row column fs ss  the same for every input: no_report, which no party reports, where it cannot be made
 -- Laws: proofs/Reports.

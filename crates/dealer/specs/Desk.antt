@@ -2,9 +2,9 @@
 --   deal p w T F i            party i's deal, with w = t + 1: row and column at its point in the table T, constants first
 --   deals p w T F n           the deals of parties 1 to n, in order
 --   stretch w out i           party i's own part of a list of deals
---   desk_tests p n t T F room  what the desk looks at, in the order of the refusals: size_tests, then length_tests, then content_tests
---   dealing_number             the protocol's number of an answer
---   desk_with p n t T F out    the list afterwards, and the answer, with the table T; desk p n t F out: without one
+--   desk_tests p n t T F room   what the desk looks at, in the order of the refusals: size_tests, then length_tests, then content_tests
+--   dealing_number            the protocol's number of an answer
+--   desk_with p n t T F out   the list afterwards, and the answer, with the table T; desk p n t F out: without one
 -- Laws: proofs/Desk.
 use Rattle.std.proofs.Math.Option.{Option, none, some}
 use Rattle.std.specs.Prelude.{List, [], ◌∷◌, ◌++◌, ℕ, zero, suc, ◌*◌, ◌-◌, eqb, length, take, drop}

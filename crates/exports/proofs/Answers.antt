@@ -91,8 +91,8 @@ module _ (t : ℕ) (xs ys column : List ℕ) where
       let lists = sizes.1.1 in
       let rest = lists.1.1 in (
         record {
-          some-faulty = leb-true 1 t sizes.0;
-          few-faulty = leb-true t 3 sizes.1.0;
+          some_faulty = leb-true 1 t sizes.0;
+          few_faulty = leb-true t 3 sizes.1.0;
           lengths = eqb-true (length xs) (length ys) lists.0;
           enough = leb-true (3 * t + 1) (length xs) lists.1.0;
           most = leb-true (length xs) 16 rest.0;
@@ -103,8 +103,8 @@ module _ (t : ℕ) (xs ys column : List ℕ) where
   pub repairs-tests : Repairs t xs ys → length column ≡ suc t → sized t xs ys column ≡ Pass
   repairs-tests r room =
       rw (
-        le-leb 1 t r.some-faulty,
-        le-leb t 3 r.few-faulty,
+        le-leb 1 t r.some_faulty,
+        le-leb t 3 r.few_faulty,
         eq-eqb (length xs) (length ys) r.lengths,
         le-leb (3 * t + 1) (length xs) r.enough,
         le-leb (length xs) 16 r.most,
@@ -156,7 +156,7 @@ module _ (p t : ℕ) (xs ys : List ℕ) where
   pub points-fit : Repairs t xs ys → is_table p (length xs) xs ≡ true → fit_in p t (length xs - t) xs ys ≡ repair_fit p t xs ys
   points-fit r e =
       fit-least p t (length xs - t) xs ys (record {
-        degree = r.few-faulty;
+        degree = r.few_faulty;
         bounded = record { lengths = r.lengths; most = r.most };
         enough = omega (arith, r.enough);
       }) (omega (arith, r.lengths, r.enough, sent-length p ys))

@@ -2,10 +2,10 @@
 -- of the refusal.
 --   dealing_at p n t T F out        dealing by the desk with the table T; dealing p n t F out: without one
 --   repair_tests p t xs m room      what a repair is looked at for, with m values and room for `room` coefficients; repair_sizes: at first
---   repairing p t xs ys column     the repair of a column from the points with the coordinates xs and ys
+--   repairing p t xs ys column      the repair of a column from the points with the coordinates xs and ys
 --   opening_lengths n t m k         what an opening of m shares at k points is looked at for at first; opening_tests: all of it
 --   opening_at p n t T shares old   the opening of a published list by itself with the table T; opening p n t shares old: without one
---   rendered bytes out             the text of a record, and its length, 0 where it has no room
+--   rendered bytes out              the text of a record, and its length, 0 where it has no room
 -- Laws: proofs/Answers by the tests, proofs/Near for what a repair and an opening mean.
 use Rattle.std.proofs.Math.Option.{Option, none, some}
 use Rattle.std.specs.Prelude.{List, [], ◌∷◌, ◌++◌, ℕ, suc, ◌+◌, ◌*◌, ◌-◌, leb, eqb, length}

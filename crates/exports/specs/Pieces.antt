@@ -1,7 +1,7 @@
 -- What the code makes of a fit's answer.
 --   column_by o f old        the coefficients f over the whole list, and the number
 --   opened_by o v old        the constant v, and the number
---   Repairs t xs ys         the sizes of a repair are right; Openings p n t T shares: all of an opening is
+--   Repairs t xs ys          the sizes of a repair are right; Openings p n t T shares: all of an opening is
 -- Laws: proofs/Answers.
 use Rattle.std.specs.Prelude.{◌≡◌, true, List, ℕ, ◌+◌, ◌*◌, ◌≤◌, length, take}
 use Rattle.answers.specs.declared.Refusal.TheVariants.{NoColumn, NoOpening}
@@ -25,8 +25,8 @@ opened_by (Refused why) v old = (old, refusal_number why)
 
 -- What the sizes of a repair ask for: t, and a value for each of 3t+1 to 16 points.
 pub record Repairs (t : ℕ) (xs ys : List ℕ) : Type 0 where
-  pub some-faulty : 1 ≤ t
-  pub few-faulty : t ≤ 3
+  pub some_faulty : 1 ≤ t
+  pub few_faulty : t ≤ 3
   pub lengths : length xs ≡ length ys
   pub enough : 3 * t + 1 ≤ length xs
   pub most : length xs ≤ 16

@@ -81,8 +81,8 @@ module _ (p y x₀ x₁ x₂ x₃ e₁ e₂ e₃ : ℕ) where
   abbrev high : ℕ
   high = mul p third (sub p x₃ x₂)
 
-  abbrev over-all : ℕ
-  over-all = inv p (runs p x₀ x₁ x₂ x₃)
+  abbrev over_all : ℕ
+  over_all = inv p (runs p x₀ x₁ x₂ x₃)
 
   -- The difference between e / r and e₁ / r₁, times both runs.
   abbrev above : ℕ → ℕ → ℕ
@@ -90,9 +90,9 @@ module _ (p y x₀ x₁ x₂ x₃ e₁ e₂ e₃ : ℕ) where
 
   pub by-quotients : Prime p → e₁ < p → e₂ < p → e₃ < p → 0 < runs p x₀ x₁ x₂ x₃
       → y
-      ∷ mul p (mul p e₁ second) (mul p over-all high)
-      ∷ mul p (above e₂ r₂) (mul p over-all high)
-      ∷ mul p (sub p (mul p (above e₃ r₃) second) (mul p (above e₂ r₂) third)) over-all
+      ∷ mul p (mul p e₁ second) (mul p over_all high)
+      ∷ mul p (above e₂ r₂) (mul p over_all high)
+      ∷ mul p (sub p (mul p (above e₃ r₃) second) (mul p (above e₂ r₂) third)) over_all
       ∷ []
       ≡ coefficients
   by-quotients P h₁ h₂ h₃ unequal =
@@ -104,10 +104,10 @@ module _ (p y x₀ x₁ x₂ x₃ e₁ e₂ e₃ : ℕ) where
       let u-second = unit_left p second r₁ u-low in
       let u-third = unit_left p third (sub p x₃ x₂) u-high in
       let u-first = unit-right p second r₁ u-low in
-      let over-low : mul p over-all high ≡ inv p low = inv-factor p P low high u-high in
-      let b : mul p (mul p e₁ second) (mul p over-all high) ≡ mul p e₁ (inv p r₁) =
+      let over-low : mul p over_all high ≡ inv p low = inv-factor p P low high u-high in
+      let b : mul p (mul p e₁ second) (mul p over_all high) ≡ mul p e₁ (inv p r₁) =
       ap (mul p (mul p e₁ second)) (over-low ∙ ap (inv p) (mul_comm p second r₁)) ∙ over-factor p P e₁ r₁ second u-second in
-      let c : mul p (above e₂ r₂) (mul p over-all high) ≡ mul p (above e₂ r₂) (inv p low) = ap (mul p (above e₂ r₂)) over-low in
+      let c : mul p (above e₂ r₂) (mul p over_all high) ≡ mul p (above e₂ r₂) (inv p low) = ap (mul p (above e₂ r₂)) over-low in
       let slope-from : (e r x : ℕ) → (r % p ≡ 0 → ⊥)
       → slope p x₁ _ x (mul p e (inv p r)) ≡ mul p (above e r) (inv p (mul p (mul p r (sub p x x₁)) r₁)) =
       λ e r x h. ap (λ (n : ℕ). slope p x₁ n x (mul p e (inv p r))) b ∙ one-quotient p P e r e₁ r₁ (sub p x x₁) h u-first in

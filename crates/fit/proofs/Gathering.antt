@@ -23,23 +23,23 @@ points-next (u ∷ xs) (v ∷ ys) x y l = ap (λ qs. (u, v) ∷ qs) (points-next
 pub record Gathering (p m : ℕ) (xs ys px py : List ℕ) (d i : ℕ) : Type 0 where
   pub few : d ≤ m
   pub inside : i ≤ length xs
-  pub width-x : length px ≡ m
-  pub width-y : length py ≡ m
+  pub width_x : length px ≡ m
+  pub width_y : length py ≡ m
   pub split : points_of (take d px) (take d py) ++ points_sent p (drop i xs) (drop i ys) ≡ points_sent p xs ys
 
 module _ (p m : ℕ) (xs ys px py : List ℕ) where
   pub gathering-start : length px ≡ m → length py ≡ m → Gathering p m xs ys px py 0 0
-  gathering-start lx ly = record { few = omega arith; inside = omega arith; width-x = lx; width-y = ly; split = refl }
+  gathering-start lx ly = record { few = omega arith; inside = omega arith; width_x = lx; width_y = ly; split = refl }
 
   module _ (d i : ℕ) (g : Gathering p m xs ys px py d i) where
     abbrev gathered : List (ℕ × ℕ)
     gathered = points_of (take d px) (take d py)
 
     same_size : length (take d px) ≡ length (take d py)
-    same_size = length-take-le d px (omega (arith, g.few, g.width-x)) ∙ sym (length-take-le d py (omega (arith, g.few, g.width-y)))
+    same_size = length-take-le d px (omega (arith, g.few, g.width_x)) ∙ sym (length-take-le d py (omega (arith, g.few, g.width_y)))
 
     gathered-size : length gathered ≡ d
-    gathered-size = length-points (take d px) (take d py) same_size ∙ length-take-le d px (omega (arith, g.few, g.width-x))
+    gathered-size = length-points (take d px) (take d py) same_size ∙ length-take-le d px (omega (arith, g.few, g.width_x))
 
     -- With so many points among them the lists do not end before they are gathered.
     pub gathering-short : m ≤ length (points_sent p xs ys) → d < m → length xs ≤ i → ⊥
@@ -51,7 +51,7 @@ module _ (p m : ℕ) (xs ys px py : List ℕ) where
     pub gathering-done : m ≤ d → points_of px py ≡ take m (points_sent p xs ys)
     gathering-done h =
         let full : d ≡ m = omega (arith, g.few) in
-        sym (ap₂ points_of (take_all d px (omega (arith, g.width-x))) (take_all d py (omega (arith, g.width-y))))
+        sym (ap₂ points_of (take_all d px (omega (arith, g.width_x))) (take_all d py (omega (arith, g.width_y))))
         ∙ sym (take_at gathered (points_sent p (drop i xs) (drop i ys)) m (gathered-size ∙ full))
         ∙ ap (take m) g.split
 
@@ -60,8 +60,8 @@ module _ (p m : ℕ) (xs ys px py : List ℕ) where
       gathering-unsent q = record {
         few = g.few;
         inside = omega arith;
-        width-x = g.width-x;
-        width-y = g.width-y;
+        width_x = g.width_x;
+        width_y = g.width_y;
         split = ap (λ qs. gathered ++ qs) (sym (points-sent-over p xs ys lengths i h q)) ∙ g.split;
       }
 
@@ -75,10 +75,10 @@ module _ (p m : ℕ) (xs ys px py : List ℕ) where
           record {
             few = omega arith;
             inside = omega arith;
-            width-x = length-set px d x ∙ g.width-x;
-            width-y = length-set py d y ∙ g.width-y;
+            width_x = length-set px d x ∙ g.width_x;
+            width_y = length-set py d y ∙ g.width_y;
             split =
-                ap₂ (λ u v. points_of u v ++ rest) (next x px g.width-x) (next y py g.width-y)
+                ap₂ (λ u v. points_of u v ++ rest) (next x px g.width_x) (next y py g.width_y)
                 ∙ ap (λ qs. qs ++ rest) (points-next (take d px) (take d py) x y same_size)
                 ∙ append_assoc gathered ((x, y) ∷ []) rest
                 ∙ ap (λ qs. gathered ++ qs) (sym (points-sent-next p xs ys lengths i h q))

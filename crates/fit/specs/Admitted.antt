@@ -1,5 +1,5 @@
 -- What `fit` answers for every input.
---   Admitted t least xs ys  what is decoded; fit_tests t least xs ys are the tests for it, in the order of their numbers
+--   Admitted t least xs ys   what is decoded; fit_tests t least xs ys are the tests for it, in the order of their numbers
 --   decoded_if a o           what is answered where the tests gave a: the refusal, or else what was decoded
 --   fitted_of r              what is answered for what was found by trial
 --   fit_in p t least xs ys   what `fit` answers

@@ -3,7 +3,7 @@
 --   wrong p f xs ys       how many of the points sent differ from f
 --   Opening p t xs ys f   f has degree at most t, at least 2t + 1 points agree with it, and at most t of those sent differ
 --   needed t least s      how many of s values sent must agree where `least` must, and all but t
---   opening_of p t xs ys   the polynomial that opens, if one does
+--   opening_of p t xs ys  the polynomial that opens, if one does
 -- Laws: proofs/Opening.
 use Rattle.std.specs.Prelude.{not, List, ℕ, suc, ◌+◌, ◌*◌, ◌-◌, ◌≤◌, max}
 use Rattle.std.proofs.Math.Option.{Option}

@@ -1,5 +1,5 @@
 -- d R − g Q: length, residues, values, and its top, which is that of R times d where Q is shorter.
---   value-split, length-tail, get_or-tail                    a list by its constant and the rest
+--   value-split, length-tail, get_or-tail                  a list by its constant and the rest
 --   length-mixed, mixed-residues, value-mixed, mixed-top   of d R − g Q
 use mathlib.Core.Path.{◌≡◌, refl, sym, ap, ap₂, ◌∙◌}
 use mathlib.Core.List.{List, [], ◌∷◌, tail}

@@ -1,5 +1,5 @@
 -- The product of X − x for the first points.
---   roots_of p xs k, roots-of         the product for the first k points, and that it is
+--   roots_of p xs k, roots-of        the product for the first k points, and that it is
 --   Rooting p xs out k, rooting-..   the loop of `roots`: out holds in front the product for the first k points
 use mathlib.Core.Path.{◌≡◌, refl, sym, ap, subst, ◌∙◌}
 use mathlib.Core.List.{List, [], ◌∷◌, ◌++◌}

@@ -187,7 +187,7 @@ module _ (p : ℕ) (P : Prime p) (xs ys : List ℕ) (points : Residues p xs) (k 
         subst (λ i. Solution p i (suc (suc b)) xs ys (suc k) (raise p x (0 ∷ Q2)) (raise p x (0 ∷ E2))) n (raised-one _ _ Q2 E2 s.two)
 
     two-top : get_or (raise p x (0 ∷ E2)) (suc b) 0 ≡ 0 → ⊥
-    two-top = raised-top-not b E2 s.two.locator.size s.top-two
+    two-top = raised-top-not b E2 s.two.locator.size s.top_two
 
     -- Where the first holds the second is raised, and the other way round.
     pub first_holds : d1 ≡ 0 → Solutions p t xs ys (suc k) a (suc b) Q1 E1 (raise p x (0 ∷ Q2)) (raise p x (0 ∷ E2))
@@ -197,7 +197,7 @@ module _ (p : ℕ) (P : Prime p) (xs ys : List ℕ) (points : Residues p xs) (k 
       one = kept _ _ Q1 E1 s.one e;
       two = two-raised;
       top_one = s.top_one;
-      top-two = two-top;
+      top_two = two-top;
     }
 
     pub second_holds : d2 ≡ 0 → Solutions p t xs ys (suc k) (suc a) b (raise p x (0 ∷ Q1)) (raise p x (0 ∷ E1)) Q2 E2
@@ -207,7 +207,7 @@ module _ (p : ℕ) (P : Prime p) (xs ys : List ℕ) (points : Residues p xs) (k 
       one = one-raised;
       two = kept _ _ Q2 E2 s.two e;
       top_one = one-top;
-      top-two = s.top-two;
+      top_two = s.top_two;
     }
 
     -- The first, where it has the lower degree, is taken from the second, and raised.
@@ -219,7 +219,7 @@ module _ (p : ℕ) (P : Prime p) (xs ys : List ℕ) (points : Residues p xs) (k 
       one = one-raised;
       two = mixed_one _ _ Q1 E1 s.one _ _ Q2 E2 s.two (omega arith) (omega arith);
       top_one = one-top;
-      top-two = mixed-top-not b E2 E1 d1 d2 s.two.locator (omega (arith, s.one.locator.size)) (small Q1 E1) differs s.top-two;
+      top_two = mixed-top-not b E2 E1 d1 d2 s.two.locator (omega (arith, s.one.locator.size)) (small Q1 E1) differs s.top_two;
     }
 
     -- The second likewise.
@@ -231,5 +231,5 @@ module _ (p : ℕ) (P : Prime p) (xs ys : List ℕ) (points : Residues p xs) (k 
       one = mixed_one _ _ Q2 E2 s.two _ _ Q1 E1 s.one (omega arith) (omega arith);
       two = two-raised;
       top_one = mixed-top-not a Q1 Q2 d2 d1 s.one.numerator (omega (arith, s.two.numerator.size)) (small Q2 E2) differs s.top_one;
-      top-two = two-top;
+      top_two = two-top;
     }

@@ -151,7 +151,7 @@ module _ (p : ℕ) (P : Prime p) (t : ℕ) (low : t ≤ 3) (xs ys : List ℕ) (p
             one = one-start Q r;
             two = subst (λ n. Solution p n 1 xs ys k first (1 ∷ [])) (sym none) two-start;
             top_one = r.top;
-            top-two = λ e. absurd (omega (arith, e));
+            top_two = λ e. absurd (omega (arith, e));
           }
 
       abbrev array : List ℕ
@@ -182,12 +182,12 @@ module _ (p : ℕ) (P : Prime p) (t : ℕ) (low : t ≤ 3) (xs ys : List ℕ) (p
           let none : 0 + t ≡ t = omega arith in
           let roots : Roots p xs k part = roots-within part (subst (λ n. Roots p (take k xs) n part) (length-take-le k xs within) r) in
           record {
-            room-q1 =
+            room_q1 =
                 length-append part (drop (k + 1) (replicate 12 0))
                 ∙ omega (arith, roots.poly.size, length-drop (k + 1) (replicate {A = ℕ} 12 0));
-            room-e1 = refl;
-            room-q2 = refl;
-            room-e2 = refl;
+            room_e1 = refl;
+            room_q2 = refl;
+            room_e2 = refl;
             pair =
                 rw (left, none)
                 (subst (λ z. Solutions p t xs ys k k 0 z (take (k - t) (replicate 8 0)) (take (suc t) array) (1 ∷ []))
@@ -206,8 +206,8 @@ module _ (p : ℕ) (P : Prime p) (t : ℕ) (low : t ≤ 3) (xs ys : List ℕ) (p
       })
       solved-at-once all = record {
         a = k;
-        first-numerator = roots_of p xs k;
-        first-locator = replicate (k - t) 0;
+        first_numerator = roots_of p xs k;
+        first_locator = replicate (k - t) 0;
         pair =
             subst (λ n. Solutions p t xs ys n k 0 (roots_of p xs k) (replicate (k - t) 0) (take (suc (0 + t)) array) (1 ∷ [])) all
             (let none : 0 + t ≡ t = omega arith in
@@ -224,8 +224,8 @@ solving-end p t xs ys k a q1 e1 q2 e2 within done s =
     let all : k ≡ length xs = omega arith in
     record {
       a = a;
-      first-numerator = take (suc a) q1;
-      first-locator = take (a - t) e1;
+      first_numerator = take (suc a) q1;
+      first_locator = take (a - t) e1;
       pair =
           subst (λ n.
           Solutions p t xs ys n a (k - a) (take (suc a) q1) (take (a - t) e1) (take (suc (k - a + t)) q2) (take (suc (k - a)) e2))

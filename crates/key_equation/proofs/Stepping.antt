@@ -46,16 +46,16 @@ module _ (p : ℕ) (P : Prime p) (t : ℕ) (xs ys : List ℕ) (points : Residues
       }
 
   lent-q1 : Roomy p (take (suc (suc a)) q1)
-  lent-q1 = lent (suc a) q1 s.pair.one.numerator (omega (arith, s.room-q1, sum)) (omega (arith, sum))
+  lent-q1 = lent (suc a) q1 s.pair.one.numerator (omega (arith, s.room_q1, sum)) (omega (arith, sum))
 
   lent-e1 : Roomy p (take (suc (a - t)) e1)
-  lent-e1 = lent (a - t) e1 s.pair.one.locator (omega (arith, s.room-e1, sum)) (omega (arith, sum))
+  lent-e1 = lent (a - t) e1 s.pair.one.locator (omega (arith, s.room_e1, sum)) (omega (arith, sum))
 
   lent-q2 : Roomy p (take (suc (suc (b + t))) q2)
-  lent-q2 = lent (suc (b + t)) q2 s.pair.two.numerator (omega (arith, s.room-q2, sum, least)) (omega (arith, sum, least))
+  lent-q2 = lent (suc (b + t)) q2 s.pair.two.numerator (omega (arith, s.room_q2, sum, least)) (omega (arith, sum, least))
 
   lent-e2 : Roomy p (take (suc (suc b)) e2)
-  lent-e2 = lent (suc b) e2 s.pair.two.locator (omega (arith, s.room-e2, sum, least)) (omega (arith, sum, least))
+  lent-e2 = lent (suc b) e2 s.pair.two.locator (omega (arith, s.room_e2, sum, least)) (omega (arith, sum, least))
 
   -- With the code's numbers.
   pub lent-all : Roomy p (take (a + 2) q1) × Roomy p (take (a - t + 1) e1) × Roomy p (take (b + t + 2) q2) × Roomy p (take (b + 2) e2)
@@ -68,23 +68,23 @@ module _ (p : ℕ) (P : Prime p) (t : ℕ) (xs ys : List ℕ) (points : Residues
 
   pub bounds : (a + 2 ≤ length q1) × (a - t + 1 ≤ length e1) × (b + t + 2 ≤ length q2) × (b + 2 ≤ length e2)
   bounds = (
-    omega (arith, s.room-q1, sum),
-    omega (arith, s.room-e1, sum),
-    omega (arith, s.room-q2, sum, least),
-    omega (arith, s.room-e2, sum, least),
+    omega (arith, s.room_q1, sum),
+    omega (arith, s.room_e1, sum),
+    omega (arith, s.room_q2, sum, least),
+    omega (arith, s.room_e2, sum, least),
   )
 
   front-q1 : front (take (suc (suc a)) q1) ≡ take (suc a) q1
-  front-q1 = front-part (suc a) q1 (omega (arith, s.room-q1, sum))
+  front-q1 = front-part (suc a) q1 (omega (arith, s.room_q1, sum))
 
   front-e1 : front (take (suc (a - t)) e1) ≡ take (a - t) e1
-  front-e1 = front-part (a - t) e1 (omega (arith, s.room-e1, sum))
+  front-e1 = front-part (a - t) e1 (omega (arith, s.room_e1, sum))
 
   front-q2 : front (take (suc (suc (b + t))) q2) ≡ take (suc (b + t)) q2
-  front-q2 = front-part (suc (b + t)) q2 (omega (arith, s.room-q2, sum, least))
+  front-q2 = front-part (suc (b + t)) q2 (omega (arith, s.room_q2, sum, least))
 
   front-e2 : front (take (suc (suc b)) e2) ≡ take (suc b) e2
-  front-e2 = front-part (suc b) e2 (omega (arith, s.room-e2, sum, least))
+  front-e2 = front-part (suc b) e2 (omega (arith, s.room_e2, sum, least))
 
   -- ---- both with one point more
   build : (a' b' : ℕ) (q1' e1' q2' e2' : List ℕ) → suc k ≡ a' + b' → length q1' ≡ 12 → length e1' ≡ 8 → length q2' ≡ 12 → length e2' ≡ 8
@@ -93,10 +93,10 @@ module _ (p : ℕ) (P : Prime p) (t : ℕ) (xs ys : List ℕ) (points : Residues
   build a' b' q1' e1' q2' e2' e i j m n s =
       let left : b' ≡ suc k - a' = omega arith in
       record {
-        room-q1 = i;
-        room-e1 = j;
-        room-q2 = m;
-        room-e2 = n;
+        room_q1 = i;
+        room_e1 = j;
+        room_q2 = m;
+        room_e2 = n;
         pair =
             subst (λ c.
             Solutions p t xs ys (suc k) a' c (take (suc a') q1') (take (a' - t) e1') (take (suc (c + t)) q2') (take (suc c) e2'))
@@ -104,56 +104,56 @@ module _ (p : ℕ) (P : Prime p) (t : ℕ) (xs ys : List ℕ) (points : Residues
       }
 
   module _ (q1' e1' q2' e2' : List ℕ) where
-    abbrev back-q1 : List ℕ
-    back-q1 = q1' ++ drop (suc (suc a)) q1
+    abbrev back_q1 : List ℕ
+    back_q1 = q1' ++ drop (suc (suc a)) q1
 
-    abbrev back-e1 : List ℕ
-    back-e1 = e1' ++ drop (suc (a - t)) e1
+    abbrev back_e1 : List ℕ
+    back_e1 = e1' ++ drop (suc (a - t)) e1
 
-    abbrev back-q2 : List ℕ
-    back-q2 = q2' ++ drop (suc (suc (b + t))) q2
+    abbrev back_q2 : List ℕ
+    back_q2 = q2' ++ drop (suc (suc (b + t))) q2
 
-    abbrev back-e2 : List ℕ
-    back-e2 = e2' ++ drop (suc (suc b)) e2
+    abbrev back_e2 : List ℕ
+    back_e2 = e2' ++ drop (suc (suc b)) e2
 
     -- What a solution becomes.
     raised-1 : q1' ≡ raised p x (take (suc (suc a)) q1) → e1' ≡ raised p x (take (suc (a - t)) e1)
-        → (take (suc (suc a)) back-q1 ≡ raise p x (0 ∷ take (suc a) q1)) × (take (suc a - t) back-e1 ≡ raise p x (0 ∷ take (a - t) e1))
-        × (length back-q1 ≡ 12) × (length back-e1 ≡ 8)
+        → (take (suc (suc a)) back_q1 ≡ raise p x (0 ∷ take (suc a) q1)) × (take (suc a - t) back_e1 ≡ raise p x (0 ∷ take (a - t) e1))
+        × (length back_q1 ≡ 12) × (length back_e1 ≡ 8)
     raised-1 i j =
         let (q, n) = raised-front p x (suc a) q1 q1' s.pair.one.numerator front-q1 i in
         let (e, m) = raised-front p x (a - t) e1 e1' s.pair.one.locator front-e1 j in
         let up : suc a - t ≡ suc (a - t) = omega (arith, least) in (
           q,
-          ap (λ c. take c back-e1) up ∙ e,
-          back-size (suc (suc a)) q1 q1' (omega (arith, s.room-q1, sum)) n ∙ s.room-q1,
-          back-size (suc (a - t)) e1 e1' (omega (arith, s.room-e1, sum)) m ∙ s.room-e1,
+          ap (λ c. take c back_e1) up ∙ e,
+          back-size (suc (suc a)) q1 q1' (omega (arith, s.room_q1, sum)) n ∙ s.room_q1,
+          back-size (suc (a - t)) e1 e1' (omega (arith, s.room_e1, sum)) m ∙ s.room_e1,
         )
 
     raised-2 : q2' ≡ raised p x (take (suc (suc (b + t))) q2) → e2' ≡ raised p x (take (suc (suc b)) e2)
-        → (take (suc (suc b + t)) back-q2 ≡ raise p x (0 ∷ take (suc (b + t)) q2))
-        × (take (suc (suc b)) back-e2 ≡ raise p x (0 ∷ take (suc b) e2))
-        × (length back-q2 ≡ 12) × (length back-e2 ≡ 8)
+        → (take (suc (suc b + t)) back_q2 ≡ raise p x (0 ∷ take (suc (b + t)) q2))
+        × (take (suc (suc b)) back_e2 ≡ raise p x (0 ∷ take (suc b) e2))
+        × (length back_q2 ≡ 12) × (length back_e2 ≡ 8)
     raised-2 i j =
         let (q, n) = raised-front p x (suc (b + t)) q2 q2' s.pair.two.numerator front-q2 i in
         let (e, m) = raised-front p x (suc b) e2 e2' s.pair.two.locator front-e2 j in
         let up : suc (suc b + t) ≡ suc (suc (b + t)) = omega arith in (
-          ap (λ c. take c back-q2) up ∙ q,
+          ap (λ c. take c back_q2) up ∙ q,
           e,
-          back-size (suc (suc (b + t))) q2 q2' (omega (arith, s.room-q2, sum, least)) n ∙ s.room-q2,
-          back-size (suc (suc b)) e2 e2' (omega (arith, s.room-e2, sum, least)) m ∙ s.room-e2,
+          back-size (suc (suc (b + t))) q2 q2' (omega (arith, s.room_q2, sum, least)) n ∙ s.room_q2,
+          back-size (suc (suc b)) e2 e2' (omega (arith, s.room_e2, sum, least)) m ∙ s.room_e2,
         )
 
-    kept-1 : q1' ≡ take (suc (suc a)) q1 → e1' ≡ take (suc (a - t)) e1 → (back-q1 ≡ q1) × (back-e1 ≡ e1)
+    kept-1 : q1' ≡ take (suc (suc a)) q1 → e1' ≡ take (suc (a - t)) e1 → (back_q1 ≡ q1) × (back_e1 ≡ e1)
     kept-1 i j = (
-      (kept-front (suc a) q1 q1' (omega (arith, s.room-q1, sum)) i).0,
-      (kept-front (a - t) e1 e1' (omega (arith, s.room-e1, sum)) j).0,
+      (kept-front (suc a) q1 q1' (omega (arith, s.room_q1, sum)) i).0,
+      (kept-front (a - t) e1 e1' (omega (arith, s.room_e1, sum)) j).0,
     )
 
-    kept-2 : q2' ≡ take (suc (suc (b + t))) q2 → e2' ≡ take (suc (suc b)) e2 → (back-q2 ≡ q2) × (back-e2 ≡ e2)
+    kept-2 : q2' ≡ take (suc (suc (b + t))) q2 → e2' ≡ take (suc (suc b)) e2 → (back_q2 ≡ q2) × (back_e2 ≡ e2)
     kept-2 i j = (
-      (kept-front (suc (b + t)) q2 q2' (omega (arith, s.room-q2, sum, least)) i).0,
-      (kept-front (suc b) e2 e2' (omega (arith, s.room-e2, sum, least)) j).0,
+      (kept-front (suc (b + t)) q2 q2' (omega (arith, s.room_q2, sum, least)) i).0,
+      (kept-front (suc b) e2 e2' (omega (arith, s.room_e2, sum, least)) j).0,
     )
 
     -- The first is the lower.
@@ -161,27 +161,27 @@ module _ (p : ℕ) (P : Prime p) (t : ℕ) (xs ys : List ℕ) (points : Residues
     FirstMet m =
         Met p x y (take (suc (suc a)) q1) (take (suc (a - t)) e1) (take (suc (suc (b + t))) q2) (take (suc (suc b)) e2) m q1' e1' q2' e2'
 
-    pub first-kept : FirstMet false → Solving p t xs ys (suc k) a back-q1 back-e1 back-q2 back-e2
+    pub first-kept : FirstMet false → Solving p t xs ys (suc k) a back_q1 back_e1 back_q2 back_e2
     first-kept m =
         let holds : off p x y (take (suc a) q1) (take (a - t) e1) ≡ 0 = rw (front-q1, front-e1) at m.holds in
-        let (i, j) = kept-1 m.first_q m.first-e in
-        let (q, e, n, l) = raised-2 m.second-q m.second-e in
-        build a (suc b) back-q1 back-e1 back-q2 back-e2 (omega (arith, sum)) (ap length i ∙ s.room-q1) (ap length j ∙ s.room-e1) n l
+        let (i, j) = kept-1 m.first_q m.first_e in
+        let (q, e, n, l) = raised-2 m.second_q m.second_e in
+        build a (suc b) back_q1 back_e1 back_q2 back_e2 (omega (arith, sum)) (ap length i ∙ s.room_q1) (ap length j ∙ s.room_e1) n l
         (same-pair p t xs ys (suc k) a (suc b) _ _ _ _ _ _ _ _ (ap (take (suc a)) i) (ap (take (a - t)) j) q e
         (first_holds p P xs ys points k inside t a b _ _ _ _ s.pair holds))
 
-    pub first_taken : a ≤ b + t → FirstMet true → Solving p t xs ys (suc k) (suc a) back-q1 back-e1 back-q2 back-e2
+    pub first_taken : a ≤ b + t → FirstMet true → Solving p t xs ys (suc k) (suc a) back_q1 back_e1 back_q2 back_e2
     first_taken lower m =
         let d = off p x y (take (suc a) q1) (take (a - t) e1) in
         let g = off p x y (take (suc (b + t)) q2) (take (suc b) e2) in
-        let (q, e, n, l) = raised-1 m.first_q m.first-e in
+        let (q, e, n, l) = raised-1 m.first_q m.first_e in
         let (i, h) = mixed-front p (suc (b + t)) q2 q2' d g (take (suc a) q1) s.pair.two.numerator
-        (omega (arith, s.room-q2, sum, least)) front-q2 (m.second-q ∙ rw (front-q1, front-e1, front-q2, front-e2) refl) in
+        (omega (arith, s.room_q2, sum, least)) front-q2 (m.second_q ∙ rw (front-q1, front-e1, front-q2, front-e2) refl) in
         let (j, f) = mixed-front p (suc b) e2 e2' d g (take (a - t) e1) s.pair.two.locator
-        (omega (arith, s.room-e2, sum, least)) front-e2 (m.second-e ∙ rw (front-q1, front-e1, front-q2, front-e2) refl) in
-        build (suc a) b back-q1 back-e1 back-q2 back-e2 (omega (arith, sum)) n l
-        (back-size (suc (suc (b + t))) q2 q2' (omega (arith, s.room-q2, sum, least)) h ∙ s.room-q2)
-        (back-size (suc (suc b)) e2 e2' (omega (arith, s.room-e2, sum, least)) f ∙ s.room-e2)
+        (omega (arith, s.room_e2, sum, least)) front-e2 (m.second_e ∙ rw (front-q1, front-e1, front-q2, front-e2) refl) in
+        build (suc a) b back_q1 back_e1 back_q2 back_e2 (omega (arith, sum)) n l
+        (back-size (suc (suc (b + t))) q2 q2' (omega (arith, s.room_q2, sum, least)) h ∙ s.room_q2)
+        (back-size (suc (suc b)) e2 e2' (omega (arith, s.room_e2, sum, least)) f ∙ s.room_e2)
         (same-pair p t xs ys (suc k) (suc a) b _ _ _ _ _ _ _ _ q e i j
         (first-mixed p P xs ys points k inside t a b _ _ _ _ s.pair lower (rw (front-q1, front-e1) at m.differs)))
 
@@ -190,27 +190,27 @@ module _ (p : ℕ) (P : Prime p) (t : ℕ) (xs ys : List ℕ) (points : Residues
     SecondMet m =
         Met p x y (take (suc (suc (b + t))) q2) (take (suc (suc b)) e2) (take (suc (suc a)) q1) (take (suc (a - t)) e1) m q2' e2' q1' e1'
 
-    pub second-kept : SecondMet false → Solving p t xs ys (suc k) (suc a) back-q1 back-e1 back-q2 back-e2
+    pub second-kept : SecondMet false → Solving p t xs ys (suc k) (suc a) back_q1 back_e1 back_q2 back_e2
     second-kept m =
         let holds : off p x y (take (suc (b + t)) q2) (take (suc b) e2) ≡ 0 = rw (front-q2, front-e2) at m.holds in
-        let (i, j) = kept-2 m.first_q m.first-e in
-        let (q, e, n, l) = raised-1 m.second-q m.second-e in
-        build (suc a) b back-q1 back-e1 back-q2 back-e2 (omega (arith, sum)) n l (ap length i ∙ s.room-q2) (ap length j ∙ s.room-e2)
+        let (i, j) = kept-2 m.first_q m.first_e in
+        let (q, e, n, l) = raised-1 m.second_q m.second_e in
+        build (suc a) b back_q1 back_e1 back_q2 back_e2 (omega (arith, sum)) n l (ap length i ∙ s.room_q2) (ap length j ∙ s.room_e2)
         (same-pair p t xs ys (suc k) (suc a) b _ _ _ _ _ _ _ _ q e (ap (take (suc (b + t))) i) (ap (take (suc b)) j)
         (second_holds p P xs ys points k inside t a b _ _ _ _ s.pair holds))
 
-    pub second-taken : b + t < a → SecondMet true → Solving p t xs ys (suc k) a back-q1 back-e1 back-q2 back-e2
+    pub second-taken : b + t < a → SecondMet true → Solving p t xs ys (suc k) a back_q1 back_e1 back_q2 back_e2
     second-taken lower m =
         let d = off p x y (take (suc (b + t)) q2) (take (suc b) e2) in
         let g = off p x y (take (suc a) q1) (take (a - t) e1) in
-        let (q, e, n, l) = raised-2 m.first_q m.first-e in
+        let (q, e, n, l) = raised-2 m.first_q m.first_e in
         let (i, h) = mixed-front p (suc a) q1 q1' d g (take (suc (b + t)) q2) s.pair.one.numerator
-        (omega (arith, s.room-q1, sum)) front-q1 (m.second-q ∙ rw (front-q1, front-e1, front-q2, front-e2) refl) in
+        (omega (arith, s.room_q1, sum)) front-q1 (m.second_q ∙ rw (front-q1, front-e1, front-q2, front-e2) refl) in
         let (j, f) = mixed-front p (a - t) e1 e1' d g (take (suc b) e2) s.pair.one.locator
-        (omega (arith, s.room-e1, sum)) front-e1 (m.second-e ∙ rw (front-q1, front-e1, front-q2, front-e2) refl) in
-        build a (suc b) back-q1 back-e1 back-q2 back-e2 (omega (arith, sum))
-        (back-size (suc (suc a)) q1 q1' (omega (arith, s.room-q1, sum)) h ∙ s.room-q1)
-        (back-size (suc (a - t)) e1 e1' (omega (arith, s.room-e1, sum)) f ∙ s.room-e1)
+        (omega (arith, s.room_e1, sum)) front-e1 (m.second_e ∙ rw (front-q1, front-e1, front-q2, front-e2) refl) in
+        build a (suc b) back_q1 back_e1 back_q2 back_e2 (omega (arith, sum))
+        (back-size (suc (suc a)) q1 q1' (omega (arith, s.room_q1, sum)) h ∙ s.room_q1)
+        (back-size (suc (a - t)) e1 e1' (omega (arith, s.room_e1, sum)) f ∙ s.room_e1)
         n l
         (same-pair p t xs ys (suc k) a (suc b) _ _ _ _ _ _ _ _ i j q e
         (second-mixed p P xs ys points k inside t a b _ _ _ _ s.pair lower (rw (front-q2, front-e2) at m.differs)))

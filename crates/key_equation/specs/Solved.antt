@@ -8,8 +8,8 @@ use Rattle.key_equation.specs.Solving.{Solutions}
 -- The second solution of a pair for all points, in front of the arrays.
 pub record Solved (p t : ℕ) (xs ys : List ℕ) (r : Located) : Type 0 where
   pub a : ℕ
-  pub first-numerator : List ℕ
-  pub first-locator : List ℕ
+  pub first_numerator : List ℕ
+  pub first_locator : List ℕ
   pub pair :
-      Solutions p t xs ys (length xs) a r.degree first-numerator first-locator (take (suc (r.degree + t)) r.numerator)
+      Solutions p t xs ys (length xs) a r.degree first_numerator first_locator (take (suc (r.degree + t)) r.numerator)
       (take (suc r.degree) r.locator)

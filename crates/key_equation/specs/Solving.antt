@@ -61,17 +61,17 @@ module _ (p : ℕ) where
   pub record Held (x y : ℕ) (q e r f q' e' r' f' : List ℕ) : Type 0 where
     pub holds : off x y (front q) (front e) ≡ 0
     pub first_q : q' ≡ q
-    pub first-e : e' ≡ e
-    pub second-q : r' ≡ raised x r
-    pub second-e : f' ≡ raised x f
+    pub first_e : e' ≡ e
+    pub second_q : r' ≡ raised x r
+    pub second_e : f' ≡ raised x f
 
   -- Where it does not, as much of the first is taken from the second that this holds, and the first is raised.
   pub record Mixed (x y : ℕ) (q e r f q' e' r' f' : List ℕ) : Type 0 where
     pub differs : off x y (front q) (front e) ≡ 0 → ⊥
     pub first_q : q' ≡ raised x q
-    pub first-e : e' ≡ raised x e
-    pub second-q : r' ≡ mixed (off x y (front q) (front e)) (front r) (off x y (front r) (front f)) (front q) ++ drop (length r - 1) r
-    pub second-e : f' ≡ mixed (off x y (front q) (front e)) (front f) (off x y (front r) (front f)) (front e) ++ drop (length f - 1) f
+    pub first_e : e' ≡ raised x e
+    pub second_q : r' ≡ mixed (off x y (front q) (front e)) (front r) (off x y (front r) (front f)) (front q) ++ drop (length r - 1) r
+    pub second_e : f' ≡ mixed (off x y (front q) (front e)) (front f) (off x y (front r) (front f)) (front e) ++ drop (length f - 1) f
 
   -- Whether the first was raised, and what became of both.
   abbrev pub Met : ℕ → ℕ → (q e r f : List ℕ) → Bool → (q' e' r' f' : List ℕ) → Type 0
@@ -91,14 +91,14 @@ module _ (p : ℕ) where
     pub one : Solution (suc a) (a - t) xs ys k Q1 E1
     pub two : Solution (suc (b + t)) (suc b) xs ys k Q2 E2
     pub top_one : get_or Q1 a 0 ≡ 0 → ⊥
-    pub top-two : get_or E2 b 0 ≡ 0 → ⊥
+    pub top_two : get_or E2 b 0 ≡ 0 → ⊥
 
   -- The same in front of four lists, two of 12 numbers for the numerators and two of 8 for the locators.
   pub record Solving (t : ℕ) (xs ys : List ℕ) (k a : ℕ) (q1 e1 q2 e2 : List ℕ) : Type 0 where
-    pub room-q1 : length q1 ≡ 12
-    pub room-e1 : length e1 ≡ 8
-    pub room-q2 : length q2 ≡ 12
-    pub room-e2 : length e2 ≡ 8
+    pub room_q1 : length q1 ≡ 12
+    pub room_e1 : length e1 ≡ 8
+    pub room_q2 : length q2 ≡ 12
+    pub room_e2 : length e2 ≡ 8
     pub pair : Solutions t xs ys k a (k - a) (take (suc a) q1) (take (a - t) e1) (take (suc (k - a + t)) q2) (take (suc (k - a)) e2)
 
   -- k + 1 coefficients, a top that is not 0, and 0 at each of the first k points.

@@ -44,7 +44,7 @@ pub record Parted (hs fs₀ ss₀ fs ss : List ℕ) (at k : ℕ) : Type 0 where
   pub within : k ≤ length fs₀
   pub place : at ≡ 2 * k
   pub size : length fs ≡ length fs₀
-  pub size-too : length ss ≡ length ss₀
+  pub size_too : length ss ≡ length ss₀
   pub first : Written (λ i. get_or hs (0 + 2 * i) 0) fs₀ fs k
   pub second : Written (λ i. get_or hs (1 + 2 * i) 0) ss₀ ss k
 
@@ -54,7 +54,7 @@ module _ (hs fs₀ ss₀ : List ℕ) where
     within = omega arith;
     place = omega arith;
     size = refl;
-    size-too = refl;
+    size_too = refl;
     first = written_start (λ i. get_or hs (0 + 2 * i) 0) fs₀;
     second = written_start (λ i. get_or hs (1 + 2 * i) 0) ss₀;
   }
@@ -72,7 +72,7 @@ module _ (hs fs₀ ss₀ : List ℕ) where
         within = omega (arith, z.size);
         place = omega (arith, z.place);
         size = first.kept;
-        size-too = second.kept;
+        size_too = second.kept;
         first = first;
         second = second;
       }

@@ -1,15 +1,15 @@
 -- The lamp (docs/PROTOCOL.md, "A lamp"): one party's state and its calls, refused or not, at every state.
---   made_with w n t i T   the lamp as made with the table T, for numbers of the width w; made w n t i: without one
+--   made_with w n t i T  the lamp as made with the table T, for numbers of the width w; made w n t i: without one
 --   waiting w n t i a    a lamp that nothing was done with, with its table in the array a
---   its_prime a           the prime that the party a computes with; table_of a: the points of the parties, as it has them
+--   its_prime a          the prime that the party a computes with; table_of a: the points of the parties, as it has them
 --   Valid a              the party's size, number and table are the protocol's
 --   Call, tests l c      a call, and what it is looked at for, in the order of the refusals; party_tests, width_tests, state_tests, lent_tests:
 --                        parts of that
---   making_tests a T      what a making is looked at for; kept_tests: the same by the table that is kept
+--   making_tests a T     what a making is looked at for; kept_tests: the same by the table that is kept
 --   settled l S          what settling with the happy set S gives
 --   outcome l c          the reply to a call that no test refuses; step l c: the reply to any call
 --   after l cs           the lamp after a list of calls
---   make_with, make       the reply to a making, with a table and without
+--   make_with, make      the reply to a making, with a table and without
 -- Laws: proofs/Calls, proofs/Checks, proofs/Outcomes.
 use Rattle.std.specs.Prelude.{◌≡◌, Bool, true, cond, not, List, [], ◌∷◌, ◌++◌, ℕ, suc, ◌*◌, ◌-◌, eqb, leb, length, take, replicate}
 use Rattle.std.proofs.Math.Option.{Option, none, some}

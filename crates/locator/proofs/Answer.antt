@@ -92,7 +92,7 @@ module _ (p : ℕ) (P : Prime p) (t need spare : ℕ) (xs ys : List ℕ) (length
       (omega (arith, s.pair.two.numerator.size, length-take (suc (b + t)) r.numerator))
       (omega (arith, size-E, length-take (suc b) r.locator))
       (rw j s.pair.two.numerator.residues) (rw k s.pair.two.locator.residues)
-      (λ z. s.pair.top-two (get_or-take (suc b) r.locator b 0 (omega arith) ∙ z)) f e in
+      (λ z. s.pair.top_two (get_or-take (suc b) r.locator b 0 (omega arith) ∙ z)) f e in
       rw (j, k) at all
 
   -- Where F fits, it differs from at most as many of the points solved for as may be wrong.
@@ -120,7 +120,7 @@ module _ (p : ℕ) (P : Prime p) (t need spare : ℕ) (xs ys : List ℕ) (length
     -- The top of the locator has an inverse.
     inverse : mul p i (get_or E b 0) ≡ 1
     unfolding i
-    inverse = inverse-top p P b r.locator s.pair.two.locator.residues size-E s.pair.top-two
+    inverse = inverse-top p P b r.locator s.pair.two.locator.residues size-E s.pair.top_two
 
     -- What fits is answered.
     located-found : located_by p t need spare xs ys b r.numerator r.locator ≡ some F

@@ -79,14 +79,14 @@ opened-is p P e c =
     let size-x : length (xs_of qs) ≡ m = length-map qs (λ (q : ℕ × ℕ). q.0) ∙ size in
     let size-y : length (ys_of qs) ≡ m = length-map qs (λ (q : ℕ × ℕ). q.1) ∙ size in
     let (one, top_one) = tests-sound p qs _ _ _ _ _ (ap (λ l. l.1) c) in
-    let (two, top-two) = tests-sound p qs _ _ _ _ _ (ap (λ l. l.2) c) in
+    let (two, top_two) = tests-sound p qs _ _ _ _ _ (ap (λ l. l.2) c) in
     let least : e.t + 1 ≤ e.first.degree = leb-true (e.t + 1) e.first.degree (ok 2) in
     let sum : e.first.degree + e.second.degree ≡ length (xs_of qs) = eqb-true _ m (ok 3) ∙ sym size-x in
     let solved : Solved p e.t (xs_of qs) (ys_of qs) e.second = record {
       a = e.first.degree;
-      first-numerator = take (suc e.first.degree) e.first.numerator;
-      first-locator = take (e.first.degree - e.t) e.first.locator;
-      pair = record { least = least; sum = sum; one = one; two = two; top_one = top_one; top-two = top-two };
+      first_numerator = take (suc e.first.degree) e.first.numerator;
+      first_locator = take (e.first.degree - e.t) e.first.locator;
+      pair = record { least = least; sum = sum; one = one; two = two; top_one = top_one; top_two = top_two };
     } in (
       solved,
       sym (as-by-trial p P e.t e.spare xs ys lengths fine (omega (arith, all)) all (xs_of qs) (ys_of qs) (points-of qs) size-x

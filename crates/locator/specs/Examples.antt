@@ -5,7 +5,7 @@
 --   solves, tests            the tests for `Solves`, and for `Solution` and a number that is not 0
 --   made p e, Computed p e   what is computed of an example; its numbers are solutions, and what is made of the second is what opens
 --   Opened p e               the second meets what solving promises, and the opening, by trial, is what opens
---   examples w, too_few_sent w     lists that are solved, and lists of which fewer are sent than must agree
+--   examples w, too_few_sent w   lists that are solved, and lists of which fewer are sent than must agree
 -- Shown true in proofs/Examples.
 use Rattle.std.specs.Prelude.{◌≡◌, Bool, true, false, ◌&&◌, List, [], ◌∷◌, ℕ, suc, ◌+◌, ◌*◌, ◌-◌, ◌%◌, ltb, leb, eqb, length, get_or, take, replicate}
 use Rattle.std.proofs.Math.Option.{Option, none, some}

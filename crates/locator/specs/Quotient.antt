@@ -1,9 +1,9 @@
 -- Division by a polynomial E of degree b, whose top coefficient has the inverse i.
 --   add_times p R c E          R + c E, as long as E
 --   add_product p R F E        R + F E, coefficient by coefficient, for R with b coefficients
---   product p F E             F E
+--   product p F E              F E
 --   less_times p r h E         r − h E
---   leading p i E r           the coefficient h with which r − h E has no top
+--   leading p i E r            the coefficient h with which r − h E has no top
 --   long_division p i E n Q    n coefficients of the quotient, and the remainder, of b
 --   all_zero r                 whether r is nothing but zeros
 --   exact_quotient p i E n Q   the quotient where nothing remains

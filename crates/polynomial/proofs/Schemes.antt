@@ -1,5 +1,5 @@
 -- Horner's scheme written place by place, from the end: place k of the quotient holds the value of the coefficients behind k.
---   scheme_from v q     a value and a quotient
+--   scheme_from v q   a value and a quotient
 --   place        the coefficient of X^k in the quotient
 --   last-value, one_more   the value of the last coefficient, and of one more before those from i on
 --   scheme-again   the answer's quotient times X − x, and its value, give f: an identity of coefficients

@@ -136,8 +136,8 @@ module _ (bytes : List ℕ) (is : IsRecord bytes) where
         let f = fine-facts bytes w n t fine in
         own-part (numbers_of bytes 0) n (t + 1) i (deals-count bytes w n t fine) f.3 (omega arith) first last ∙ omega arith
 
-    pub pairs-long : length hs ≡ 2 * n
-    pairs-long =
+    pub pairs_long : length hs ≡ 2 * n
+    pairs_long =
         let f = fine-facts bytes w n t fine in
         own-part (numbers_of bytes 1) n n i (pairs-count bytes w n t fine) f.3 f.3 first last
 
@@ -158,7 +158,7 @@ module _ (bytes : List ℕ) (is : IsRecord bytes) where
 
     heard : (step dealt (hear_pairs w hs)).lamp ≡ reported
     unfolding with_deal
-    heard = ap (λ (r : Reply). r.lamp) (hears dealt dealt-valid w hs (ap (λ z. z && true) (fits w w refl (length hs) (2 * n) pairs-long)))
+    heard = ap (λ (r : Reply). r.lamp) (hears dealt dealt-valid w hs (ap (λ z. z && true) (fits w w refl (length hs) (2 * n) pairs_long)))
 
     column-is : column_of_lamp reported ≡ column_of t d
     unfolding with_pairs with_deal

@@ -92,7 +92,7 @@ unfolding record_of section_of width_of directory parted paired tabulate
 three-published = lit≤ tt
 
 pub missing-printed : opens_line all_but_4 enough ≡ line (letters "opened ") (value_of (setting_of enough) F 0 0)
-missing-printed = (few-accepted _ enough-record).opens-enough missing-published three-published
+missing-printed = (few-accepted _ enough-record).opens_enough missing-published three-published
 
 -- Lamp 2 alone has published its share, beside the lie.
 abbrev alone : List ℕ
@@ -112,4 +112,4 @@ alone-published j h =
 
 pub alone-printed : (opens_line all_but_4 alone ≡ line (letters "opened ") (value_of (setting_of alone) F 0 0))
     ⊎ (opens_line all_but_4 alone ≡ line (letters "opened refused ") (refusal_number NoOpening))
-alone-printed = (few-accepted _ alone-record).opens-no-other alone-published
+alone-printed = (few-accepted _ alone-record).opens_no_other alone-published

@@ -39,13 +39,13 @@ use Rattle.agreement.specs.Setting.{Setting, Legal, prime, point, value_of, zero
 use Rattle.agreement.specs.Demand3.{Premises, Accepts, Rejects, AllReject, AllAccept, Conclusions}
 use Rattle.agreement.proofs.Geometry.{row-constant}
 use Rattle.agreement.proofs.Counting.{honest-all}
-use Rattle.agreement.proofs.Openings.{opens-enough, opens-no-other}
+use Rattle.agreement.proofs.Openings.{opens_enough, opens_no_other}
 use Rattle.agreement.proofs.Agreement.{one-honest}
 use Rattle.agreement.proofs.Plain.{without-tables}
 use Rattle.printed.specs.Direct.{happy, is_accepted_in}
 use Rattle.printed.specs.Printed.{setting_of, told, story, IsHonest, Faithful, printed_line, text_with}
 use Rattle.printed.specs.Printed.{PublishedOrNot, honest_published, Rejected, Accepted, PrintedRight, Printed}
-use Rattle.printed.proofs.Direct.{deal-long, pairs-long, says-rejected, says-accepted}
+use Rattle.printed.proofs.Direct.{deal-long, pairs_long, says-rejected, says-accepted}
 
 module _ (honest : ℕ → Bool) (bytes : List ℕ) (is : IsRecord bytes) (f : Faithful honest bytes) where
   abbrev w : Width
@@ -83,14 +83,14 @@ module _ (honest : ℕ → Bool) (bytes : List ℕ) (is : IsRecord bytes) (f : F
         let range = party-facts n i h.party in
         record {
           list = refl;
-          own-width = refl;
-          deal-length = deal-long bytes is i range.0 range.1;
-          deal-first = tt;
-          pairs-length = pairs-long bytes is i range.0 range.1;
+          own_width = refl;
+          deal_length = deal-long bytes is i range.0 range.1;
+          deal_first = tt;
+          pairs_length = pairs_long bytes is i range.0 range.1;
           pairs_first = tt;
-          reports-length = reports-count bytes w n t fine;
-          reports-own = f.own i h;
-          reports-first = tt;
+          reports_length = reports-count bytes w n t fine;
+          reports_own = f.own i h;
+          reports_first = tt;
         };
     hear = f.hear;
     same = λ i h. refl;
@@ -177,7 +177,7 @@ module _ (honest : ℕ → Bool) (bytes : List ℕ) (is : IsRecord bytes) (f : F
 
       prints-enough : 2 * t + 1 ≤ honest_published honest bytes → last_line true w n t shares ≡ secret_line
       prints-enough many =
-          found (opens-enough s legal honest f.few (zero_row s F) shares row_fine (shares-count bytes w n t fine) on-f many)
+          found (opens_enough s legal honest f.few (zero_row s F) shares row_fine (shares-count bytes w n t fine) on-f many)
 
       prints-no-other : (last_line true w n t shares ≡ secret_line)
           ⊎ (last_line true w n t shares ≡ line (letters "opened refused ") (refusal_number NoOpening))
@@ -189,7 +189,7 @@ module _ (honest : ℕ → Bool) (bytes : List ℕ) (is : IsRecord bytes) (f : F
               ⊎ (last_line true w n t shares ≡ line (letters "opened refused ") (refusal_number NoOpening))
           go none e = inr (ap opening_line e)
           go (some g) e =
-              let only = opens-no-other s legal honest f.few (zero_row s F) shares row_fine (shares-count bytes w n t fine) on-f g e in
+              let only = opens_no_other s legal honest f.few (zero_row s F) shares row_fine (shares-count bytes w n t fine) on-f g e in
               inl (found (e ∙ ap some only))
 
     -- With all honest shares published all but t are there.
@@ -208,13 +208,13 @@ module _ (honest : ℕ → Bool) (bytes : List ℕ) (is : IsRecord bytes) (f : F
     prints = printed-by true (verdict-yes someone.0 someone.1 (a.hold someone.0 someone.1).answered.0);
     lines = λ i h. share-line F i h.party (a.hold i h);
     opens = prints-all F a;
-    opens-enough = prints-enough F a;
-    opens-no-other = prints-no-other F a;
+    opens_enough = prints-enough F a;
+    opens_no_other = prints-no-other F a;
   }
 
   right : PrintedRight honest bytes
   right = record {
-    one-verdict = ⊎_elim (λ r. inl (rejected r)) (λ a. inr (a.0, accepted a.0 a.1)) all_right.one-verdict;
+    one_verdict = ⊎_elim (λ r. inl (rejected r)) (λ a. inr (a.0, accepted a.0 a.1)) all_right.one_verdict;
     dealer = λ F d. (accepted F (all_right.dealer F d).0, (all_right.dealer F d).1);
   }
 

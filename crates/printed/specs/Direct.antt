@@ -2,9 +2,9 @@
 -- points are 1 to n.
 --   the_prime                       the prime of its width
 --   its_deal, its_pairs, its_report   lamp i's own deal and pairs in the record, and its report by step 3
---   happy, is_accepted_in            the happy set and whether the dealer is accepted, by the reports alone
+--   happy, is_accepted_in           the happy set and whether the dealer is accepted, by the reports alone
 --   lamp_says bytes i               what is printed behind "lamp i"
---   direct bytes                   the whole text
+--   direct bytes                    the whole text
 -- Law: proofs/Direct.
 use Rattle.std.specs.Prelude.{Bool, cond, List, [], ◌++◌, ℕ, zero, suc, ◌+◌, eqb}
 use Rattle.std.proofs.Math.Option.{Option, none, some}

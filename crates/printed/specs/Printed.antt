@@ -1,6 +1,6 @@
 -- What is printed of a record in which the honest lamps' entries meet demand 3's premises.
 --   Faithful honest bytes     those premises: few are faulty, and the honest lamps' pairs and reports stand in the record
---   setting_of bytes           the record's width and sizes, with the points 1 to n
+--   setting_of bytes          the record's width and sizes, with the points 1 to n
 --   told bytes i              lamp i's calls, as the record tells them: its deal, its pairs, the reports, an opening of what is published
 --   story honest bytes        the execution of all lamps
 --   PublishedOrNot F          each honest lamp has published its share or nothing; honest_published: how many have published it
@@ -107,15 +107,15 @@ module _ (honest : ℕ → Bool) (bytes : List ℕ) where
         → printed_line i ≡ field (letters "lamp ") i ++ line (letters " share ") (value_of (setting_of bytes) F i 0)
     pub opens : ((j : ℕ) → IsHonest j → entry (numbers_of bytes 3) j ≡ value_of (setting_of bytes) F j 0)
         → opens_line ≡ line (letters "opened ") (value_of (setting_of bytes) F 0 0)
-    pub opens-enough : PublishedOrNot F → 2 * t_of bytes + 1 ≤ honest_published
+    pub opens_enough : PublishedOrNot F → 2 * t_of bytes + 1 ≤ honest_published
         → opens_line ≡ line (letters "opened ") (value_of (setting_of bytes) F 0 0)
-    pub opens-no-other : PublishedOrNot F
+    pub opens_no_other : PublishedOrNot F
         → (opens_line ≡ line (letters "opened ") (value_of (setting_of bytes) F 0 0))
         ⊎ (opens_line ≡ line (letters "opened refused ") (refusal_number NoOpening))
 
   -- One verdict; an honest dealer, who has no table either, is accepted, its F is its own, and F(0, 0) its secret.
   pub record PrintedRight : Type 0 where
-    pub one-verdict : Rejected ⊎ ((F : List ℕ) × Accepted F)
+    pub one_verdict : Rejected ⊎ ((F : List ℕ) × Accepted F)
     pub dealer : (F : List ℕ) → HonestDealer (setting_of bytes) (story honest bytes) F
         → Accepted F × (value_of (setting_of bytes) F 0 0 ≡ get_or F 0 0)
 

@@ -1,12 +1,12 @@
 -- Numbers in a list of bytes, the high byte first, two or four bytes for each.
---   paired b xs               each two of a list as one number, the first counting b times as much
+--   paired b xs                each two of a list as one number, the first counting b times as much
 --   number_at bytes at         the number of two bytes at a place; wide_number_at that of four
---   numbers bytes             all numbers of two bytes each; wide_numbers of four
+--   numbers bytes              all numbers of two bytes each; wide_numbers of four
 --   number_in bytes k          the k-th of them, 0 behind the last; wide_number_in of four bytes
---   number_bytes w, limit_of w  how many bytes a number of a width has, and what it is below
+--   number_bytes w, limit_of w   how many bytes a number of a width has, and what it is below
 --   numbers_by w bytes         all numbers of a width
 --   stand_at bytes at xs       the numbers xs stand in the bytes from a place on, two bytes for each
---   over xs ys                ys with xs written over its front, as far as both reach
+--   over xs ys                 ys with xs written over its front, as far as both reach
 -- Laws: proofs/Bytes.
 use Rattle.std.specs.Prelude.{Bool, true, ◌&&◌, List, [], ◌∷◌, ℕ, ◌+◌, ◌*◌, eqb, get_or}
 use Rattle.field.specs.declared.Width.{Width}

@@ -2,17 +2,17 @@
 -- "A wide record has 128 added to byte 0, four-byte numbers in every section but reports, and lengths to match".
 --   section_width w k                              the width of the numbers in section k of a record of the width w
 --   section_count n t k                            how many numbers section k has
---   section_length w n t k, section_start w n t k   how many bytes it has and where it starts; section 4 would start at the record's end
---   directory w n t                               the offset and the length of each section
---   directory_or_zeros w n t                        the same for legal sizes, eight zeros for any others
+--   section_length w n t k, section_start w n t k  how many bytes it has and where it starts; section 4 would start at the record's end
+--   directory w n t                                the offset and the length of each section
+--   directory_or_zeros w n t                       the same for legal sizes, eight zeros for any others
 --   directory_right bytes w n t                    the record has this directory, and its last section ends it
---   width_of bytes, n_of bytes, t_of bytes           the width and the sizes that the bytes give
---   mark w                                        what is added to byte 0
---   IsRecord bytes                                the bytes are a record
---   reading_tests, reading_as                       a reader's tests in order, and what it answers, by the width and the sizes that it takes
+--   width_of bytes, n_of bytes, t_of bytes         the width and the sizes that the bytes give
+--   mark w                                         what is added to byte 0
+--   IsRecord bytes                                 the bytes are a record
+--   reading_tests, reading_as                      a reader's tests in order, and what it answers, by the width and the sizes that it takes
 --   reading bytes, reading_narrow bytes            what the reader answers, and one that knows records of two-byte numbers alone
 --   reading_number                                 the protocol's number of that answer
---   section_of bytes k, numbers_of bytes k          the bytes that the directory's pair k names, of any bytes, and their numbers
+--   section_of bytes k, numbers_of bytes k         the bytes that the directory's pair k names, of any bytes, and their numbers
 -- Laws: proofs/Sections, proofs/Answers, proofs/Narrow.
 use Rattle.std.specs.Prelude.{◌≡◌, Bool, true, cond, ◌&&◌, List, [], ◌∷◌, ℕ, zero, suc, ◌+◌, ◌*◌, ◌-◌, ◌≤◌, eqb, leb, ltb, length, get_or, take, drop, replicate}
 use Rattle.std.proofs.Math.Option.{Option, none, some}

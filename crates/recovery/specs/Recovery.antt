@@ -1,6 +1,6 @@
 -- What is fitted to the parties' points: a column by the protocol's fit, at most t of them differ; an opening by the rule for openings
 -- (fit/specs/Opening).
---   repair p n t T S heard          the column repaired from j's point in the table T and the first number heard from j, for j in S
+--   repair p n t T S heard           the column repaired from j's point in the table T and the first number heard from j, for j in S
 --   opening_with p t T i v xs        the opening of the shares xs with party i's own share v in its own place; by themselves: `opening_of`
 --   published_tests n t m            what an opening of m published shares is looked at for
 --   repair_in, published_in, opening_in   what the code answers for every input: a refusal, or what is decoded

@@ -1,7 +1,7 @@
 -- What a call answers and what a lamp holds, as letters.
 --   number_word x      a number behind a space
 --   number_words xs    each number of a list so, one behind the other
---   outcome_words k xs  "refused" with the number of a refusal, or "ok" with the values where there is none
+--   outcome_words k xs   "refused" with the number of a refusal, or "ok" with the values where there is none
 --   answer_words a     what a lamp answered
 --   dealing_words a    what the desk answered
 --   state_words lamp   what a lamp holds: its stage, share, happy set and report

@@ -5,6 +5,7 @@ ghost use Rattle.std.specs.Io.KnownBytes.{Consumes};
 use std::alloc::Global;
 use std::io;
 use std::io::{ErrorKind, Read, Write};
+use std::process::ExitCode;
 
 // Reads until the buffer is full, the input ends or a read fails, and answers how many bytes stand at the buffer's front.
 pub fn read_full<R: Read>(input: &mut R, buffer: &mut [u8]) -> usize
@@ -57,9 +58,15 @@ pub fn fail<W: Write>(err: &mut W, alloc: Global, what: &[u8], error: io::Error)
     let _ = put_failure(err, alloc, what, error);
 }
 
-// The same of what could not be written. A reader that is gone is no failure: the program then ends, and says nothing.
-pub fn unwritten<W: Write>(err: &mut W, alloc: Global, what: &[u8], error: io::Error) {
-    if error.kind() != ErrorKind::BrokenPipe {
-        fail(err, alloc, what, error);
+// What a shell tells of a program that a gone reader ended.
+const READER_GONE: u8 = 141;
+
+// The same of what could not be written, and the status to end with: 0, so only the line tells it. Where the reader is gone nothing is
+// said, and the status is the one that such an end has.
+pub fn unwritten<W: Write>(err: &mut W, alloc: Global, what: &[u8], error: io::Error) -> ExitCode {
+    if error.kind() == ErrorKind::BrokenPipe {
+        return ExitCode::from(READER_GONE);
     }
+    fail(err, alloc, what, error);
+    ExitCode::SUCCESS
 }

@@ -1,7 +1,7 @@
 -- Laws of the tables of points: the test is right, 1 to n is a table, and what a lamp keeps of one.
 --   table-facts, table-true, length-not, short-not, table-points   what the test says of a list
 --   tests-pass, tests-length                what the tests of a lent one say
---   points-of, point_at_lem                  the table is the list of its parties' points
+--   points-of, point_at_lem                 the table is the list of its parties' points
 --   point-not-zero, point-once              no party's point is 0, and no two parties have one
 --   point-below                             a point is a residue, also that of none
 --   length-one-to, one-to-table, one-to-point   1 to n has n numbers, is a table, and i is party i's point in it
@@ -65,12 +65,12 @@ module _ (p n : ℕ) (T : List ℕ) where
       let (fine, zero) = (and-eq-true_iff (eqb (length T) n && distinct_residues p T) (absent 0 T)).0 e in
       let (size, numbers) = (and-eq-true_iff (eqb (length T) n) (distinct_residues p T)).0 fine in
       let points = distinct-residues-facts p T numbers in
-      record { size = eqb-true (length T) n size; below = points.0; not-zero = absent-facts 0 T zero; once = points.1 }
+      record { size = eqb-true (length T) n size; below = points.0; not_zero = absent-facts 0 T zero; once = points.1 }
 
   pub table-true : IsTable p n T → is_table p n T ≡ true
   unfolding is_table
   table-true h =
-      rw (eq-eqb (length T) n h.size, distinct-residues-true p T (h.below, h.once), absent-true 0 T h.not-zero)
+      rw (eq-eqb (length T) n h.size, distinct-residues-true p T (h.below, h.once), absent-true 0 T h.not_zero)
 
   -- A list of another length is none.
   pub length-not : (length T ≡ n → ⊥) → false ≡ is_table p n T
@@ -120,7 +120,7 @@ module _ (p n : ℕ) (T : List ℕ) (h : IsTable p n T) where
   unfolding point_at
   point-not-zero i party =
       let f = party-facts n i party in
-      all-get_or (λ x. x ≡ 0 → ⊥) T (i - 1) 0 (omega (arith, h.size)) h.not-zero
+      all-get_or (λ x. x ≡ 0 → ⊥) T (i - 1) 0 (omega (arith, h.size)) h.not_zero
 
   pub point-once : (i j : ℕ) → is_party n i ≡ true → is_party n j ≡ true → point_at T i ≡ point_at T j → i ≡ j
   unfolding point_at
@@ -138,7 +138,7 @@ pub one-to-table : (p n : ℕ) → n < p → IsTable p n (one_to n)
 one-to-table p n h = record {
   size = length-one-to n;
   below = all-tabulate suc (λ x. x < p) n (λ k b. omega arith);
-  not-zero = all-tabulate suc (λ x. x ≡ 0 → ⊥) n (λ k b e. omega arith);
+  not_zero = all-tabulate suc (λ x. x ≡ 0 → ⊥) n (λ k b e. omega arith);
   once = distinct-tabulate suc (λ i j e. omega arith) n;
 }
 

@@ -1,7 +1,7 @@
 -- The parties' points (docs/PROTOCOL.md, "Station numbers"): a table has one for each party, in party order.
 --   point_at T i        party i's point
 --   one_to n            1 to n: the table where none is loaded
---   IsTable p n T      T is a table of n parties: n residues, none 0, none twice; is_table p n T is the test for it
+--   IsTable p n T       T is a table of n parties: n residues, none 0, none twice; is_table p n T is the test for it
 --   table_tests p n T   what a table lent for n parties is looked at for, in the order of the refusals
 --   absent, distinct_residues   parts of that test
 --   in_array n T        the array that holds the table T loaded for n parties
@@ -26,7 +26,7 @@ one_to n = parties n
 pub record IsTable (p n : ℕ) (T : List ℕ) : Type 0 where
   pub size : length T ≡ n
   pub below : Residues p T
-  pub not-zero : All (λ x. x ≡ 0 → ⊥) T
+  pub not_zero : All (λ x. x ≡ 0 → ⊥) T
   pub once : Distinct T
 
 -- The test whether x is none of the numbers.

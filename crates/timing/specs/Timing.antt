@@ -1,8 +1,8 @@
 -- What a party says and reports, as functions that take every argument.
---   width_for k                         the width that a number stands for
+--   width_for k                       the width that a number stands for
 --   admitted p T row column           a table of residues, and row and column of at most four numbers
 --   pairing p T i row column j old    what the lent pair holds afterwards, and the answer: 0, or 1 where nothing is written
---   reporting p n T i row column fs ss  party i's report, or no_report
+--   reporting p n T i row column fs ss   party i's report, or no_report
 -- Laws: proofs/Lists.
 use Rattle.std.specs.Prelude.{Bool, cond, ◌&&◌, List, [], ◌∷◌, ℕ, eqb, leb, length}
 use Rattle.field.specs.declared.Width.{Width}

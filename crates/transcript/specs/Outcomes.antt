@@ -1,7 +1,7 @@
 -- What a record's lamps and its published shares come to, and the lines that say it (docs/PROTOCOL.md, "The text of a record").
 --   is_accepted set n t                              the verdict, by the happy set
 --   reply_line i r                                   what lamp i holds, or why it refused, by its reply
---   opening_line o, last_line accepted w n t shares   what the published shares open
+--   opening_line o, last_line accepted w n t shares  what the published shares open
 -- Laws: proofs/Outcomes.
 use Rattle.std.specs.Prelude.{Bool, cond, List, ℕ, ◌-◌, leb}
 use Rattle.std.proofs.Math.Option.{Option, none, some}

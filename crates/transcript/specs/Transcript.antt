@@ -1,9 +1,9 @@
 -- What is printed of a record (docs/PROTOCOL.md, "The text of a record"), to the byte.
---   run bytes w n t i         what lamp i answers to settling, run on the record, of the width w, as an honest one
+--   run bytes w n t i       what lamp i answers to settling, run on the record, of the width w, as an honest one
 --   lamp_lines bytes w n t i   the lines of lamps 1 to i
 --   text_of bytes w n t, text bytes   the text of a record that is not refused, and of any bytes
 --   rendering bytes out     the buffer afterwards, and the answer
---   bytes_written answer     how many bytes an answer says are written
+--   bytes_written answer    how many bytes an answer says are written
 -- Laws: proofs/Texts, proofs/Runs.
 use Rattle.std.specs.Prelude.{cond, List, [], ◌∷◌, ◌++◌, ℕ, zero, suc, ◌+◌, ◌*◌, ◌-◌, leb, length, take, drop}
 use Rattle.field.specs.declared.Width.{Width}

@@ -1,6 +1,6 @@
 -- What the code asks for, and what it answers.
 --   Bounded xs ys                points that can be tried: two lists of one length, at most 16
---   result_of o, given passed f   the struct for what was found, or for nothing; the struct for f, if it has passed
+--   result_of o, given passed f  the struct for what was found, or for nothing; the struct for f, if it has passed
 -- Laws: proofs/Results.
 use Rattle.std.specs.Prelude.{◌≡◌, Bool, true, false, cond, List, [], ℕ, ◌≤◌, length}
 use Rattle.std.proofs.Math.Option.{Option, none, some}

@@ -1,10 +1,10 @@
 -- Writing a record (docs/PROTOCOL.md, "The record") with numbers of two bytes or of four: "A wide record has 128 added to byte 0, four-byte
 -- numbers in every section but reports, and lengths to match".
 --   parted b xs                                 each number as two, the first counting b times as much
---   bytes_of xs, wide_bytes_of xs, bytes_by w xs    the bytes of a list of numbers, two for each, four, or as many as the width has
---   record_of w n t deals pairs reports shares   the whole record
+--   bytes_of xs, wide_bytes_of xs, bytes_by w xs   the bytes of a list of numbers, two for each, four, or as many as the width has
+--   record_of w n t deals pairs reports shares  the whole record
 --   Small w deals .., Contents w n t deals ..   the lists' numbers have their widths; the lists can be a record's
---   lists_fit, writable                          the lengths that writing it takes, and these with the sizes
+--   lists_fit, writable                         the lengths that writing it takes, and these with the sizes
 --   writing w n t deals .. out                  the buffer afterwards, and what the writer answers
 -- Laws: proofs/Bytes, proofs/Buffer, proofs/RoundTrip, proofs/WayBack.
 use Rattle.std.specs.Prelude.{◌≡◌, Bool, true, ◌&&◌, List, [], ◌∷◌, ◌++◌, ℕ, ◌+◌, ◌*◌, ◌/◌, ◌%◌, ◌<◌, eqb, leb, length}

@@ -114,7 +114,7 @@ put_column-requires c κs =
     let told = fitted.before.before.before.before.before.before.before.before.before in
     let f = right told in
     let a = told.args in (
-      omega (arith, f.1, f.0.few-faulty),
+      omega (arith, f.1, f.0.few_faulty),
       column-narrow modulus (prime-of Narrow) a.t a.xs.now a.ys.now _ (same fitted) (omega arith),
     )
 

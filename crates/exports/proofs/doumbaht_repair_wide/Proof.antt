@@ -42,7 +42,7 @@ repaired-fitted-requires : tie.Need-repaired-fitted-requires
 repaired-fitted-requires c κs = (right c).0
 
 put_wide_column-requires : tie.Need-put_wide_column-requires
-put_wide_column-requires c κs = let f = right c.before.before.before in omega (arith, f.1, f.0.few-faulty)
+put_wide_column-requires c κs = let f = right c.before.before.before in omega (arith, f.1, f.0.few_faulty)
 
 returns-in-Fail : tie.Need-returns-in-Fail
 returns-in-Fail c =

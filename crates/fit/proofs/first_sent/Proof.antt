@@ -22,10 +22,10 @@ loop-d-init : tie.Need-loop-d-init invariant-loop-d decreases-loop-d
 loop-d-init c = gathering-start _ _ _ _ _ _ refl c.requires.1
 
 shape_of-px-then-xs-i : tie.Need-shape_of-px-then-xs-i invariant-loop-d decreases-loop-d
-shape_of-px-then-xs-i c = omega (arith, c.loop-d.invariant.width-x)
+shape_of-px-then-xs-i c = omega (arith, c.loop-d.invariant.width_x)
 
 shape_of-py-then-xs-i : tie.Need-shape_of-py-then-xs-i invariant-loop-d decreases-loop-d
-shape_of-py-then-xs-i c = omega (arith, c.loop-d.invariant.width-y)
+shape_of-py-then-xs-i c = omega (arith, c.loop-d.invariant.width_y)
 
 returns-then-xs-i : tie.Need-returns-then-xs-i invariant-loop-d decreases-loop-d
 returns-then-xs-i c =
@@ -79,15 +79,15 @@ loop-d-preserved c =
     gathering-unsent _ _ _ _ _ _ k.d k.i k.invariant (omega arith) (omega arith) c.if-y-p.false
 
 shape_of-px : tie.Need-shape_of-px invariant-loop-d decreases-loop-d
-shape_of-px c = omega (arith, c.loop-d.invariant.width-x)
+shape_of-px c = omega (arith, c.loop-d.invariant.width_x)
 
 shape_of-py : tie.Need-shape_of-py invariant-loop-d decreases-loop-d
-shape_of-py c = omega (arith, c.loop-d.invariant.width-y)
+shape_of-py c = omega (arith, c.loop-d.invariant.width_y)
 
 returns : tie.Need-returns invariant-loop-d decreases-loop-d
 returns c =
     let k = c.loop-d in
-    (gathering-done _ _ _ _ _ _ k.d k.i k.invariant (omega arith), k.invariant.width-x, k.invariant.width-y)
+    (gathering-done _ _ _ _ _ _ k.d k.i k.invariant (omega arith), k.invariant.width_x, k.invariant.width_y)
 
 pub first_sent_spec : {M : Type 1} → statement M
 first_sent_spec =

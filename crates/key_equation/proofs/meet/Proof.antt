@@ -125,10 +125,10 @@ returns c =
     record {
       differs = λ z. c.if-d-eq0.false (d ∙ z);
       first_q = raised.0;
-      first-e = raised.1;
-      second-q =
+      first_e = raised.1;
+      second_q =
           ap (λ l. l ++ drop (length a.r.now - 1) a.r.now) (e.0 ∙ ap (λ z. mixed p z (front a.r.now) g (front a.q.now)) d);
-      second-e =
+      second_e =
           ap (λ l. l ++ drop (length a.f.now - 1) a.f.now) (e.1 ∙ ap (λ z. mixed p z (front a.f.now) g (front a.e.now)) d);
     }
 

@@ -36,4 +36,4 @@ returns t c =
     branches (prime_of s.w) s.need s.xs.now s.ys.now s.i s.c s.cx s.cy s.more s.spare _ c.requires.bounded.lengths c.if-xs-i.false
     (omega (arith, c.requires.room, pos_of_ne-zero c.if-more-eq0.false)) (omega arith) (omega arith) c.if-more-eq0.false
     c.if-spare-eq0.false (omega arith) c.search-with_it.ensures in
-    c.copied-2.ensures ∙ c.search-2.ensures ∙ both.without-it c.if-with_it.false
+    c.copied-2.ensures ∙ c.search-2.ensures ∙ both.without_it c.if-with_it.false

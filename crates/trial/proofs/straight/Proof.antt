@@ -23,7 +23,7 @@ abbrev turn : tie.After-shared_slice_known-in-loop-left-2-1 invariant-loop-left 
 turn read = read.before.before.before.before
 
 loop-left-init : tie.Need-loop-left-init invariant-loop-left decreases-loop-left
-loop-left-init c = record { searching = c.requires; width-x = omega arith; width-y = omega arith; finds = refl }
+loop-left-init c = record { searching = c.requires; width_x = omega arith; width_y = omega arith; finds = refl }
 
 modulus-p-requires : tie.Need-modulus-p-requires invariant-loop-left decreases-loop-left
 modulus-p-requires c κs = search rules
@@ -96,7 +96,7 @@ test-passed-requires : tie.Need-test-passed-requires invariant-loop-left decreas
 test-passed-requires c κs =
     let k = c.loop-left.invariant in
     let s = k.searching in
-    (s.bounded.lengths, ((omega (arith, s.room), k.width-x, k.width-y), (s.points, s.taken-x, s.taken-y)))
+    (s.bounded.lengths, ((omega (arith, s.room), k.width_x, k.width_y), (s.points, s.taken_x, s.taken_y)))
 
 given-requires : tie.Need-given-requires invariant-loop-left decreases-loop-left
 given-requires c κs = search rules
