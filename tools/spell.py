@@ -3,8 +3,8 @@
 
 usage: tools/spell.py     once, at the top of a checkout whose sources have today's form (the port's first script has run)
 
-The port's first script respells the library's names and some of ours. This one respells the rest, in code's clauses, definitions, proofs,
-must-fail edits and pages alike, by these rules:
+The port's first script respells the library's names and some of ours. This one respells the rest, in code's clauses, definitions, proofs
+and must-fail edits alike, by these rules:
   - a name that begins small and has a capital inside gets underscores: `primeOf` becomes `prime_of`, `toLamp1` `to_lamp_1`;
   - a lemma that is named after the library's old `getD` is named after its `get_or`;
   - a record's field and a definition have underscores where they had dashes: `deal-first` becomes `deal_first`; a law keeps its dashes;
@@ -18,8 +18,6 @@ import re
 
 NAME = re.compile(r"(?<![A-Za-z0-9_'₀-₉-])[a-z][A-Za-z0-9_'₀-₉⁰¹²³ᴰ-]*")
 CAMEL = re.compile(r"[a-z0-9][A-Z]")
-# Words of other languages on the pages and in the second program's files, which stay.
-FOREIGN = {"eE", "aZ", "zA"}
 EXCEPTIONS = {
     "sameNumber": "same_number_or_none",
     "tooFew": "too_few_sent",
@@ -53,8 +51,6 @@ def written(path, text, fields):
         tail = ""
         while name.endswith("-"):
             name, tail = name[:-1], tail + "-"
-        if name in FOREIGN:
-            return match.group(0)
         if name in fields:
             return respelled(name).replace("-", "_") + tail
         if name in ONLY_IN and not path.replace(os.sep, "/").endswith(ONLY_IN[name]):

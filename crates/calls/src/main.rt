@@ -14,7 +14,7 @@ ghost use Rattle.std.specs.Prelude.{◌≡◌, ◌≤◌, [], true, false, min, 
 ghost use Rattle.std.specs.Io.KnownBytes.{Appends};
 ghost use Rattle.field.specs.Modulus.{modulus};
 ghost use Rattle.dealer.specs.Desk.{desk, desk_with};
-ghost use Rattle.calls.specs.Lines.{turn, line_end, reply_line, desk_words};
+ghost use Rattle.calls.specs.Lines.{turn, line_end, call_line, desk_words};
 
 use lamp::{Lamp, Reply};
 use recovery::Decoder;
@@ -206,7 +206,7 @@ fn ended<W: Write>(out: &mut W, lamp: Lamp) -> io::Result<Turn>
 
 // The line of a lamp's reply.
 pub(crate) fn replied<W: Write>(out: &mut W, reply: Reply) -> io::Result<Turn>
-    ensures line { OnOk result (Appends (W.contents out.old) (W.contents out.new) (reply_line reply)) }
+    ensures line { OnOk result (Appends (W.contents out.old) (W.contents out.new) (call_line reply)) }
     ensures after { IfOk result (λ after. after ≡ turn reply.lamp true) }
 {
     let answer = reply.answer;

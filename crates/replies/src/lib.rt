@@ -8,7 +8,7 @@ mod texts;
 ghost use Rattle.std.specs.Prelude.{[], ◌∷◌, ◌++◌, codes, OnOk};
 ghost use Rattle.std.specs.Io.KnownBytes.{Appends};
 ghost use Rattle.std.proofs.Math.Option.{none, some};
-ghost use Rattle.replies.specs.Words.{number_word, number_words, outcome_words, answer_words, dealing_words, state_words};
+ghost use Rattle.replies.specs.Words.{number_word, number_words, result_words, answer_words, dealing_words, state_words};
 
 use answers::Answer;
 use dealer::Dealing;
@@ -52,27 +52,27 @@ pub fn wide_numbers<W: Write>(out: &mut W, list: &[u32]) -> io::Result<()>
 }
 
 fn refused<W: Write>(out: &mut W, k: u8) -> io::Result<()>
-    ensures { OnOk result (Appends (W.contents out.old) (W.contents out.new) (outcome_words (some k) [])) }
+    ensures { OnOk result (Appends (W.contents out.old) (W.contents out.new) (result_words (some k) [])) }
 {
     word(out, b"refused")?;
     number(out, k as u32)
 }
 
 fn ok<W: Write>(out: &mut W, x: u32) -> io::Result<()>
-    ensures { OnOk result (Appends (W.contents out.old) (W.contents out.new) (outcome_words none (x ∷ []))) }
+    ensures { OnOk result (Appends (W.contents out.old) (W.contents out.new) (result_words none (x ∷ []))) }
 {
     word(out, b"ok")?;
     number(out, x)
 }
 
 fn done<W: Write>(out: &mut W) -> io::Result<()>
-    ensures { OnOk result (Appends (W.contents out.old) (W.contents out.new) (outcome_words none [])) }
+    ensures { OnOk result (Appends (W.contents out.old) (W.contents out.new) (result_words none [])) }
 {
     word(out, b"ok")
 }
 
 fn pair<W: Write>(out: &mut W, first: u32, second: u32) -> io::Result<()>
-    ensures { OnOk result (Appends (W.contents out.old) (W.contents out.new) (outcome_words none (first ∷ second ∷ []))) }
+    ensures { OnOk result (Appends (W.contents out.old) (W.contents out.new) (result_words none (first ∷ second ∷ []))) }
 {
     ok(out, first)?;
     number(out, second)
