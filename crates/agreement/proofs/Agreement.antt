@@ -24,10 +24,10 @@ use Rattle.parties.proofs.Parties.{sizes-facts, party-facts, party-true, mem-par
 use Rattle.dealer.specs.Desk as desks
 use Rattle.dealer.proofs.Desk.{take-deal, drop-deal, desk-written, desk-stretch}
 use Rattle.answers.specs.declared.Stage.TheVariants.{Holding}
-use Rattle.answers.specs.declared.Answer.TheVariants.{Accepted as Accepted-answer, Opened}
+use Rattle.answers.specs.declared.Answer.TheVariants.{Accepted, Opened}
 use Rattle.lamp.specs.declared.Lamp.{Lamp}
 use Rattle.lamp.specs.declared.Reply.{Reply}
-use Rattle.answers.specs.Answers.{number_of, values_of}
+use Rattle.answers.specs.Answers.{values_of}
 use Rattle.recovery.specs.Recovery.{repair, opening_with}
 use Rattle.answers.specs.Fits.{constant}
 use Rattle.lamp.specs.Lamp.{Call, table_of, open_shares, reply, firsts, with_deal, with_pairs, at_end, settled, opening, opened, step}
@@ -45,6 +45,8 @@ use Rattle.agreement.proofs.Steps.{shares-opened}
 use Rattle.agreement.proofs.Collapse as one
 use Rattle.agreement.proofs.Lamps as lamps
 use Rattle.agreement.proofs.Outcomes.{settled-happy, settled-repaired, heard-entry, heard_all, opened_some}
+use Rattle.std.specs.Prelude.{Ok}
+use Rattle.answers.specs.Refusals.{number_of}
 
 -- There is an honest lamp.
 module _ (s : Setting) (legal : Legal s) (e : Execution) (pr : Premises s e) where
@@ -140,10 +142,10 @@ module _ (s : Setting) (legal : Legal s) (e : Execution) (pr : Premises s e) (ta
 
       -- The outcome of settling, happy or repaired.
       holds : (i : ℕ) (h : Honest s e i)
-          → settled (reported i h) S ≡ reply (at_end (reported i h) Holding S (share i)) Accepted-answer
+          → settled (reported i h) S ≡ reply (at_end (reported i h) Holding S (share i)) (Ok Accepted)
       unfolding with_pairs with_deal share
       holds i h =
-          let held : ℕ → Reply = λ v. reply (at_end (reported i h) Holding S v) Accepted-answer in
+          let held : ℕ → Reply = λ v. reply (at_end (reported i h) Holding S v) (Ok Accepted) in
           let constants = column-constant s legal F on.poly.size i in
           ⊎_elim
           (λ (m : member S i ≡ true).
@@ -198,7 +200,7 @@ module _ (s : Setting) (legal : Legal s) (e : Execution) (pr : Premises s e) (ta
             let answered =
             replied
             ∙ opened_some holding (opening holding ys) f is
-            ∙ ap (λ v. reply holding (Opened v)) (row-constant s legal F on.poly.size) in
+            ∙ ap (λ v. reply holding (Ok (Opened v))) (row-constant s legal F on.poly.size) in
             (ap (λ (z : Reply). number_of z.answer) answered, ap (λ (z : Reply). values_of z.answer) answered)
 
         module _ (places : ShareOrUnsent s e i ys) where
@@ -275,8 +277,8 @@ module _ (s : Setting) (legal : Legal s) (e : Execution) (pr : Premises s e) (ta
   -- ---- an honest dealer
   dealer : (F : List ℕ) → HonestDealer s e F → AllAccept s e F × (value_of s F 0 0 ≡ get_or F 0 0)
   dealer F hd =
-      let written : desks.dealing_number (desk_for s F hd.lent).1 ≡ none =
-      subst (λ T. desks.dealing_number (desk_for (with_table s T) F hd.lent).1 ≡ none) hd.loaded hd.written in
+      let written : number_of (desk_for s F hd.lent).1 ≡ none =
+      subst (λ T. number_of (desk_for (with_table s T) F hd.lent).1 ≡ none) hd.loaded hd.written in
       let w = desk-written (prime s) s.n s.t s.table F hd.lent written in
       let its : (i : ℕ) → Honest s e i → (e.run i).its_deal ≡ desks.deal (prime s) (terms s) s.table F i =
       λ i h.

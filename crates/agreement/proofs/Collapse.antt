@@ -28,6 +28,7 @@ use Rattle.agreement.specs.Calls.{Run, to_deal, to_pairs, to_reports, since_deal
 use Rattle.agreement.specs.Demand3.{Brings}
 use Rattle.agreement.proofs.Steps.{deal_fits, pairs_fit, awaited, fits, takes, hears, settles, pair-said, all_quiet, after-append}
 use Rattle.agreement.proofs.Runs.{Kept, Late, kept-valid, after_kept, settled-kept, settled-late, late-awaits, never-all, never-map}
+use Rattle.std.specs.Prelude.{Ok}
 
 -- What is asked of the lamp: sizes, its number, and a table.
 pub record Ready (s : Setting) (i : ℕ) : Type 0 where
@@ -75,7 +76,7 @@ module _ (s : Setting) (i : ℕ) (ready : Ready s i) (cs : List Call) (r : Run) 
   abbrev pub dealt : Lamp
   dealt = with_deal start d
 
-  pub deal-taken : step start (take_deal r.width d) ≡ reply dealt Done
+  pub deal-taken : step start (take_deal r.width d) ≡ reply dealt (Ok Done)
   deal-taken =
       takes start (made-valid s i ready) r.width d
       (ap (λ z. z && true) (fits r.width s.width b.own_width (length d) (2 * terms s) b.deal_length))
@@ -120,7 +121,7 @@ module _ (s : Setting) (i : ℕ) (ready : Ready s i) (cs : List Call) (r : Run) 
       ∙ ap₂ (λ a c. pair_for (prime s) s.table i a c j) rows columns
 
   pub says-pair : (xs : List Call) (j : ℕ) → is_party s.n j ≡ true
-      → answer_at s i (since_deal r xs) (say_pair j) ≡ Pair (pair_by s i d j).0 (pair_by s i d j).1
+      → answer_at s i (since_deal r xs) (say_pair j) ≡ Ok (Pair (pair_by s i d j).0 (pair_by s i d j).1)
   unfolding with_deal
   says-pair xs j other =
       let l : Lamp = after dealt xs in
@@ -129,7 +130,7 @@ module _ (s : Setting) (i : ℕ) (ready : Ready s i) (cs : List Call) (r : Run) 
       ∙ ap (λ (q : Reply). q.answer)
       (pair-said l (kept-valid dealt l k dealt-valid) j
       (ap (λ (a : Party). is_party a.n j) k.same_party ∙ other) k.started)
-      ∙ ap (λ (q : ℕ × ℕ). Pair q.0 q.1) (kept_pair l k j)
+      ∙ ap (λ (q : ℕ × ℕ). (Ok (Pair q.0 q.1))) (kept_pair l k j)
 
   dealt-awaits : (c : Call) → is_hearing s c ≡ false → awaited dealt c ≡ false
   unfolding with_deal
@@ -160,8 +161,8 @@ module _ (s : Setting) (i : ℕ) (ready : Ready s i) (cs : List Call) (r : Run) 
       ap (λ T. report_of (prime s) s.n T i (row_of_lamp dealt) (column_of_lamp dealt) r.its_pairs) (made_table s i ready)
       ∙ ap₂ (λ a c. report_of (prime s) s.n s.table i a c r.its_pairs) dealt-row dealt-column
 
-  pub pairs-heard : step dealt (hear_pairs r.width r.its_pairs) ≡ reply reported (Report its)
-  pairs-heard = hears dealt dealt-valid r.width r.its_pairs hears-awaited ∙ ap (λ z. reply reported (Report z)) report-is
+  pub pairs-heard : step dealt (hear_pairs r.width r.its_pairs) ≡ reply reported (Ok (Report its))
+  pairs-heard = hears dealt dealt-valid r.width r.its_pairs hears-awaited ∙ ap (λ z. reply reported (Ok (Report z))) report-is
 
   pub reported-valid : Valid reported.party
   unfolding with_pairs with_deal

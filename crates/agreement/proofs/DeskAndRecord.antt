@@ -22,21 +22,21 @@ use Rattle.writer.specs.Writer as writers
 use Rattle.dealer.specs.Desk as desks
 use Rattle.dealer.proofs.Desk.{length-deals}
 use Rattle.answers.specs.declared.Refusal.TheVariants.{WrongSize, WrongLength, NotResidue, WrongTable}
-use Rattle.answers.specs.declared.Writing.TheVariants.{Written}
-use Rattle.answers.specs.Answers.{writing_number}
 use Rattle.agreement.specs.Setting.{Setting, prime, terms, desk_for}
 use Rattle.agreement.specs.Demand1.{Follows, desk_refusals, Reads, Lengths, writer_refusals}
 use Rattle.agreement.specs.Records.{Directory, lengths_of, IsLaid, whole_length}
 use Rattle.agreement.proofs.Rows.{Tests, unless, row}
 use Rattle.agreement.proofs.Guards.{legal-sizes, size-test, same_test, table-test, against, guarded}
+use Rattle.std.specs.Prelude.{Ok}
+use Rattle.answers.specs.Refusals.{number_of}
 
 -- ---- the desk
 pub deals : (s : Setting) (F out : List ℕ)
-    → Follows (desk_refusals s F out) (length (desk_for s F out).0 ≡ length out) (desks.dealing_number (desk_for s F out).1)
+    → Follows (desk_refusals s F out) (length (desk_for s F out).0 ≡ length out) (number_of (desk_for s F out).1)
     (desk_for s F out).0
 unfolding desks.desk_with
 deals s F out =
-    guarded out (λ a. desks.dealing_number (desks.dealt_by a new out).1) (λ a. (desks.dealt_by a new out).0)
+    guarded out (λ a. number_of (desks.dealt_by a new out).1) (λ a. (desks.dealt_by a new out).0)
     (λ a. length (desks.dealt_by a new out).0 ≡ length out) (record { numbered = λ why. refl; unchanged = λ why. refl }) []
     (against WrongSize (size-test s.n s.t)
     ∷ against WrongLength (same_test (length F) (terms s * terms s))
@@ -117,12 +117,12 @@ module _ (bytes : List ℕ) where
   reads_as w n =
       let t : ℕ = records.t_of bytes in
       row (leb 2 (length bytes)) (unless (leb 2 (length bytes)) (leb-true _ _) (le-leb _ _))
-      (λ e. (ap records.reading_number (as_short bytes w n t (leb-false _ _ e)), refl)) (λ two.
-      row (sizes n t) (size-test n t) (λ e. (ap records.reading_number (as-size bytes w n t (leb-true _ _ two) e), refl)) (λ size.
+      (λ e. (ap number_of (as_short bytes w n t (leb-false _ _ e)), refl)) (λ two.
+      row (sizes n t) (size-test n t) (λ e. (ap number_of (as-size bytes w n t (leb-true _ _ two) e), refl)) (λ size.
       row (records.directory_right bytes w n t) (directory-test bytes w n t)
-      (λ e. (ap records.reading_number (as-wrong bytes w n t (leb-true _ _ two) size e), refl)) (λ d.
+      (λ e. (ap number_of (as-wrong bytes w n t (leb-true _ _ two) size e), refl)) (λ d.
       let fine = as-fine bytes w n t (leb-true _ _ two) size d in
-      (ap records.reading_number fine, (legal-sizes n t size, right-laid bytes w n t d, fine)))))
+      (ap number_of fine, (legal-sizes n t size, right-laid bytes w n t d, fine)))))
 
   pub reads : byte0 < 128 → Reads bytes Narrow byte0 (records.reading bytes)
   reads low = subst (Reads bytes Narrow byte0) (read-as-narrow bytes low) (reads_as Narrow byte0)
@@ -168,17 +168,17 @@ lengths-test w n t deals pairs reports shares out =
 
 pub writes : (w : Width) (n t : ℕ) (deals pairs reports shares out : List ℕ)
     → Follows (writer_refusals w n t deals pairs reports shares out)
-    (((writers.writing w n t deals pairs reports shares out).1 ≡ Written (whole_length w n t))
+    (((writers.writing w n t deals pairs reports shares out).1 ≡ Ok (whole_length w n t))
     × ((writers.writing w n t deals pairs reports shares out).0 ≡ over (writers.record_of w n t deals pairs reports shares) out))
-    (writing_number (writers.writing w n t deals pairs reports shares out).1)
+    (number_of (writers.writing w n t deals pairs reports shares out).1)
     (writers.writing w n t deals pairs reports shares out).0
 unfolding writers.writing
 writes w n t deals pairs reports shares out =
-    guarded out (λ a. writing_number (writers.written_by a new end out).1) (λ a. (writers.written_by a new end out).0)
-    (λ a. ((writers.written_by a new end out).1 ≡ Written (whole_length w n t)) × ((writers.written_by a new end out).0 ≡ new))
+    guarded out (λ a. number_of (writers.written_by a new end out).1) (λ a. (writers.written_by a new end out).0)
+    (λ a. ((writers.written_by a new end out).1 ≡ Ok (whole_length w n t)) × ((writers.written_by a new end out).0 ≡ new))
     (record { numbered = λ why. refl; unchanged = λ why. refl }) []
     (against WrongSize (size-test n t) ∷ against WrongLength (lengths-test w n t deals pairs reports shares out) ∷ [])
-    (λ all. (refl, (ap Written (whole w n t), refl)))
+    (λ all. (refl, (ap Ok (whole w n t), refl)))
   where
     new : List ℕ
     new = over (writers.record_of w n t deals pairs reports shares) out

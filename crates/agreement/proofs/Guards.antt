@@ -23,16 +23,15 @@ use Rattle.answers.specs.declared.Stage.{Stage}
 use Rattle.answers.specs.declared.Stage.TheVariants.{Waiting, Dealt, Reported, Holding, Closed}
 use Rattle.answers.specs.declared.Refusal.{Refusal}
 use Rattle.answers.specs.declared.Refusal.TheVariants.{AlteredReport}
-use Rattle.answers.specs.declared.Admission.{Admission}
-use Rattle.answers.specs.declared.Admission.TheVariants.{Pass, Fail}
-use Rattle.answers.specs.Refusals.{Test, refusal_number, lowest}
-use Rattle.answers.specs.Answers.{number_of, stage_number}
+use Rattle.answers.specs.Refusals.{Test, refusal_number, lowest, Admission, number_of}
+use Rattle.answers.specs.Answers.{stage_number}
 use Rattle.lamp.specs.declared.Lamp.{Lamp}
 use Rattle.lamp.specs.declared.Reply.{Reply}
 use Rattle.lamp.specs.Lamp.{refuse, guard, is_at}
 use Rattle.agreement.specs.Demand1.{Rows, Follows, Replies, Sizes, Among}
 use Rattle.agreement.proofs.Rows.{Tests, unless}
 use Rattle.agreement.proofs.Steps.{width_same}
+use Rattle.std.specs.Prelude.{Ok, Err}
 
 -- ---- the tests
 pub legal-sizes : (n t : ℕ) → sizes n t ≡ true → Sizes n t
@@ -115,8 +114,8 @@ Passes (g ∷ gs) = (g.pass ≡ true) × Passes gs
 
 -- What a call answers and leaves by what its tests find: a refusal has its number, and leaves x.
 pub record Answering {X : Type 0} (x : X) (number : Admission → Option ℕ) (left : Admission → X) : Type 0 where
-  pub numbered : (why : Refusal) → number (Fail why) ≡ some (refusal_number why)
-  pub unchanged : (why : Refusal) → left (Fail why) ≡ x
+  pub numbered : (why : Refusal) → number (Err why) ≡ some (refusal_number why)
+  pub unchanged : (why : Refusal) → left (Err why) ≡ x
 
 module _ {X : Type 0} (x : X) (number : Admission → Option ℕ) (left : Admission → X) (done : Admission → Type 0)
     (a : Answering x number left) (T : Rows X) where
@@ -125,11 +124,11 @@ module _ {X : Type 0} (x : X) (number : Admission → Option ℕ) (left : Admiss
   By T found = Follows T (done found) (number found) (left found)
 
   next : (g : Guard) (gs : List Guard) (b : Bool) → Tests b g.applies → (b ≡ true → By (rows x gs T) (lowest (tests_of gs)))
-      → By ((refusal_number g.why, g.applies, x) ∷ rows x gs T) (cond b (lowest (tests_of gs)) (Fail g.why))
+      → By ((refusal_number g.why, g.applies, x) ∷ rows x gs T) (cond b (lowest (tests_of gs)) (Err g.why))
   next g gs true t h = inr (t.passes refl, h refl)
   next g gs false t h = inl (t.fails refl, a.numbered g.why, a.unchanged g.why)
 
-  pub guarded : (gs : List Guard) → (Passes gs → By T Pass) → By (rows x gs T) (lowest (tests_of gs))
+  pub guarded : (gs : List Guard) → (Passes gs → By T (Ok tt)) → By (rows x gs T) (lowest (tests_of gs))
   guarded [] h = h tt
   guarded (g ∷ gs) h = next g gs g.pass g.right (λ e. guarded gs (λ all. h (e, all)))
 

@@ -9,7 +9,7 @@ use lib.Count.{ones}
 use Rattle.happy.specs.Happy.{happy_set}
 use Rattle.lamp.specs.declared.Lamp.{Lamp}
 use Rattle.lamp.specs.declared.Reply.{Reply}
-use Rattle.answers.specs.Answers.{number_of, values_of}
+use Rattle.answers.specs.Answers.{values_of}
 use Rattle.lamp.specs.Lamp.{Call, take_deal, hear_pairs, settle, with_deal, with_pairs, at_end, settled, step}
 use Rattle.agreement.specs.Setting.{Setting, Legal, lamp_at, reply_at}
 use Rattle.agreement.specs.Calls.{to_reports, since_settling}
@@ -17,6 +17,7 @@ use Rattle.agreement.specs.Demand3.{Execution, Honest, Premises, Speaks, Stays, 
 use Rattle.agreement.proofs.Collapse as one
 use Rattle.agreement.proofs.Strays.{others}
 use Rattle.agreement.proofs.Outcomes.{settled-rejects}
+use Rattle.answers.specs.Refusals.{number_of}
 
 module _ (s : Setting) (legal : Legal s) (e : Execution) (pr : Premises s e) (i : ℕ) (h : Honest s e i) where
   abbrev S : ℕ

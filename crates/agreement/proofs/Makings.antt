@@ -16,10 +16,7 @@ use Rattle.field.specs.Modulus.{prime_of}
 use Rattle.parties.proofs.Parties.{sizes-facts, party-true}
 use Rattle.tables.specs.Tables.{point_at, is_table}
 use Rattle.tables.proofs.Tables.{table-facts, point-not-zero, kept-front, kept-not}
-use Rattle.answers.specs.declared.Admission.{Admission}
-use Rattle.answers.specs.declared.Admission.TheVariants.{Pass, Fail}
-use Rattle.answers.specs.Refusals.{refusal_number, lowest}
-use Rattle.answers.specs.Answers.{number_of}
+use Rattle.answers.specs.Refusals.{refusal_number, lowest, Admission, number_of}
 use Rattle.lamp.specs.declared.Party.{Party}
 use Rattle.lamp.specs.declared.Lamp.{Lamp}
 use Rattle.lamp.specs.declared.Reply.{Reply}
@@ -29,6 +26,7 @@ use Rattle.lamp.proofs.Checks.{Passed, passed}
 use Rattle.lamp.proofs.Calls.{step-refused, make-admitted}
 use Rattle.agreement.proofs.Rows.{none-some}
 use Rattle.agreement.proofs.Sentences.{same_party}
+use Rattle.std.specs.Prelude.{Ok, Err}
 
 -- A call that no test refuses has a valid party.
 passed-valid : (l : Lamp) (c : Call) → Passed l c → Valid l.party
@@ -62,7 +60,7 @@ module _ (w : Width) (n t i : ℕ) (T : List ℕ) where
       (true-or-false (eqb (length T) n))
 
   -- So its making was not refused.
-  made-passes : Valid a → lowest (making_tests a T) ≡ Pass
+  made-passes : Valid a → lowest (making_tests a T) ≡ Ok tt
   made-passes v =
       let size = sizes-facts n t v.size in
       let same = right-length v in
@@ -82,7 +80,7 @@ module _ (w : Width) (n t i : ℕ) (T : List ℕ) where
       l = after (made_with w n t i T) cs
 
       go : (found : Admission) → lowest (tests l c) ≡ found → (j : ℕ) × (number_of (step l c).answer ≡ some j)
-      go (Fail why) e = (refusal_number why, ap (λ (r : Reply). number_of r.answer) (sym (step-refused l c e)))
-      go Pass e =
+      go (Err why) e = (refusal_number why, ap (λ (r : Reply). number_of r.answer) (sym (step-refused l c e)))
+      go (Ok tt) e =
           let v : Valid a = subst Valid (same_party (made_with w n t i T) refl cs).0 (passed-valid l c (passed l c e)) in
           absurd (none-some _ k (ap (λ (r : Reply). number_of r.answer) (sym (make-admitted w n t i T (made-passes v)))) bad)

@@ -17,7 +17,6 @@ use Rattle.bivariate.specs.Bivariate.{at}
 use Rattle.parties.specs.Parties.{is_party}
 use Rattle.parties.proofs.Parties.{party-facts}
 use Rattle.tables.specs.Tables.{one_to, point_at}
-use Rattle.answers.specs.declared.Answer.{Answer}
 use Rattle.lamp.specs.Lamp.{Call, open_shares}
 use Rattle.agreement.specs.Setting.{point, value_of, answer_at}
 use Rattle.agreement.specs.Calls.{since_settling}
@@ -25,6 +24,7 @@ use Rattle.agreement.specs.Demand1.{unsent}
 use Rattle.agreement.specs.Demand3.{Execution, Honest, Gives, Refuses, ShareOrUnsent, honest_there, share_of}
 use Rattle.agreement.specs.Stories.{run_of, execution, an_f, five, honest_dealer, one_lie, two_missing, lie_alone}
 use Rattle.agreement.proofs.Stories.{plain-accepted}
+use Rattle.answers.specs.Answers.{Answered}
 
 module _ (w : Width) where
   abbrev story : Execution
@@ -64,7 +64,7 @@ three-there Narrow = lit≤ tt
 three-there Wide = lit≤ tt
 
 -- What lamp 5 answers to an opening, after settling and the calls xs.
-abbrev answer : (w : Width) → List Call → List ℕ → Answer
+abbrev answer : (w : Width) → List Call → List ℕ → Answered
 answer w xs ys = answer_at (five w) 5 (since_settling (run_of (five w) (honest_dealer w (one_to 5)) 5) xs) (open_shares w ys)
 
 pub missing-opened : (w : Width) → Gives (answer w (first w ∷ []) (two_missing w (one_to 5))) (value_of (five w) an_f 0 0 ∷ [])

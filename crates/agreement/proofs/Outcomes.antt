@@ -14,20 +14,22 @@ use Rattle.parties.specs.Parties.{is_party, member, entry}
 use Rattle.parties.proofs.Parties.{party-facts}
 use Rattle.answers.specs.declared.Stage.TheVariants.{Holding, Closed}
 use Rattle.answers.specs.declared.Refusal.TheVariants.{DealerRejected}
-use Rattle.answers.specs.declared.Answer.TheVariants.{Accepted, Opened, Refused}
+use Rattle.answers.specs.declared.Answer.TheVariants.{Accepted, Opened}
 use Rattle.lamp.specs.declared.Lamp.{Lamp}
 use Rattle.consistency.specs.Deal.{first_from}
 use Rattle.recovery.specs.Recovery.{repair}
 use Rattle.answers.specs.Fits.{constant}
 use Rattle.lamp.specs.Lamp.{its_prime, table_of, reply, column_of_lamp, firsts, at_end, repaired, settled, opened}
+use Rattle.std.specs.Prelude.{Ok, Err}
 
 module _ (l : Lamp) (S : ℕ) where
-  pub settled-rejects : ones S < l.party.n - l.party.t → settled l S ≡ reply (at_end l Closed 0 0) (Refused DealerRejected)
+  pub settled-rejects : ones S < l.party.n - l.party.t → settled l S ≡ reply (at_end l Closed 0 0) (Err DealerRejected)
   unfolding settled
   settled-rejects h = rw (lt-leb (l.party.n - l.party.t) (ones S) h)
 
   module _ (many : l.party.n - l.party.t ≤ ones S) where
-    pub settled-happy : member S l.party.number ≡ true → settled l S ≡ reply (at_end l Holding S (constant (column_of_lamp l))) Accepted
+    pub settled-happy : member S l.party.number ≡ true
+        → settled l S ≡ reply (at_end l Holding S (constant (column_of_lamp l))) (Ok Accepted)
     unfolding settled
     settled-happy e = rw (le-leb (l.party.n - l.party.t) (ones S) many, e)
 
@@ -38,7 +40,7 @@ module _ (l : Lamp) (S : ℕ) where
 
     pub settled-repaired : (f : List ℕ) → member S l.party.number ≡ false
         → repair (its_prime l.party) l.party.n l.party.t (table_of l.party) S l.sharing.heard ≡ some f
-        → settled l S ≡ reply (at_end l Holding S (constant f)) Accepted
+        → settled l S ≡ reply (at_end l Holding S (constant f)) (Ok Accepted)
     settled-repaired f e found = settled-mended e ∙ ap (repaired l S) found
 
 -- The first number heard from each party is kept.
@@ -57,5 +59,5 @@ heard_all n hs few =
     length-append (firsts n hs) (replicate (16 - length (firsts n hs)) 0)
     ∙ omega (arith, long, length-replicate {A = ℕ} (16 - length (firsts n hs)) 0)
 
-pub opened_some : (l : Lamp) (o : Option (List ℕ)) (f : List ℕ) → o ≡ some f → opened l o ≡ reply l (Opened (constant f))
+pub opened_some : (l : Lamp) (o : Option (List ℕ)) (f : List ℕ) → o ≡ some f → opened l o ≡ reply l (Ok (Opened (constant f)))
 opened_some l o f e = rw e

@@ -17,7 +17,7 @@ use Rattle.parties.specs.Parties.{is_party}
 use Rattle.parties.proofs.Parties.{sizes-facts}
 use Rattle.tables.specs.Tables.{IsTable, one_to}
 use Rattle.tables.proofs.Tables.{length-one-to, one-to-table, one-to-point, kept-front}
-use Rattle.dealer.specs.Desk.{stretch, desk, dealing_number}
+use Rattle.dealer.specs.Desk.{stretch, desk}
 use Rattle.lamp.specs.declared.Party.{Party}
 use Rattle.lamp.specs.declared.Lamp.{Lamp}
 use Rattle.lamp.specs.Lamp.{made, make, its_prime, table_of, Call, take_deal, say_pair, hear_pairs, settle, open_shares, step, after}
@@ -30,6 +30,7 @@ use Rattle.agreement.proofs.Sentences.{same_party}
 use Rattle.agreement.proofs.Refusals.{demand1}
 use Rattle.agreement.proofs.Rightness.{demand2}
 use Rattle.agreement.proofs.Agreement.{demand3}
+use Rattle.answers.specs.Refusals.{number_of}
 
 -- There are residues for sixteen lamps.
 above-16 : (w : Width) → 16 < prime_of w
@@ -53,7 +54,7 @@ module _ (w : Width) where
       (λ none bad. bad (length-one-to n)) (demand1.makes w n t i (one_to n)))
 
   deals : (n t : ℕ) (F out : List ℕ) → let r = desk p n t F out in
-      Follows (plain_dealing w n t F out) (length r.0 ≡ length out) (dealing_number r.1) r.0
+      Follows (plain_dealing w n t F out) (length r.0 ≡ length out) (number_of r.1) r.0
   deals n t F out =
       skipped _ _ _ lengths 14 (IsTable p n (one_to n) → ⊥) out last (λ none bad. none.0 (λ s. bad (points n t s)))
       (skipped _ _ _ lengths 3 (length (one_to n) ≡ n → ⊥) out ((14, IsTable p n (one_to n) → ⊥, out) ∷ last)
@@ -102,7 +103,7 @@ module _ (w : Width) where
     never_14 c e = not-given _ _ _ (refusals l c) (demand1.calls l its.1 c) 14 (unused c) e
 
   -- ---- what the desk deals
-  dealt : (n t : ℕ) (F out : List ℕ) → dealing_number (desk p n t F out).1 ≡ none → (i : ℕ) → is_party n i ≡ true
+  dealt : (n t : ℕ) (F out : List ℕ) → number_of (desk p n t F out).1 ≡ none → (i : ℕ) → is_party n i ≡ true
       → stretch (suc t) (desk p n t F out).0 i ≡ row p (suc t) (suc t) F i ++ column p (suc t) (suc t) F i
   dealt n t F out written i party =
       (demand2.dealing w n t (one_to n) F out).stretches written i party

@@ -24,7 +24,6 @@ use Rattle.answers.specs.declared.Stage.{Stage}
 use Rattle.answers.specs.declared.Stage.TheVariants.{Waiting, Dealt, Reported, Holding, Closed}
 use Rattle.answers.specs.declared.Refusal.TheVariants.{WrongSize, WrongNumber, WrongLength, WrongStage, WrongTable, WrongWidth}
 use Rattle.answers.specs.declared.Answer.TheVariants.{Done}
-use Rattle.answers.specs.Answers.{number_of}
 use Rattle.lamp.specs.declared.Lamp.{Lamp}
 use Rattle.lamp.specs.declared.Reply.{Reply}
 use Rattle.lamp.specs.Lamp.{made_with, its_prime, table_of, reply, with_deal, with_pairs, at_end, repaired, settled, opening, opened, Call}
@@ -41,6 +40,8 @@ use Rattle.agreement.proofs.Guards.{size-test, party-test, same-width, width-tes
 use Rattle.agreement.proofs.Guards.{stage-test, waiting-test, Guard, against, replying, seven}
 use Rattle.agreement.proofs.Sayings.{says, reports}
 use Rattle.agreement.proofs.DeskAndRecord.{deals, reads, reads_wide, reads_old, writes}
+use Rattle.std.specs.Prelude.{Ok}
+use Rattle.answers.specs.Refusals.{number_of}
 
 -- ---- what settling and opening answer, where nothing is wrong with the call
 abbrev ending : Lamp → List ℕ → Rows Lamp
@@ -186,7 +187,7 @@ makes : (w : Width) (n t i : ℕ) (T : List ℕ)
 unfolding make_with
 makes w n t i T =
     let l : Lamp = made_with w n t i T in
-    replying l (reply l Done) (λ r. Gives r.answer [] × (r.lamp ≡ l)) []
+    replying l (reply l (Ok Done)) (λ r. Gives r.answer [] × (r.lamp ≡ l)) []
     (against WrongSize (size-test n t)
     ∷ against WrongNumber (party-test n i)
     ∷ against WrongLength (same_test (length T) n)

@@ -31,7 +31,7 @@ use Rattle.dealer.specs.Desk.{deal}
 use Rattle.dealer.proofs.Desk.{length-deals, desk-written, desk-list, desk-stretch}
 use Rattle.lamp.specs.declared.Lamp.{Lamp}
 use Rattle.lamp.specs.declared.Reply.{Reply}
-use Rattle.answers.specs.Answers.{number_of, values_of, stage_number}
+use Rattle.answers.specs.Answers.{values_of, stage_number}
 use Rattle.answers.specs.Fits.{constant}
 use Rattle.consistency.specs.Deal.{row_of, column_of}
 use Rattle.lamp.specs.Lamp.{its_prime, table_of, with_deal, with_pairs, report_from, row_of_lamp, column_of_lamp, opening, opened, open_shares, step}
@@ -43,6 +43,7 @@ use Rattle.agreement.proofs.Rows.{none-some}
 use Rattle.agreement.proofs.Steps.{fits, takes, hears, shares-opened}
 use Rattle.agreement.proofs.Outcomes.{heard-entry, opened_some}
 use Rattle.agreement.proofs.Settling.{small, largest, rejects-right, keeps-right, repairs-right}
+use Rattle.answers.specs.Refusals.{number_of}
 
 -- ---- opening
 module _ (l : Lamp) (P : Prime (its_prime l.party)) (w : Width) (shares : List ℕ) (h : Opens l w shares) where

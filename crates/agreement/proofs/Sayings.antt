@@ -18,12 +18,12 @@ use Rattle.parties.proofs.Parties.{party-true}
 use Rattle.consistency.specs.Deal.{sound, confirms, report_of}
 use Rattle.consistency.proofs.Reports.{pair-self, pair-unsound, pair-sound}
 use Rattle.answers.specs.declared.Answer.TheVariants.{Pair}
-use Rattle.answers.specs.declared.Answer.{Answer}
-use Rattle.answers.specs.Answers.{values_of}
+use Rattle.answers.specs.Answers.{values_of, Answered}
 use Rattle.lamp.specs.declared.Lamp.{Lamp}
 use Rattle.lamp.specs.Lamp.{its_prime, table_of, row_of_lamp, column_of_lamp, said_pair, report_from}
 use Rattle.agreement.specs.Demand1.{Among, IsSound, unsent, SaysNothing, Says, Reports}
 use Rattle.agreement.proofs.Deals.{sound-facts, sound-true, confirmed, confirms-true, report-bit}
+use Rattle.std.specs.Prelude.{Ok}
 
 -- ---- a lamp's deal is sound
 module _ (l : Lamp) where
@@ -58,10 +58,10 @@ module _ (l : Lamp) (j : ℕ) where
   abbrev said : ℕ × ℕ
   said = said_pair l j
 
-  nothing : (not_sent (p l), not_sent (p l)) ≡ said → SaysNothing l (Pair said.0 said.1)
+  nothing : (not_sent (p l), not_sent (p l)) ≡ said → SaysNothing l (Ok (Pair said.0 said.1))
   nothing e = (refl, ap (λ z. z.0 ∷ z.1 ∷ []) (sym e) ∙ ap (λ v. v ∷ v ∷ []) (not-sent l.party.width))
 
-  pub says : Says l j (Pair said.0 said.1)
+  pub says : Says l j (Ok (Pair said.0 said.1))
   unfolding said_pair
   says = record {
     itself = λ e. nothing (pair-self (p l) T l.party.number (row_of_lamp l) (column_of_lamp l) j e);
@@ -75,7 +75,7 @@ module _ (l : Lamp) (j : ℕ) where
   }
 
 -- Whatever says so says the same values.
-pub says-once : (l : Lamp) (j : ℕ) (a b : Answer) → Says l j a → Says l j b → values_of a ≡ values_of b
+pub says-once : (l : Lamp) (j : ℕ) (a b : Answered) → Says l j a → Says l j b → values_of a ≡ values_of b
 says-once l j a b f g =
     elim (ℕ_discrete l.party.number j) [
       | yes e ↦ silent (f.itself e) (g.itself e)

@@ -26,12 +26,10 @@ use Rattle.answers.specs.declared.Stage.{Stage}
 use Rattle.answers.specs.declared.Stage.TheVariants.{Holding, Closed}
 use Rattle.answers.specs.declared.Refusal.TheVariants.{AlteredReport}
 use Rattle.answers.specs.declared.Answer.TheVariants.{Report}
-use Rattle.answers.specs.declared.Admission.{Admission}
-use Rattle.answers.specs.declared.Admission.TheVariants.{Pass, Fail}
 use Rattle.lamp.specs.declared.Party.{Party}
 use Rattle.lamp.specs.declared.Lamp.{Lamp}
 use Rattle.lamp.specs.declared.Reply.{Reply}
-use Rattle.answers.specs.Refusals.{lowest}
+use Rattle.answers.specs.Refusals.{lowest, Admission}
 use Rattle.answers.specs.Answers.{stage_number}
 use Rattle.lamp.specs.Lamp.{reply, refuse, guard, with_deal, with_pairs, report_from, at_end}
 use Rattle.lamp.specs.Lamp.{settled, opening, opened, Call, take_deal, say_pair, hear_pairs, settle, open_shares, step}
@@ -45,11 +43,12 @@ use Rattle.agreement.proofs.Runs.{settled-ends}
 use Rattle.agreement.proofs.Strays.{cuts, never-at}
 use Rattle.agreement.proofs.Outcomes.{heard_all}
 use Rattle.agreement.proofs.Collapse as one
+use Rattle.std.specs.Prelude.{Ok, Err}
 
 -- ---- what a call can make of a lamp
-guard-makes : (Q : Lamp → Type 0) (l : Lamp) (a : Admission) (r : Reply) → Q l → (a ≡ Pass → Q r.lamp) → Q (guard l a r).lamp
-guard-makes Q l Pass r h k = k refl
-guard-makes Q l (Fail why) r h k = h
+guard-makes : (Q : Lamp → Type 0) (l : Lamp) (a : Admission) (r : Reply) → Q l → (a ≡ Ok tt → Q r.lamp) → Q (guard l a r).lamp
+guard-makes Q l (Ok tt) r h k = k refl
+guard-makes Q l (Err why) r h k = h
 
 -- By the test's answer, which the first case may cite.
 by-test : {A : Type 0} (Q : A → Type 0) (b : Bool) (x y : A) → (b ≡ true → Q x) → Q y → Q (cond b x y)
@@ -68,7 +67,7 @@ module _ (Q : Lamp → Type 0) (l : Lamp) where
   unfolding step
   step-makes same dealt heard ended c = guard-makes Q l (lowest (tests l c)) (outcome l c) same (makes c)
     where
-      makes : (c : Call) → lowest (tests l c) ≡ Pass → Q (outcome l c).lamp
+      makes : (c : Call) → lowest (tests l c) ≡ Ok tt → Q (outcome l c).lamp
       makes (take_deal w d) e = dealt w d (passed l (take_deal w d) e)
       makes (say_pair j) e = same
       makes (hear_pairs w hs) e = heard w hs (passed l (hear_pairs w hs) e)
@@ -162,17 +161,17 @@ after-three-calls s i d hs rs ready ld lh lr own =
     (end-last (one.reported s i ready (whole r) r b) (happy_set rs))
 
 -- ---- the report that is given out is kept
-pub report-kept : (l : Lamp) (w : Width) (hs : List ℕ) (r : ℕ) → (step l (hear_pairs w hs)).answer ≡ Report r
+pub report-kept : (l : Lamp) (w : Width) (hs : List ℕ) (r : ℕ) → (step l (hear_pairs w hs)).answer ≡ Ok (Report r)
     → (step l (hear_pairs w hs)).lamp.sharing.report ≡ r
 unfolding step with_pairs
 report-kept l w hs r e = by (lowest (tests l (hear_pairs w hs))) e
   where
     heard : Reply
-    heard = reply (with_pairs l hs) (Report (report_from l hs))
+    heard = reply (with_pairs l hs) (Ok (Report (report_from l hs)))
 
-    by : (a : Admission) → (guard l a heard).answer ≡ Report r → (guard l a heard).lamp.sharing.report ≡ r
-    by Pass e = cc
-    by (Fail why) e = absurd (let z : ◌≡◌ {A = ℕ} 0 1 = cc in omega arith)
+    by : (a : Admission) → (guard l a heard).answer ≡ Ok (Report r) → (guard l a heard).lamp.sharing.report ≡ r
+    by (Ok tt) e = cc
+    by (Err why) e = absurd (let z : ◌≡◌ {A = ℕ} 0 1 = cc in omega arith)
 
 -- ---- a list determines what it brings
 first-once : (test : Call → Bool) (us : List Call) (c : Call) (ws vs : List Call) (b : Call) (zs : List Call)

@@ -35,10 +35,10 @@ use Rattle.tables.specs.Tables.{IsTable}
 use Rattle.tables.proofs.Tables.{table-facts, table-points}
 use Rattle.answers.specs.declared.Stage.TheVariants.{Holding, Closed}
 use Rattle.answers.specs.declared.Refusal.TheVariants.{NoColumn}
-use Rattle.answers.specs.declared.Answer.TheVariants.{Accepted, Refused}
+use Rattle.answers.specs.declared.Answer.TheVariants.{Accepted}
 use Rattle.lamp.specs.declared.Lamp.{Lamp}
 use Rattle.lamp.specs.declared.Reply.{Reply}
-use Rattle.answers.specs.Answers.{number_of, values_of, stage_number}
+use Rattle.answers.specs.Answers.{values_of, stage_number}
 use Rattle.recovery.specs.Recovery.{repair}
 use Rattle.recovery.proofs.Deciding.{marks-ones}
 use Rattle.answers.specs.Fits.{constant}
@@ -49,9 +49,11 @@ use Rattle.agreement.specs.Demand3.{Refuses}
 use Rattle.agreement.proofs.Rows.{none-some, one_number}
 use Rattle.agreement.proofs.Steps.{settles}
 use Rattle.agreement.proofs.Outcomes.{settled-rejects, settled-happy, settled-mended, settled-repaired}
+use Rattle.std.specs.Prelude.{Ok, Err}
+use Rattle.answers.specs.Refusals.{number_of}
 
 -- A reply that is known, and what it gives.
-holds-end : (l : Lamp) (S v : ℕ) (r : Reply) → r ≡ reply (at_end l Holding S v) Accepted → EndsHolding l S v r
+holds-end : (l : Lamp) (S v : ℕ) (r : Reply) → r ≡ reply (at_end l Holding S v) (Ok Accepted) → EndsHolding l S v r
 unfolding at_end
 holds-end l S v r e = record {
   answered = (ap (λ (z : Reply). number_of z.answer) e, ap (λ (z : Reply). values_of z.answer) e);
@@ -181,11 +183,11 @@ module _ (l : Lamp) (P : Prime (its_prime l.party)) (rs : List ℕ) (h : Settles
       unfolding repair
       repair-is = ap (λ m. fit p t (m - t) xs ys) (sym size-xs)
 
-      found : (f : List ℕ) → FitsHeard l S f → step l (settle rs) ≡ reply (at_end l Holding S (constant f)) Accepted
+      found : (f : List ℕ) → FitsHeard l S f → step l (settle rs) ≡ reply (at_end l Holding S (constant f)) (Ok Accepted)
       found f near =
           goes ∙ settled-repaired l S many f out (repair-is ∙ near-found p P t xs ys fine (size-xs ∙ sym size-ys) enough f near)
 
-      pub closed : mended ≡ none → step l (settle rs) ≡ reply (at_end l Closed S 0) (Refused NoColumn)
+      pub closed : mended ≡ none → step l (settle rs) ≡ reply (at_end l Closed S 0) (Err NoColumn)
       closed e = goes ∙ settled-mended l S many out ∙ ap (repaired l S) e
 
       -- 9 says that nothing was found.

@@ -19,15 +19,14 @@ use Rattle.answers.specs.declared.Stage.TheVariants.{Waiting, Dealt, Reported, H
 use Rattle.answers.specs.declared.Refusal.{Refusal}
 use Rattle.answers.specs.declared.Refusal.TheVariants.{WrongLength, WrongStage, AlteredReport, WrongWidth}
 use Rattle.answers.specs.declared.Answer.TheVariants.{Done, Pair, Report}
-use Rattle.answers.specs.declared.Admission.{Admission}
-use Rattle.answers.specs.declared.Admission.TheVariants.{Pass, Fail}
 use Rattle.lamp.specs.declared.Lamp.{Lamp}
 use Rattle.lamp.specs.declared.Reply.{Reply}
-use Rattle.answers.specs.Refusals.{refusal_number, lowest}
+use Rattle.answers.specs.Refusals.{refusal_number, lowest, Admission}
 use Rattle.lamp.specs.Lamp.{Valid, reply, refuse, guard, is_at, party_tests, lent_tests, with_deal, said_pair, with_pairs, report_from}
 use Rattle.lamp.specs.Lamp.{settled, opening, opened}
 use Rattle.lamp.specs.Lamp.{Call, take_deal, say_pair, hear_pairs, settle, open_shares, tests, step, after}
 use Rattle.agreement.specs.Calls.{Never, moves}
+use Rattle.std.specs.Prelude.{Ok, Err}
 
 -- A deal, and pairs, of the lamp's own width and the right length.
 abbrev pub deal_fits : Lamp → Width → List ℕ → Bool
@@ -71,8 +70,8 @@ guard_shut l true false stage r e = record { why = WrongLength; is = refl; numbe
 guard_shut l false list stage r e = record { why = WrongWidth; is = refl; number = inr (inr (inr refl)) }
 
 guard-same : (l : Lamp) (a : Admission) (r : Reply) → r.lamp ≡ l → (guard l a r).lamp ≡ l
-guard-same l Pass r e = e
-guard-same l (Fail why) r e = refl
+guard-same l (Ok tt) r e = e
+guard-same l (Err why) r e = refl
 
 opened-same : (l : Lamp) (o : Option (List ℕ)) → (opened l o).lamp ≡ l
 opened-same l none = refl
@@ -100,12 +99,12 @@ module _ (l : Lamp) (valid : Valid l.party) where
   shut_out width list stage r e = subst (λ a. Shut l (guard l a r)) (sym (lent-valid width list stage)) (guard_shut l width list stage r e)
 
   -- ---- what is awaited is accepted
-  pub takes : (w : Width) (d : List ℕ) → awaited l (take_deal w d) ≡ true → step l (take_deal w d) ≡ reply (with_deal l d) Done
+  pub takes : (w : Width) (d : List ℕ) → awaited l (take_deal w d) ≡ true → step l (take_deal w d) ≡ reply (with_deal l d) (Ok Done)
   unfolding step
   takes w d e = admitted (same_width w l.party.width) (eqb (length d) (2 * suc l.party.t)) (is_at Waiting l.sharing) _ e
 
   pub hears : (w : Width) (hs : List ℕ) → awaited l (hear_pairs w hs) ≡ true
-      → step l (hear_pairs w hs) ≡ reply (with_pairs l hs) (Report (report_from l hs))
+      → step l (hear_pairs w hs) ≡ reply (with_pairs l hs) (Ok (Report (report_from l hs)))
   unfolding step
   hears w hs e = admitted (same_width w l.party.width) (eqb (length hs) (2 * l.party.n)) (is_at Dealt l.sharing) _ e
 
@@ -124,7 +123,7 @@ module _ (l : Lamp) (valid : Valid l.party) where
 
   -- A saying from the deal on, for any party.
   pub pair-said : (j : ℕ) → is_party l.party.n j ≡ true → is_at Waiting l.sharing ≡ false
-      → step l (say_pair j) ≡ reply l (Pair (said_pair l j).0 (said_pair l j).1)
+      → step l (say_pair j) ≡ reply l (Ok (Pair (said_pair l j).0 (said_pair l j).1))
   unfolding step
   pair-said j party e = rw (valid.size, valid.party, valid.table, party, e)
 

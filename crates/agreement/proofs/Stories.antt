@@ -30,11 +30,10 @@ use Rattle.parties.specs.Parties.{sizes, is_party, parties, not_sent, entry}
 use Rattle.parties.proofs.Parties.{party-facts}
 use Rattle.tables.specs.Tables.{point_at, one_to, IsTable, is_table}
 use Rattle.tables.proofs.Tables.{table-facts, one-to-table}
-use Rattle.dealer.specs.Desk.{deal, dealing_number, desk_with}
-use Rattle.dealer.specs.declared.Dealing.{Dealing}
+use Rattle.dealer.specs.Desk.{deal, desk_with}
 use Rattle.dealer.proofs.Desk.{length-deal, desk-writes, desk-stretch}
 use Rattle.lamp.specs.declared.Reply.{Reply}
-use Rattle.answers.specs.Answers.{number_of, values_of}
+use Rattle.answers.specs.Answers.{values_of}
 use Rattle.recovery.specs.Recovery.{repair}
 use Rattle.lamp.specs.Lamp.{Call, settle, open_shares, step, with_deal, with_pairs, report_from, settled, opening, at_end}
 use Rattle.consistency.specs.Deal.{first_from, second_from, sound, pair_for, confirms, report_of}
@@ -45,6 +44,7 @@ use Rattle.agreement.specs.Stories.{Plot, pair_heard, pairs_heard, reports_seen,
 use Rattle.agreement.specs.Stories.{honest_dealer, liar, two_dealers}
 use Rattle.agreement.specs.Harbour.{stations}
 use Rattle.agreement.proofs.Agreement.{demand3}
+use Rattle.answers.specs.Refusals.{Admission, number_of}
 
 module _ (s : Setting) (q : Plot) where
   first-heard : (i j : ℕ) → is_party s.n j ≡ true → first_from (pairs_heard s q i) j ≡ (pair_heard s q i j).0
@@ -158,9 +158,9 @@ module _ (w : Width) (T : List ℕ) (table : IsTable (prime_of w) 5 T) where
             sym (desk-stretch (prime_of w) 5 1 T an_f (replicate 20 0) written i range.0 range.1);
       })).0
     where
-      written : dealing_number (desk_with (prime_of w) 5 1 T an_f (replicate 20 0)).1 ≡ none
+      written : number_of (desk_with (prime_of w) 5 1 T an_f (replicate 20 0)).1 ≡ none
       written =
-          ap (λ (q : List ℕ × Dealing). dealing_number q.1) (desk-writes (prime_of w) 5 1 T an_f (replicate 20 0) (record {
+          ap (λ (q : List ℕ × Admission). number_of q.1) (desk-writes (prime_of w) 5 1 T an_f (replicate 20 0) (record {
             size = unfold sizes in refl;
             square = refl;
             long = refl;

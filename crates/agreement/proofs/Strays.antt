@@ -7,8 +7,7 @@ use mathlib.Core.List.{List, [], ◌∷◌, ◌++◌, head-eq_of_cons-eq, tail-e
 use Prim.Native.Nat.{ℕ}
 use Rattle.lamp.specs.declared.Lamp.{Lamp}
 use Rattle.lamp.specs.declared.Reply.{Reply}
-use Rattle.answers.specs.Refusals.{refusal_number}
-use Rattle.answers.specs.Answers.{number_of}
+use Rattle.answers.specs.Refusals.{refusal_number, number_of}
 use Rattle.lamp.specs.Lamp.{Valid, refuse, Call, take_deal, hear_pairs, settle, step, after}
 use Rattle.agreement.specs.Setting.{Setting, lamp_at, reply_at, answer_at}
 use Rattle.agreement.specs.Calls.{Run, to_deal, to_pairs, to_reports, At, Never, moves}

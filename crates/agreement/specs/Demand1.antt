@@ -17,6 +17,7 @@
 --   Reads bytes w n r          the answer r of a record's reader that takes the width w and n; what a record is: Records
 --   Demand1                    the demand, for every lamp and desk of either width, with any table
 use Rattle.std.specs.Prelude.{◌≡◌, ◌⊎◌, ◌↔◌, true, false, List, [], ◌∷◌, ℕ, suc, ◌+◌, ◌*◌, ◌-◌, ◌^◌, ◌≤◌, ◌<◌, length, get_or, replicate}
+use Rattle.std.specs.Prelude.{Ok}
 use Rattle.std.proofs.Math.Option.{Option, none, some}
 use Rattle.lists.specs.Tabulate.{pad}
 use Rattle.field.specs.declared.Width.{Width}
@@ -26,19 +27,16 @@ use Rattle.polynomial.specs.Polynomial.{Residues, value}
 use Rattle.happy.specs.Happy.{happy_set}
 use Rattle.parties.specs.Parties.{member, entry}
 use Rattle.tables.specs.Tables.{point_at, IsTable}
-use Rattle.record.specs.declared.Reading.{Reading}
-use Rattle.record.specs.declared.Reading.TheVariants.{Fine}
 use Rattle.record.specs.Bytes.{over}
 use Rattle.record.specs.Record as records
+use Rattle.record.specs.Record.{Reading, fine}
 use Rattle.writer.specs.Writer as writers
-use Rattle.answers.specs.declared.Writing.TheVariants.{Written}
-use Rattle.dealer.specs.Desk as desks
 use Rattle.answers.specs.declared.Stage.TheVariants.{Waiting, Dealt, Reported, Holding, Closed}
-use Rattle.answers.specs.declared.Answer.{Answer}
 use Rattle.consistency.specs.Deal.{first_from, second_from}
 use Rattle.lamp.specs.declared.Lamp.{Lamp}
 use Rattle.lamp.specs.declared.Reply.{Reply}
-use Rattle.answers.specs.Answers.{number_of, writing_number}
+use Rattle.answers.specs.Refusals.{number_of}
+use Rattle.answers.specs.Answers.{Answered}
 use Rattle.lamp.specs.Lamp.{made_with, its_prime, row_of_lamp, column_of_lamp, Call, take_deal, say_pair, hear_pairs, settle, open_shares}
 use Rattle.lamp.specs.Lamp.{step, make_with}
 use Rattle.agreement.specs.Setting.{Setting, setting, prime, terms, desk_for}
@@ -203,11 +201,11 @@ unsent Narrow = 65535
 unsent Wide = 4294967295
 
 -- "Both numbers are" that.
-abbrev pub SaysNothing : Lamp → Answer → Type 0
+abbrev pub SaysNothing : Lamp → Answered → Type 0
 SaysNothing l a = Gives a (unsent l.party.width ∷ unsent l.party.width ∷ [])
 
 -- The pair for lamp j: nothing for itself or with an unsound deal, else row at j, column at j.
-pub record Says (l : Lamp) (j : ℕ) (a : Answer) : Type 0 where
+pub record Says (l : Lamp) (j : ℕ) (a : Answered) : Type 0 where
   pub itself : l.party.number ≡ j → SaysNothing l a
   pub unsound : (IsSound l → ⊥) → SaysNothing l a
   pub sound : (l.party.number ≡ j → ⊥) → IsSound l → Gives a (row_at l j ∷ column_at l j ∷ [])
@@ -264,7 +262,7 @@ reader_refusals w n t bytes =
 -- A reader that takes the width w, n and byte 1 for t answers r about these bytes.
 abbrev pub Reads : List ℕ → Width → ℕ → Reading → Type 0
 Reads bytes w n r = let t = get_or bytes 1 0 in
-    Follows (reader_refusals w n t bytes) (Sizes n t × IsLaid w n t bytes × (r ≡ Fine w n t)) (records.reading_number r) bytes
+    Follows (reader_refusals w n t bytes) (Sizes n t × IsLaid w n t bytes × (r ≡ fine w n t)) (number_of r) bytes
 
 -- The four lists of a record of the width w, and room for it.
 pub record Lengths (w : Width) (n t : ℕ) (deals pairs reports shares out : List ℕ) : Type 0 where
@@ -287,7 +285,7 @@ pub record Demand1 : Type 0 where
   pub fresh : (w : Width) (n t i : ℕ) (T : List ℕ) → Fresh w n t i T (made_with w n t i T)
   pub calls : (l : Lamp) → length l.sharing.heard ≡ 16 → (c : Call) → Replies (refusals l c) (AcceptedSays l c) (step l c)
   pub deals : (w : Width) (n t : ℕ) (T F out : List ℕ) → let s = setting w n t T in let r = desk_for s F out in
-      Follows (desk_refusals s F out) (length r.0 ≡ length out) (desks.dealing_number r.1) r.0
+      Follows (desk_refusals s F out) (length r.0 ≡ length out) (number_of r.1) r.0
   -- Below 128 byte 0 is n; "A wide record has 128 added to byte 0".
   pub reads : (bytes : List ℕ) → get_or bytes 0 0 < 128 → Reads bytes Narrow (get_or bytes 0 0) (records.reading bytes)
   pub reads_wide : (bytes : List ℕ) → 128 ≤ get_or bytes 0 0 → Reads bytes Wide (get_or bytes 0 0 - 128) (records.reading bytes)
@@ -296,5 +294,5 @@ pub record Demand1 : Type 0 where
   pub writes : (w : Width) (n t : ℕ) (deals pairs reports shares out : List ℕ)
       → let r = writers.writing w n t deals pairs reports shares out in
       Follows (writer_refusals w n t deals pairs reports shares out)
-      ((r.1 ≡ Written (whole_length w n t)) × (r.0 ≡ over (writers.record_of w n t deals pairs reports shares) out))
-      (writing_number r.1) r.0
+      ((r.1 ≡ Ok (whole_length w n t)) × (r.0 ≡ over (writers.record_of w n t deals pairs reports shares) out))
+      (number_of r.1) r.0

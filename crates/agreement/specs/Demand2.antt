@@ -31,6 +31,7 @@ use Rattle.answers.specs.declared.Stage.TheVariants.{Waiting, Dealt, Reported, H
 use Rattle.lamp.specs.declared.Lamp.{Lamp}
 use Rattle.lamp.specs.declared.Reply.{Reply}
 use Rattle.consistency.specs.Deal.{row_of, column_of, first_from, report_of}
+use Rattle.answers.specs.Refusals.{number_of}
 use Rattle.answers.specs.Fits.{constant}
 use Rattle.lamp.specs.Lamp.{Valid, its_prime, row_of_lamp, column_of_lamp, take_deal, hear_pairs, settle, open_shares, step}
 use Rattle.agreement.specs.Setting.{Setting, setting, prime, terms, value_of, row_for, column_for, desk_for}
@@ -156,9 +157,9 @@ pub record OpensRight (l : Lamp) (w : Width) (xs : List ℕ) : Type 0 where
 -- "Dealing gives exactly the rows and columns of the dealer's polynomial", each party's in its own stretch: F(X, x), then F(x, Y), x being
 -- its point.
 pub record DealsRight (s : Setting) (F out : List ℕ) : Type 0 where
-  pub stretches : desks.dealing_number (desk_for s F out).1 ≡ none → (i : ℕ) → is_party s.n i ≡ true
+  pub stretches : number_of (desk_for s F out).1 ≡ none → (i : ℕ) → is_party s.n i ≡ true
       → desks.stretch (terms s) (desk_for s F out).0 i ≡ row_for s F i ++ column_for s F i
-  pub all_written : desks.dealing_number (desk_for s F out).1 ≡ none → length (desk_for s F out).0 ≡ s.n * (2 * terms s)
+  pub all_written : number_of (desk_for s F out).1 ≡ none → length (desk_for s F out).0 ≡ s.n * (2 * terms s)
   pub row_right : (y x : ℕ) → value (prime s) (row (prime s) (terms s) (terms s) F y) x ≡ value_of s F x y
   pub column_right : length F ≡ terms s * terms s → (x y : ℕ)
       → value (prime s) (column (prime s) (terms s) (terms s) F x) y ≡ value_of s F x y

@@ -29,8 +29,8 @@ use Rattle.tables.specs.Tables.{IsTable}
 use Rattle.dealer.specs.Desk as desks
 use Rattle.answers.specs.declared.Stage.{Stage}
 use Rattle.answers.specs.declared.Stage.TheVariants.{Holding, Closed}
-use Rattle.answers.specs.declared.Answer.{Answer}
-use Rattle.answers.specs.Answers.{number_of, values_of}
+use Rattle.answers.specs.Refusals.{number_of}
+use Rattle.answers.specs.Answers.{values_of, Answered}
 use Rattle.consistency.specs.Deal.{first_from, second_from}
 use Rattle.lamp.specs.Lamp.{Call, take_deal, say_pair, hear_pairs, settle, open_shares}
 use Rattle.agreement.specs.Setting.{Setting, setting, with_table, prime, terms, point, value_of, row_for, column_for, desk_for}
@@ -39,10 +39,10 @@ use Rattle.agreement.specs.Calls.{Run, to_deal, to_pairs, to_reports, whole, sin
 use Rattle.agreement.specs.Calls.{is_deal, is_hearing, is_settling, moves}
 
 -- The call is accepted and answers these values; the call is refused with this number.
-abbrev pub Gives : Answer → List ℕ → Type 0
+abbrev pub Gives : Answered → List ℕ → Type 0
 Gives a vs = (number_of a ≡ none) × (values_of a ≡ vs)
 
-abbrev pub Refuses : Answer → ℕ → Type 0
+abbrev pub Refuses : Answered → ℕ → Type 0
 Refuses a k = number_of a ≡ some k
 
 -- Which lamps are honest, the width and the table that each was made with (1 to n where it loaded none), the calls of each, the same
@@ -117,7 +117,7 @@ module _ (s : Setting) where
       pub table : List ℕ
       pub loaded : table ≡ s.table
       pub lent : List ℕ
-      pub written : desks.dealing_number (desk_for (with_table s table) F lent).1 ≡ none
+      pub written : number_of (desk_for (with_table s table) F lent).1 ≡ none
       pub deals : (i : ℕ) → Honest i → (e.run i).its_deal ≡ desks.stretch (terms s) (desk_for (with_table s table) F lent).0 i
 
     -- ---- CONCLUSIONS
@@ -169,7 +169,7 @@ module _ (s : Setting) where
       abbrev Called : List Call → List ℕ → Type 0
       Called xs ys = At (e.calls i) (since_settling r xs) (open_shares r.width ys)
 
-      abbrev opening_answer : List Call → List ℕ → Answer
+      abbrev opening_answer : List Call → List ℕ → Answered
       opening_answer xs ys = answer_at o i (since_settling r xs) (open_shares r.width ys)
 
       -- Settling accepts; the lamp stays holding, with the happy set and F(i, 0); and every opening of n numbers of its own width in

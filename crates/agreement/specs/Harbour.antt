@@ -10,7 +10,7 @@ use Rattle.field.specs.declared.Width.{Width}
 use Rattle.field.specs.declared.Width.TheVariants.{Narrow}
 use Rattle.field.specs.Modulus.{prime_of}
 use Rattle.dealer.specs.Desk as desks
-use Rattle.answers.specs.Answers.{number_of}
+use Rattle.answers.specs.Refusals.{number_of}
 use Rattle.lamp.specs.Lamp.{Call, take_deal, say_pair, hear_pairs, settle, open_shares, waiting, made_with, make_with}
 use Rattle.lamp.specs.Lamp.{step, after}
 use Rattle.agreement.specs.Marked.{same, same_number_or_none, answers, leaves}
@@ -41,7 +41,7 @@ pub data Case : Type 0 where
 -- The definitions give what the case says.
 unfoldable pub holds : Width → Case → Bool
 holds w (dealing T i row column) = same (desks.stretch 2 (desks.desk_with (prime_of w) 5 1 T an_f (replicate 20 0)).0 i) (row ++ column)
-holds w (refusing T F number) = same_number_or_none (desks.dealing_number (desks.desk_with (prime_of w) 5 1 T F (replicate 20 0)).1) number
+holds w (refusing T F number) = same_number_or_none (number_of (desks.desk_with (prime_of w) 5 1 T F (replicate 20 0)).1) number
 holds w (making T number) = same_number_or_none (number_of (make_with w 5 1 1 T).answer) number
 holds w (answering T i cs c number values) = answers (step (after (made_with w 5 1 i T) cs) c).answer number values
 holds w (ending T i cs c number set share stage) = leaves (step (after (made_with w 5 1 i T) cs) c) number set share stage

@@ -19,10 +19,10 @@ use Rattle.parties.specs.Parties.{entry}
 use Rattle.tables.specs.Tables.{point_at, one_to, in_array}
 use Rattle.dealer.specs.Desk as desks
 use Rattle.answers.specs.declared.Stage.TheVariants.{Reported, Holding}
-use Rattle.answers.specs.declared.Answer.{Answer}
 use Rattle.lamp.specs.declared.Lamp.{Lamp}
 use Rattle.lamp.specs.declared.Reply.{Reply}
-use Rattle.answers.specs.Answers.{number_of, values_of, stage_number}
+use Rattle.answers.specs.Refusals.{number_of}
+use Rattle.answers.specs.Answers.{values_of, stage_number, Answered}
 use Rattle.answers.specs.Fits.{constant}
 use Rattle.consistency.specs.Deal.{sound}
 use Rattle.lamp.specs.Lamp.{Call, take_deal, say_pair, hear_pairs, settle, open_shares, made, make, step, after}
@@ -106,7 +106,7 @@ leaves r number set share stage =
     && eqb (stage_number r.lamp.sharing.stage) stage
 
 -- An answer has this number and these values.
-abbrev pub answers : Answer → Option ℕ → List ℕ → Bool
+abbrev pub answers : Answered → Option ℕ → List ℕ → Bool
 answers a number values = same_number_or_none (number_of a) number && same (values_of a) values
 
 -- The constant of what was found.
@@ -127,8 +127,8 @@ holds w (playing i d hs rs number set share stage) =
     leaves (step (after (made w 5 1 i) (take_deal w d ∷ hear_pairs w hs ∷ [])) (settle rs)) number set share stage
 holds w (sizing n t number) =
     same_number_or_none (number_of (make w n t 1).answer) number
-    && same_number_or_none (desks.dealing_number (desks.desk (prime_of w) n t (replicate (suc t * suc t) 0) (replicate (n * (2 * suc t)) 0)).1) number
-holds w (refusing F number) = same_number_or_none (desks.dealing_number (desks.desk (prime_of w) 5 1 F (replicate 20 0)).1) number
+    && same_number_or_none (number_of (desks.desk (prime_of w) n t (replicate (suc t * suc t) 0) (replicate (n * (2 * suc t)) 0)).1) number
+holds w (refusing F number) = same_number_or_none (number_of (desks.desk (prime_of w) 5 1 F (replicate 20 0)).1) number
 holds w (crossing i row column ok) = beq (sound (prime_of w) (one_to 5) i row column) ok
 holds w (meeting i row j column) = eqb (value (prime_of w) row (point_at (one_to 5) j)) (value (prime_of w) column (point_at (one_to 5) i))
 holds w (answering i cs c number values) = answers (step (after (made w 5 1 i) cs) c).answer number values

@@ -11,7 +11,8 @@ use Rattle.polynomial.specs.Polynomial.{Residues}
 use Rattle.bivariate.specs.Bivariate.{row, column}
 use Rattle.parties.specs.Parties.{is_party}
 use Rattle.tables.specs.Tables.{one_to}
-use Rattle.dealer.specs.Desk.{stretch, desk, dealing_number}
+use Rattle.dealer.specs.Desk.{stretch, desk}
+use Rattle.answers.specs.Refusals.{number_of}
 use Rattle.lamp.specs.declared.Lamp.{Lamp}
 use Rattle.lamp.specs.Lamp.{made, make, Call, step, after}
 use Rattle.agreement.specs.Setting.{Setting, setting, point}
@@ -46,8 +47,8 @@ pub record Plain (w : Width) : Type 0 where
   pub its-points : (n t i : ℕ) (cs : List Call) → n ≤ 16 → its_points (after (made w n t i) cs) ≡ one_to n
   pub makes : (n t i : ℕ) → Replies (plain_making w n t i) (λ r. Gives r.answer [] × (r.lamp ≡ made w n t i)) (make w n t i)
   pub deals : (n t : ℕ) (F out : List ℕ) → let r = desk (prime_of w) n t F out in
-      Follows (plain_dealing w n t F out) (length r.0 ≡ length out) (dealing_number r.1) r.0
-  pub dealt : (n t : ℕ) (F out : List ℕ) → dealing_number (desk (prime_of w) n t F out).1 ≡ none → (i : ℕ) → is_party n i ≡ true
+      Follows (plain_dealing w n t F out) (length r.0 ≡ length out) (number_of r.1) r.0
+  pub dealt : (n t : ℕ) (F out : List ℕ) → number_of (desk (prime_of w) n t F out).1 ≡ none → (i : ℕ) → is_party n i ≡ true
       → stretch (suc t) (desk (prime_of w) n t F out).0 i ≡ row (prime_of w) (suc t) (suc t) F i ++ column (prime_of w) (suc t) (suc t) F i
   pub never_14 : (n t i : ℕ) (cs : List Call) (c : Call) → Refuses (step (after (made w n t i) cs) c).answer 14 → ⊥
   pub agreement : (n t : ℕ) (e : Execution) → ((i : ℕ) → Honest (plain w n t) e i → e.tables i ≡ one_to n) → OneWidth (plain w n t) e

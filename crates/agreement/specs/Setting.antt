@@ -23,9 +23,9 @@ use Rattle.field.specs.Modulus.{prime_of}
 use Rattle.bivariate.specs.Bivariate.{at, row, column}
 use Rattle.parties.specs.Parties.{sizes}
 use Rattle.tables.specs.Tables.{point_at, IsTable}
-use Rattle.dealer.specs.declared.Dealing.{Dealing}
 use Rattle.dealer.specs.Desk.{desk_with}
-use Rattle.answers.specs.declared.Answer.{Answer}
+use Rattle.answers.specs.Refusals.{Admission}
+use Rattle.answers.specs.Answers.{Answered}
 use Rattle.consistency.specs.Deal.{row_of, column_of, pair_for, report_of}
 use Rattle.lamp.specs.declared.Lamp.{Lamp}
 use Rattle.lamp.specs.declared.Reply.{Reply}
@@ -83,7 +83,7 @@ module _ (s : Setting) where
   zero_row F = row (prime s) terms terms F 0
 
   -- The lent list afterwards, and the desk's answer.
-  abbrev pub desk_for : List ℕ → List ℕ → List ℕ × Dealing
+  abbrev pub desk_for : List ℕ → List ℕ → List ℕ × Admission
   desk_for F out = desk_with (prime s) s.n s.t s.table F out
 
   -- ---- what follows from a deal
@@ -117,5 +117,5 @@ module _ (s : Setting) where
   abbrev pub reply_at : ℕ → List Call → Call → Reply
   reply_at i xs c = step (lamp_at i xs) c
 
-  abbrev pub answer_at : ℕ → List Call → Call → Answer
+  abbrev pub answer_at : ℕ → List Call → Call → Answered
   answer_at i xs c = (reply_at i xs c).answer

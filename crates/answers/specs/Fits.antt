@@ -1,22 +1,20 @@
 -- What a fit answers.
---   decoded o        the struct for the polynomial that fits, or for none
---   refused_fit why  the struct where there was nothing to decode
---   constant f       the constant of a polynomial
-use Rattle.std.proofs.Math.Option.{Option, none, some}
-use Rattle.std.specs.Prelude.{List, [], ℕ, get_or}
+--   Fitted       four coefficients, that none fit, or why nothing was decoded
+--   decoded o    the answer for the polynomial that fits, or for none
+--   constant f   the constant of a polynomial
+use Rattle.std.proofs.Math.Option as math
+use Rattle.std.specs.Prelude.{List, [], ℕ, get_or, Option, Some, None, Result, Ok, Err}
 use Rattle.lists.specs.Tabulate.{pad}
 use Rattle.answers.specs.declared.Refusal.{Refusal}
-use Rattle.answers.specs.declared.Decoding.TheVariants.{Found, Nothing, Refused}
-use Rattle.answers.specs.declared.Fitted.{Fitted}
 
--- The coefficients with 0 behind them; four zeros where nothing fits.
-abbrev pub decoded : Option (List ℕ) → Fitted
-decoded none = record { outcome = Nothing; coefficients = pad 4 [] }
-decoded (some f) = record { outcome = Found; coefficients = pad 4 f }
+-- The coefficients, the constant first; that none fit; or why there was nothing to decode.
+abbrev pub Fitted : Type 0
+Fitted = Result (Option (List ℕ)) Refusal
 
--- Refused, with four zeros.
-abbrev pub refused_fit : Refusal → Fitted
-refused_fit why = record { outcome = Refused why; coefficients = pad 4 [] }
+-- The coefficients with 0 behind them, or none.
+abbrev pub decoded : math.Option (List ℕ) → Fitted
+decoded math.none = Ok None
+decoded (math.some f) = Ok (Some (pad 4 f))
 
 -- The constant stands first.
 abbrev pub constant : List ℕ → ℕ

@@ -1,14 +1,14 @@
 -- Why a call is refused (docs/PROTOCOL.md, "What is refused").
 --   refusal_number       the number of a refusal
+--   number_of r          the number of what is refused; none of what is not
+--   Admission            whether a call is admitted, or why not
 --   lowest tests         the refusal of the first test that fails, which is the lowest but for 14 and 18
---   also earlier b why   what is found with one test more
 -- Laws: proofs/Tests.
-use Rattle.std.specs.Prelude.{Bool, cond, List, [], ◌∷◌, ℕ}
+use Rattle.std.specs.Prelude.{Bool, cond, List, [], ◌∷◌, ℕ, Result, Ok, Err}
+use Rattle.std.proofs.Math.Option.{Option, none, some}
 use Rattle.answers.specs.declared.Refusal.{Refusal}
 use Rattle.answers.specs.declared.Refusal.TheVariants.{WrongSize, WrongNumber, WrongLength, WrongStage, NotResidue, WrongDirectory}
 use Rattle.answers.specs.declared.Refusal.TheVariants.{AlteredReport, DealerRejected, NoColumn, NoOpening, WrongTable, WrongWidth}
-use Rattle.answers.specs.declared.Admission.{Admission}
-use Rattle.answers.specs.declared.Admission.TheVariants.{Pass, Fail}
 
 -- The one definition of a refusal's number.
 abbrev pub refusal_number : Refusal → ℕ
@@ -25,6 +25,15 @@ refusal_number NoOpening = 10
 refusal_number WrongTable = 14
 refusal_number WrongWidth = 18
 
+-- The number of what is refused; none of what is not.
+abbrev pub number_of : {A : Type 0} → Result A Refusal → Option ℕ
+number_of (Ok a) = none
+number_of (Err why) = some (refusal_number why)
+
+-- Whether a call is admitted, or why it is refused.
+abbrev pub Admission : Type 0
+Admission = Result Unit Refusal
+
 -- Whether a test passes, and the refusal where it does not.
 abbrev pub Test : Type 0
 Test = Bool × Refusal
@@ -32,10 +41,5 @@ Test = Bool × Refusal
 -- "The lowest number that applies is given, and none otherwise": the first test that fails, the tests standing in the order of their
 -- numbers, but for 18, right after 2, and 14, right after 3.
 abbrev pub lowest : List Test → Admission
-lowest [] = Pass
-lowest ((pass, why) ∷ tests) = cond pass (lowest tests) (Fail why)
-
--- One test more, looked at where those before it pass.
-abbrev pub also : Admission → Bool → Refusal → Admission
-also Pass pass why = cond pass Pass (Fail why)
-also (Fail first) pass why = Fail first
+lowest [] = Ok tt
+lowest ((pass, why) ∷ tests) = cond pass (lowest tests) (Err why)

@@ -1,83 +1,104 @@
-// Lent lists copied into arrays of 32-bit numbers, in which all is computed: numbers of 16 bits become wide on the way, and a list of
-// residues below 65,536 is written back as numbers of 16 bits.
+// Lent lists of numbers, of 16 bits or of 32, copied into arrays of the latter, in which all is computed, and written back.
 #![tactic(auto)]
 
-ghost use Rattle.std.specs.Prelude.{◌≡◌, ◌≤◌, ◌<◌, length};
+ghost use Rattle.std.specs.Prelude.{◌≡◌, ℕ, ◌≤◌, ◌<◌, length, map};
 ghost use Rattle.lists.specs.All.{All};
 ghost use Rattle.lists.specs.Tabulate.{pad};
+ghost use Rattle.field.specs.Modulus.{prime_of};
+ghost use Rattle.arrays.specs.Limits.{narrow_holds, wide_holds};
+ghost use Rattle.field.specs.declared.Width.{Width};
+ghost use Rattle.field.specs.declared.Width.TheVariants.{Narrow, Wide};
 
-// A number of 16 bits as one of 32.
-pub fn wide(x: u16) -> u32
-    ensures { result ≡ x }
-{
-    x as u32
+use field::Width;
+
+// A number as lists lend it: of 16 bits, which hold the residues of the narrow prime, or of 32, which hold those of the wide one.
+pub trait Number: Copy {
+    ghost WIDTH: { Width };
+
+    const WIDTH: Width;
+    // What it counts, and what it stays below.
+    ghost value: { Self → ℕ };
+
+    ghost limit: { ℕ };
+
+    fn wide(self) -> u32
+        ensures { result ≡ value self };
+
+    fn narrow(x: u32) -> Self
+        requires { x < limit }
+        ensures { value result ≡ x };
+
+    // Every residue is such a number.
+    ghost holds_residues: { prime_of WIDTH ≤ limit };
 }
 
-// Writes numbers of 16 bits over a lent list of the same length. An array that is returned is copied as a whole, and the copy waits for
-// what was written number by number; nothing waits here.
-pub fn widened(list: &[u16], out: &mut [u32])
+impl Number for u16 {
+    ghost WIDTH = { Narrow };
+
+    const WIDTH: Width = Width::Narrow;
+
+    ghost value = { λ x. x };
+
+    ghost limit = { 65536 };
+
+    ghost holds_residues = { narrow_holds };
+
+    fn wide(self) -> u32 {
+        u32::from(self)
+    }
+
+    fn narrow(x: u32) -> u16 {
+        x as u16
+    }
+}
+
+impl Number for u32 {
+    ghost WIDTH = { Wide };
+
+    const WIDTH: Width = Width::Wide;
+
+    ghost value = { λ x. x };
+
+    ghost limit = { 4294967296 };
+
+    ghost holds_residues = { wide_holds };
+
+    fn wide(self) -> u32 {
+        self
+    }
+
+    fn narrow(x: u32) -> u32 {
+        x
+    }
+}
+
+// Writes the numbers over a lent list of the same length. An array that is returned is copied as a whole, and the copy waits for what was
+// written number by number; nothing waits here.
+pub fn widened<N: Number>(list: &[N], out: &mut [u32])
     requires { length list.now ≡ length out.old }
-    ensures { out.new ≡ list.now }
+    ensures { out.new ≡ map N.value list.now }
 {
-    let mut i = 0;
-    while i < list.len() {
-        out[i] = wide(list[i]);
-        i += 1;
+    for (k, x) in list.iter().enumerate() {
+        out[k] = x.wide();
     }
 }
 
-// At most sixteen numbers, with zeros behind them.
-pub fn sixteen_of(list: &[u16]) -> [u32; 16]
-    requires { length list.now ≤ 16 }
-    ensures { result ≡ pad 16 list.now }
+// Writes numbers that are small enough over a lent list of the same length.
+pub fn narrowed<N: Number>(list: &[u32], out: &mut [N])
+    requires { (length list.now ≡ length out.old) × All (λ x. x < N.limit) list.now }
+    ensures { map N.value out.new ≡ list.now }
 {
-    let mut array = [0u32; 16];
-    for k in 0..list.len() {
-        array[k] = wide(list[k]);
+    for (k, place) in out.iter_mut().enumerate() {
+        *place = N::narrow(list[k]);
     }
+}
+
+// At most SIZE numbers, with zeros behind them.
+pub fn padded<const SIZE: usize, N: Number>(list: &[N]) -> [u32; SIZE]
+    requires { length list.now ≤ SIZE }
+    ensures { result ≡ pad SIZE (map N.value list.now) }
+{
+    let mut array = [0u32; SIZE];
+    widened(list, &mut array[..list.len()]);
     array
-}
-
-// The same of numbers that are wide already.
-pub fn sixteen_of_wide(list: &[u32]) -> [u32; 16]
-    requires { length list.now ≤ 16 }
-    ensures { result ≡ pad 16 list.now }
-{
-    let mut array = [0u32; 16];
-    for k in 0..list.len() {
-        array[k] = list[k];
-    }
-    array
-}
-
-// At most sixteen pairs, with zeros behind them.
-pub fn pairs_of(list: &[u16]) -> [u32; 32]
-    requires { length list.now ≤ 32 }
-    ensures { result ≡ pad 32 list.now }
-{
-    let mut array = [0u32; 32];
-    for k in 0..list.len() {
-        array[k] = wide(list[k]);
-    }
-    array
-}
-
-// A number below 65,536 as one of 16 bits.
-pub fn narrow(x: u32) -> u16
-    requires { x < 65536 }
-    ensures { result ≡ x }
-{
-    (x % 65536) as u16
-}
-
-// Writes numbers below 65,536 over a lent list of the same length.
-pub fn narrowed(list: &[u32], out: &mut [u16])
-    requires { (length list.now ≡ length out.old) × All (λ x. x < 65536) list.now }
-    ensures { out.new ≡ list.now }
-{
-    let mut k = 0;
-    while k < list.len() {
-        out[k] = narrow(list[k]);
-        k += 1;
-    }
 }

@@ -8,20 +8,16 @@ ghost use Rattle.bivariate.specs.Bivariate.{column, row_in, column_in};
 
 use field::Width;
 
-// Whether a list of len numbers is n by n: of larger n tested by division, since the product might not fit.
+// Whether a list of len numbers is n by n. A product that does not fit is no length.
 fn is_square(len: usize, n: usize) -> bool
     ensures { result ≡ eqb len (n * n) }
 {
-    if n < 65536 {
-        return len == n * n;
-    }
-    if len % n != 0 {
-        return false;
-    }
-    len / n == n
+    n.checked_mul(n) == Some(len)
 }
 
-// The coefficients of F(X, y), written into a lent part as long as the row. F of another size leaves it alone.
+// The coefficients of F(X, y), each the value of a block of F, written into a lent part as long as the row. F of another size leaves it
+// alone.
+#[tactic(auto, unfolding(crate::specs::Bivariate::row_in))]
 pub fn row(w: Width, f: &[u32], y: u32, out: &mut [u32])
     requires { Residues (prime_of w) f.now × (y < prime_of w) × (length out.old ≤ 4) }
     ensures { out.new ≡ row_in (prime_of w) f.now y out.old }
@@ -30,13 +26,11 @@ pub fn row(w: Width, f: &[u32], y: u32, out: &mut [u32])
     if !is_square(f.len(), n) {
         return;
     }
-    let mut u = 0;
-    let mut at = 0;
-    while u < n {
-        let part = polynomial::divided_at_once(w, &f[at..at + n], y);
-        out[u] = part.value;
-        at += n;
-        u += 1;
+    let mut rest = f;
+    for place in out.iter_mut() {
+        let (block, behind) = rest.split_at(n);
+        *place = polynomial::divided_at_once(w, block, y).value;
+        rest = behind;
     }
 }
 
@@ -69,14 +63,13 @@ fn by_values(w: Width, f: &[u32], x: u32, out: &mut [u32])
     ensures { out.new ≡ column (prime_of w) (length out.old) (length out.old) f.now x }
 {
     let n = out.len();
-    let mut v = 0;
-    while v < n {
-        out[v] = column_value(w, f, n, v, x);
-        v += 1;
+    for (v, place) in out.iter_mut().enumerate() {
+        *place = column_value(w, f, n, v, x);
     }
 }
 
 // The coefficients of F(x, Y), written into a lent part as long as the column. F of another size leaves it alone.
+#[tactic(auto, unfolding(crate::specs::Bivariate::column_in))]
 pub fn column(w: Width, f: &[u32], x: u32, out: &mut [u32])
     requires { Residues (prime_of w) f.now × (x < prime_of w) × (length out.old ≤ 4) }
     ensures { out.new ≡ column_in (prime_of w) f.now x out.old }

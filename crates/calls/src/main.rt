@@ -8,89 +8,92 @@
 // count that its kind does not take, more than 200 numbers or as much room, and a call cut short end the input.
 #![tactic(auto)]
 
-mod wide;
+mod kinds;
 
-ghost use Rattle.std.specs.Prelude.{◌≡◌, ◌≤◌, [], true, false, min, get_or, cond, IfOk, OnOk};
+ghost use Rattle.std.specs.Prelude.{◌≡◌, ◌≤◌, Some, [], min, map, length, get_or, cond, IfOk, OnOk};
 ghost use Rattle.std.specs.Io.KnownBytes.{Appends};
-ghost use Rattle.field.specs.Modulus.{modulus};
+ghost use Rattle.field.specs.Modulus.{prime_of};
 ghost use Rattle.dealer.specs.Desk.{desk, desk_with};
-ghost use Rattle.calls.specs.Lines.{turn, line_end, call_line, desk_words};
+ghost use Rattle.calls.specs.Lines.{line_end, call_line, desk_words, called_if};
 
+use arrays::Number;
+use kinds::Kind;
 use lamp::{Lamp, Reply};
+use record::Recorded;
 use recovery::Decoder;
 use std::io;
 use std::io::{Read, Write};
 use std::process::ExitCode;
 
-// The lamp after a call, and whether there was one whose line is written.
-#[derive(Clone, Copy)]
-pub struct Turn {
-    lamp: Lamp,
-    called: bool,
-}
-
 // A number as a byte, the largest byte for a larger number, which is no size and no lamp either.
-pub(crate) fn byte_of(x: u32) -> u8
+fn byte_of(x: u32) -> u8
     ensures { result ≡ min x 255 }
 {
-    if 255 < x {
-        return 255;
-    }
-    x as u8
+    x.min(255) as u8
 }
 
 // The number at the place as a byte; 0 where there is none.
-fn small(list: &[u16], place: usize) -> u8
-    ensures { result ≡ min (get_or list.now place 0) 255 }
+fn small<N: Number>(list: &[N], place: usize) -> u8
+    ensures { result ≡ min (get_or (map N.value list.now) place 0) 255 }
 {
-    if list.len() <= place {
-        return 0;
+    match list.get(place) {
+        Some(x) => byte_of(x.wide()),
+        None => 0,
     }
-    byte_of(arrays::wide(list[place]))
 }
 
-fn made(list: &[u16]) -> Reply {
-    Lamp::make(small(list, 0), small(list, 1), small(list, 2))
+fn made<N: Number>(list: &[N]) -> Reply {
+    Lamp::make_in::<N>(small(list, 0), small(list, 1), small(list, 2))
 }
 
 // The table is what stands behind the number.
-fn made_with(list: &[u16]) -> Reply {
+fn made_with<N: Number>(list: &[N]) -> Reply {
     if list.len() < 3 {
         return made(list);
     }
-    let end = list.len();
-    Lamp::make_with(
-        small(list, 0),
-        small(list, 1),
-        small(list, 2),
-        &list[3..end],
-    )
+    Lamp::make_in_with(small(list, 0), small(list, 1), small(list, 2), &list[3..])
 }
 
-// Makes the call on the lamp that the call before left, refused or not.
-fn call(lamp: Lamp, kind: u8, list: &[u16]) -> Reply {
+// Makes a call that has a form for either width on the lamp that the call before left, refused or not.
+fn call<N: Number>(lamp: Lamp, kind: Kind, list: &[N]) -> Reply {
     match kind {
-        0 => made(list),
-        1 => lamp.take_deal(list),
-        2 => lamp.say_pair(small(list, 0)),
-        3 => lamp.hear_pairs(list),
-        4 => lamp.settle(list),
-        7 => made_with(list),
-        9 => lamp.open_by(Decoder::Locator, list),
-        _ => lamp.open(list),
+        Kind::Make => made(list),
+        Kind::TakeDeal => lamp.take_deal_in(list),
+        Kind::HearPairs => lamp.hear_pairs_in(list),
+        Kind::MakeWith => made_with(list),
+        Kind::Locate => lamp.open_in_by(Decoder::Locator, list),
+        _ => lamp.open_in_by(Decoder::Trial, list),
+    }
+}
+
+// Makes any call with numbers of 16 bits.
+fn narrow_call(lamp: Lamp, kind: Kind, list: &[u16]) -> Reply {
+    match kind {
+        Kind::SayPair => lamp.say_pair(small(list, 0)),
+        Kind::Settle => lamp.settle(list),
+        _ => call(lamp, kind, list),
     }
 }
 
 // Deals, and writes out the answer and what the list of deals holds then.
-fn dealt<W: Write>(out: &mut W, n: u8, t: u8, list: &[u16], deals: &mut [u16]) -> io::Result<()>
-    ensures written { OnOk result (Appends (W.contents out.old) (W.contents out.new) (desk_words (desk modulus n t list.now deals.old))) }
+fn dealt<N: Number, W: Write>(
+    out: &mut W,
+    n: u8,
+    t: u8,
+    list: &[N],
+    deals: &mut [N],
+) -> io::Result<()>
+    ensures written { OnOk result (Appends (W.contents out.old) (W.contents out.new)
+        (desk_words (desk (prime_of N.WIDTH) n t (map N.value list.now) (map N.value deals.old)))) }
 {
-    replies::dealing(out, dealer::deal(n, t, list, deals))?;
+    replies::dealing(out, dealer::deal_in(n, t, list, deals))?;
     replies::numbers(out, deals)
 }
 
-// The desk, with as much room for the deals as is asked for, which holds "not sent" before.
-fn desk<W: Write>(out: &mut W, list: &[u16]) -> io::Result<bool> {
+// The desk, with as much of the lent room for the deals as is asked for. Answers whether there was a dealing.
+fn desk<N: Number, W: Write>(out: &mut W, list: &[N], deals: &mut [N]) -> io::Result<bool>
+    requires { length deals.old ≡ 200 }
+{
     if list.len() < 3 {
         return Ok(false);
     }
@@ -98,35 +101,36 @@ fn desk<W: Write>(out: &mut W, list: &[u16]) -> io::Result<bool> {
     if 200 < room {
         return Ok(false);
     }
-    let mut deals = [65535u16; 200];
-    let end = list.len();
     dealt(
         out,
         small(list, 0),
         small(list, 1),
-        &list[3..end],
+        &list[3..],
         &mut deals[..room],
     )?;
     Ok(true)
 }
 
 // Deals with a table, and writes out the answer and what the list of deals holds then.
-fn dealt_with<W: Write>(
+fn dealt_with<N: Number, W: Write>(
     out: &mut W,
     n: u8,
     t: u8,
-    table: &[u16],
-    list: &[u16],
-    deals: &mut [u16],
+    table: &[N],
+    list: &[N],
+    deals: &mut [N],
 ) -> io::Result<()>
-    ensures written { OnOk result (Appends (W.contents out.old) (W.contents out.new) (desk_words (desk_with modulus n t table.now list.now deals.old))) }
+    ensures written { OnOk result (Appends (W.contents out.old) (W.contents out.new)
+        (desk_words (desk_with (prime_of N.WIDTH) n t (map N.value table.now) (map N.value list.now) (map N.value deals.old)))) }
 {
-    replies::dealing(out, dealer::deal_with(n, t, table, list, deals))?;
+    replies::dealing(out, dealer::deal_in_with(n, t, table, list, deals))?;
     replies::numbers(out, deals)
 }
 
 // The desk with a table.
-fn desk_with<W: Write>(out: &mut W, list: &[u16]) -> io::Result<bool> {
+fn desk_with<N: Number, W: Write>(out: &mut W, list: &[N], deals: &mut [N]) -> io::Result<bool>
+    requires { length deals.old ≡ 200 }
+{
     if list.len() < 4 {
         return Ok(false);
     }
@@ -135,153 +139,149 @@ fn desk_with<W: Write>(out: &mut W, list: &[u16]) -> io::Result<bool> {
         return Ok(false);
     }
     let behind = 4 + small(list, 3) as usize;
-    let end = list.len();
-    if end < behind {
+    if list.len() < behind {
         return Ok(false);
     }
-    let mut deals = [65535u16; 200];
     dealt_with(
         out,
         small(list, 0),
         small(list, 1),
         &list[4..behind],
-        &list[behind..end],
+        &list[behind..],
         &mut deals[..room],
     )?;
     Ok(true)
 }
 
-// Whether a call of this kind has so many numbers.
-pub(crate) fn takes(kind: u8, count: usize) -> bool {
-    if kind == 0 {
-        return count == 3;
-    }
-    if kind == 2 {
-        return count == 1;
-    }
-    if kind == 7 {
-        return 3 <= count;
-    }
-    kind < 10
-}
-
-// As many of the input's numbers as the bytes hold, over the front of the list; whether the input had them all.
-fn take<R: Read>(input: &mut R, bytes: &mut [u8], list: &mut [u16]) -> bool {
-    let n = replies::read_full(input, bytes);
-    record::numbers(&bytes[..n], list);
-    n == bytes.len()
-}
-
-// The next numbers of the input, over the front of the list; whether it had them all.
-fn lent<R: Read>(input: &mut R, count: usize, list: &mut [u16]) -> bool
-    requires { count ≤ 200 }
+// The next numbers of the input, two bytes or four for each, over the list; whether it had them all.
+fn lent<N: Recorded, R: Read>(input: &mut R, list: &mut [N]) -> bool
+    requires { length list.old ≤ 200 }
 {
-    let mut bytes = [0u8; 400];
-    let end = 2 * count;
-    take(input, &mut bytes[..end], list)
-}
-
-pub(crate) fn over(lamp: Lamp) -> Turn
-    ensures { result ≡ turn lamp false }
-{
-    Turn {
-        lamp: lamp,
-        called: false,
-    }
+    let mut bytes = [0u8; 800];
+    let end = record::number_bytes(N::WIDTH) as usize * list.len();
+    let n = replies::read_full(input, &mut bytes[..end]);
+    record::numbers_by(&bytes[..n], list);
+    n == end
 }
 
 // The end of a line: what the lamp holds.
-fn ended<W: Write>(out: &mut W, lamp: Lamp) -> io::Result<Turn>
+fn ended<W: Write>(out: &mut W, lamp: Lamp) -> io::Result<Option<Lamp>>
     ensures line { OnOk result (Appends (W.contents out.old) (W.contents out.new) (line_end lamp)) }
-    ensures after { IfOk result (λ after. after ≡ turn lamp true) }
+    ensures after { IfOk result (λ after. after ≡ Some lamp) }
 {
     replies::word(out, b" ;")?;
     replies::state(out, lamp)?;
     replies::word(out, b"\n")?;
-    Ok(Turn {
-        lamp: lamp,
-        called: true,
-    })
+    Ok(Some(lamp))
 }
 
 // The line of a lamp's reply.
-pub(crate) fn replied<W: Write>(out: &mut W, reply: Reply) -> io::Result<Turn>
+fn replied<W: Write>(out: &mut W, reply: Reply) -> io::Result<Option<Lamp>>
     ensures line { OnOk result (Appends (W.contents out.old) (W.contents out.new) (call_line reply)) }
-    ensures after { IfOk result (λ after. after ≡ turn reply.lamp true) }
+    ensures after { IfOk result (λ after. after ≡ Some reply.lamp) }
 {
-    let answer = reply.answer;
-    let after = reply.lamp;
-    replies::answer(out, answer)?;
-    ended(out, after)
+    replies::answer(out, reply.answer)?;
+    ended(out, reply.lamp)
 }
 
 // The line of a dealing, where there was one.
-pub(crate) fn desk_line<W: Write>(out: &mut W, lamp: Lamp, dealt: bool) -> io::Result<Turn>
+fn desk_line<W: Write>(out: &mut W, lamp: Lamp, dealt: bool) -> io::Result<Option<Lamp>>
     ensures line { OnOk result (Appends (W.contents out.old) (W.contents out.new) (cond dealt (line_end lamp) [])) }
-    ensures after { IfOk result (λ after. after ≡ turn lamp dealt) }
+    ensures after { IfOk result (λ after. after ≡ called_if dealt lamp) }
 {
     if !dealt {
-        return Ok(over(lamp));
+        return Ok(None);
     }
     ended(out, lamp)
 }
 
-// Makes a call or a dealing with the numbers lent, and writes its line.
-fn answered<W: Write>(out: &mut W, lamp: Lamp, kind: u8, list: &[u16]) -> io::Result<Turn> {
-    if kind == 6 {
-        let dealt = desk(out, list)?;
-        return desk_line(out, lamp, dealt);
-    }
-    if kind == 8 {
-        let dealt = desk_with(out, list)?;
-        return desk_line(out, lamp, dealt);
-    }
-    replied(out, call(lamp, kind, list))
-}
-
-// A call of the kind, with as many numbers as it counts from the input.
+// A call or a dealing with as many numbers of 16 bits as are counted, from the input, and its line. None where the input ends.
 fn narrow<R: Read, W: Write>(
     input: &mut R,
     out: &mut W,
     lamp: Lamp,
-    kind: u8,
+    kind: Kind,
     count: usize,
-) -> io::Result<Turn>
+) -> io::Result<Option<Lamp>>
     requires { count ≤ 200 }
 {
-    if !takes(kind, count) {
-        return Ok(over(lamp));
-    }
     let mut list = [0u16; 200];
-    if !lent(input, count, &mut list) {
-        return Ok(over(lamp));
+    let list = &mut list[..count];
+    // "Not sent" stands where the deals are written.
+    let mut deals = [65535u16; 200];
+    if !lent(input, list) {
+        return Ok(None);
     }
-    answered(out, lamp, kind, &list[..count])
+    match kind {
+        Kind::Deal => {
+            let dealt = desk(out, list, &mut deals)?;
+            desk_line(out, lamp, dealt)
+        }
+        Kind::DealWith => {
+            let dealt = desk_with(out, list, &mut deals)?;
+            desk_line(out, lamp, dealt)
+        }
+        _ => replied(out, narrow_call(lamp, kind, list)),
+    }
 }
 
-// The same, of numbers of 16 bits or of 32.
+// The same with numbers of 32 bits.
+fn wide<R: Read, W: Write>(
+    input: &mut R,
+    out: &mut W,
+    lamp: Lamp,
+    kind: Kind,
+    count: usize,
+) -> io::Result<Option<Lamp>>
+    requires { count ≤ 200 }
+{
+    let mut list = [0u32; 200];
+    let list = &mut list[..count];
+    let mut deals = [4294967295u32; 200];
+    if !lent(input, list) {
+        return Ok(None);
+    }
+    match kind {
+        Kind::Deal => {
+            let dealt = desk(out, list, &mut deals)?;
+            desk_line(out, lamp, dealt)
+        }
+        Kind::DealWith => {
+            let dealt = desk_with(out, list, &mut deals)?;
+            desk_line(out, lamp, dealt)
+        }
+        _ => replied(out, call(lamp, kind, list)),
+    }
+}
+
+// The call of this number, with so many numbers: 128 is added to that of a wide one.
 fn asked<R: Read, W: Write>(
     input: &mut R,
     out: &mut W,
     lamp: Lamp,
-    kind: u8,
+    number: u8,
     count: usize,
-) -> io::Result<Turn> {
-    if 200 < count {
-        return Ok(over(lamp));
+) -> io::Result<Option<Lamp>> {
+    let Ok(kind) = Kind::try_from(number % 128) else {
+        return Ok(None);
+    };
+    if 200 < count || !kind.takes(count) {
+        return Ok(None);
     }
-    if kind < 128 {
+    if number < 128 {
         return narrow(input, out, lamp, kind, count);
     }
-    wide::asked(input, out, lamp, kind - 128, count)
+    if !kind.has_wide_form() {
+        return Ok(None);
+    }
+    wide(input, out, lamp, kind, count)
 }
 
 // The next call of the input, if there is one.
-fn next<R: Read, W: Write>(input: &mut R, out: &mut W, lamp: Lamp) -> io::Result<Turn> {
+fn next<R: Read, W: Write>(input: &mut R, out: &mut W, lamp: Lamp) -> io::Result<Option<Lamp>> {
     let mut head = [0u8; 3];
-    let n = replies::read_full(input, &mut head);
-    if n < 3 {
-        return Ok(over(lamp));
+    if replies::read_full(input, &mut head) < 3 {
+        return Ok(None);
     }
     let count = record::number(&head[1..3], 0) as usize;
     asked(input, out, lamp, head[0], count)
@@ -290,14 +290,12 @@ fn next<R: Read, W: Write>(input: &mut R, out: &mut W, lamp: Lamp) -> io::Result
 // The calls of the input, until it ends or a line cannot be written. The input may never end, and a proved loop has to: the turns are
 // counted, to more than any run takes.
 fn run<R: Read, W: Write>(input: &mut R, out: &mut W) -> io::Result<()> {
-    let made = Lamp::make(0, 0, 0);
-    let mut lamp = made.lamp;
+    let mut lamp = Lamp::make(0, 0, 0).lamp;
     for _ in 0..u64::MAX {
-        let turn = next(input, out, lamp)?;
-        if !turn.called {
+        let Some(after) = next(input, out, lamp)? else {
             return Ok(());
-        }
-        lamp = turn.lamp;
+        };
+        lamp = after;
     }
     Ok(())
 }

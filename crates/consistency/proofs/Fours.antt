@@ -1,44 +1,49 @@
 -- A row and a column as four coefficients each, zeros behind them: what follows from a deal stays as it is.
---   four-asked   they are residues, and no more than four
---   four-said    their pair at a point is that of the row and the column
---   four-sound, four-confirms   and so are soundness and each bit of a report
-use mathlib.Core.Path.{◌≡◌, sym, ap, ap₂, subst, ◌∙◌}
+--   four-said                            their pair at a point is that of the row and the column
+--   four-sound, four-pair                and so are soundness and the pair for a party
+--   four-confirms, four-report           and each bit of a report, and the report
+use mathlib.Core.Path.{◌≡◌, ap, ap₂, ◌∙◌}
 use mathlib.Core.List.{List}
-use Prim.Native.Nat.{ℕ, ◌<◌, ◌≤◌}
-use native.Mathlib.Omega.{arith}
-use lib.ListN.{length}
+use Prim.Native.Nat.{ℕ, suc, ◌<◌}
+use lib.ListN.{get_or}
 use Rattle.lists.specs.Tabulate.{pad}
-use Rattle.lists.proofs.Padded.{length-padded}
-use Rattle.polynomial.specs.Polynomial.{Residues, value}
-use Rattle.polynomial.proofs.Together.{padded-residues, padded-test, padded-value}
+use Rattle.polynomial.specs.Polynomial.{value}
+use Rattle.polynomial.proofs.Together.{padded-test, padded-value}
 use Rattle.tables.specs.Tables.{point_at}
-use Rattle.consistency.specs.Deal.{said, sound, confirms_by}
+use Rattle.consistency.specs.Deal.{sound, pair_for, said, confirms_by, report_by}
+use Rattle.consistency.proofs.Reports.{mask-same}
 
-module _ (p : ℕ) (row column a b : List ℕ) (ea : a ≡ pad 4 row) (eb : b ≡ pad 4 column) where
-  pub four-asked : (x : ℕ) → 0 < p → Residues p row → Residues p column → length row ≤ 4 → length column ≤ 4 → x < p
-      → (Residues p a × Residues p b × (x < p)) × ((length a ≤ 4) × (length b ≤ 4))
-  four-asked x h r c lr lc hx =
-      let first : length a ≤ 4 = omega (arith, ap length ea, length-padded 4 row lr) in
-      let second : length b ≤ 4 = omega (arith, ap length eb, length-padded 4 column lc) in
-      let left : Residues p a = subst (Residues p) (sym ea) (padded-residues p 4 row h r) in
-      let right : Residues p b = subst (Residues p) (sym eb) (padded-residues p 4 column h c) in
-      ((left, right, hx), (first, second))
+module _ (p : ℕ) (h : 0 < p) (T : List ℕ) (i : ℕ) (row column : List ℕ) where
+  padded-sound : sound p T i (pad 4 row) (pad 4 column) ≡ sound p T i row column
+  unfolding sound
+  padded-sound =
+      rw (padded-test p 4 row h, padded-test p 4 column h, padded-value p 4 row (point_at T i), padded-value p 4 column (point_at T i))
 
-  pub four-said : (x : ℕ) → said (value p a x, value p b x) ≡ said (value p row x, value p column x)
-  four-said x =
-      ap₂ (λ (u v : ℕ). said (u, v)) (ap (λ f. value p f x) ea ∙ padded-value p 4 row x)
-      (ap (λ f. value p f x) eb ∙ padded-value p 4 column x)
+  padded-pair : (j : ℕ) → pair_for p T i (pad 4 row) (pad 4 column) j ≡ pair_for p T i row column j
+  unfolding pair_for
+  padded-pair j = rw (padded-sound, padded-value p 4 row (point_at T j), padded-value p 4 column (point_at T j))
 
-  module _ (T : List ℕ) (i : ℕ) (h : 0 < p) where
-    padded-sound : sound p T i (pad 4 row) (pad 4 column) ≡ sound p T i row column
-    unfolding sound
-    padded-sound =
-        rw (padded-test p 4 row h, padded-test p 4 column h, padded-value p 4 row (point_at T i), padded-value p 4 column (point_at T i))
+  padded-confirms : (j u v : ℕ) → confirms_by p T i (pad 4 row) (pad 4 column) j u v ≡ confirms_by p T i row column j u v
+  padded-confirms j u v = rw (padded-sound, padded-value p 4 row (point_at T j), padded-value p 4 column (point_at T j))
 
+  padded-report : (n : ℕ) (fs ss : List ℕ) → report_by p n T i (pad 4 row) (pad 4 column) fs ss ≡ report_by p n T i row column fs ss
+  unfolding report_by
+  padded-report n fs ss = mask-same _ _ n (λ k l. padded-confirms (suc k) (get_or fs k 0) (get_or ss k 0))
+
+  module _ (a b : List ℕ) (ea : a ≡ pad 4 row) (eb : b ≡ pad 4 column) where
     pub four-sound : sound p T i a b ≡ sound p T i row column
     four-sound = ap₂ (sound p T i) ea eb ∙ padded-sound
 
-    pub four-confirms : (j u v : ℕ) → confirms_by p T i a b j u v ≡ confirms_by p T i row column j u v
-    four-confirms j u v =
-        ap₂ (λ (r c : List ℕ). confirms_by p T i r c j u v) ea eb
-        ∙ rw (padded-sound, padded-value p 4 row (point_at T j), padded-value p 4 column (point_at T j))
+    pub four-pair : (j : ℕ) → pair_for p T i a b j ≡ pair_for p T i row column j
+    four-pair j = ap₂ (λ (r c : List ℕ). pair_for p T i r c j) ea eb ∙ padded-pair j
+
+    four-said : (x : ℕ) → said (value p a x, value p b x) ≡ said (value p row x, value p column x)
+    four-said x =
+        ap₂ (λ (u v : ℕ). said (u, v)) (ap (λ f. value p f x) ea ∙ padded-value p 4 row x)
+        (ap (λ f. value p f x) eb ∙ padded-value p 4 column x)
+
+    four-confirms : (j u v : ℕ) → confirms_by p T i a b j u v ≡ confirms_by p T i row column j u v
+    four-confirms j u v = ap₂ (λ (r c : List ℕ). confirms_by p T i r c j u v) ea eb ∙ padded-confirms j u v
+
+    pub four-report : (n : ℕ) (fs ss : List ℕ) → report_by p n T i a b fs ss ≡ report_by p n T i row column fs ss
+    four-report n fs ss = ap₂ (λ (r c : List ℕ). report_by p n T i r c fs ss) ea eb ∙ padded-report n fs ss

@@ -1,2 +1,3 @@
 pub mod Reports
-pub mod Fours
+mod Fours
+mod Turns

@@ -1,5 +1,5 @@
 -- What the code finds of a deal and of the pairs heard, test by test.
-use mathlib.Core.Path.{◌≡◌, refl, sym, ap, ap₂, subst, ◌∙◌}
+use mathlib.Core.Path.{◌≡◌, refl, sym, ap, ap₂, ◌∙◌}
 use mathlib.Core.Bool.{Bool, true, false, not, ◌&&◌, and-eq-true_iff}
 use mathlib.Core.List.{List}
 use Prim.Native.Nat.{ℕ, zero, suc, ◌+◌, ◌*◌, ◌-◌, ◌%◌, ◌^◌, ◌<◌, ◌≤◌}
@@ -17,7 +17,6 @@ use Rattle.polynomial.specs.Polynomial.{Residues, residues, value}
 use Rattle.polynomial.proofs.Below.{residues-facts}
 use Rattle.parties.specs.Parties.{is_party, not_sent}
 use Rattle.tables.specs.Tables.{point_at}
-use Rattle.tables.proofs.Tables.{point-below}
 use Rattle.consistency.specs.Deal.{first_from, second_from, sound, pair_for, confirms_by, confirms, report_of, report_by}
 use Rattle.consistency.specs.Deal.{no_report, report_in}
 
@@ -32,7 +31,7 @@ mask-none f zero h = refl
 mask-none f (suc n) h = mask-none f n h ∙ sym (mask-out f n (h n))
 
 -- Two tests that say the same of the first n places give one set.
-mask-same : (f g : ℕ → Bool) (n : ℕ) → ((k : ℕ) → k < n → f k ≡ g k) → mask f n ≡ mask g n
+pub mask-same : (f g : ℕ → Bool) (n : ℕ) → ((k : ℕ) → k < n → f k ≡ g k) → mask f n ≡ mask g n
 unfolding mask
 mask-same f g zero h = refl
 mask-same f g (suc n) h = rw (mask-same f g n (λ k l. h k (omega arith)), h n (omega arith))
@@ -44,10 +43,6 @@ full = refl
 
 full-bit : (k : ℕ) → k < 16 → bit no_report k ≡ true
 full-bit k h = ap (λ m. bit m k) full ∙ bit_mask (λ j. true) 16 k h
-
--- A number that is a party's point is a residue.
-pub at-point : (p : ℕ) (T : List ℕ) (i x : ℕ) → 0 < p → Residues p T → x ≡ point_at T i → x < p
-at-point p T i x h below e = subst (λ z. z < p) (sym e) (point-below p T i h below)
 
 module _ (p : ℕ) (T : List ℕ) (i : ℕ) (row column : List ℕ) where
   -- ---- whether the deal is sound
@@ -91,14 +86,6 @@ module _ (p : ℕ) (T : List ℕ) (i : ℕ) (row column : List ℕ) where
   module _ (j a b : ℕ) where
     pub confirms-self : i ≡ j → false ≡ confirms_by p T i row column j a b
     confirms-self e = rw (eq-eqb i j e)
-
-    pub confirms-not : (i ≡ j → ⊥) → sound p T i row column ≡ true → (a ≡ value p column (point_at T j) → ⊥)
-        → false ≡ confirms_by p T i row column j a b
-    confirms-not d s x = rw (ne_eqb i j d, s, ne_eqb a (value p column (point_at T j)) x)
-
-    pub confirms-by : (i ≡ j → ⊥) → sound p T i row column ≡ true → a ≡ value p column (point_at T j)
-        → eqb b (value p row (point_at T j)) ≡ confirms_by p T i row column j a b
-    confirms-by d s x = rw (ne_eqb i j d, s, eq-eqb a (value p column (point_at T j)) x)
 
     none-by : (x y z u : Bool) → y ≡ false → (x && y && z && u) ≡ false
     none-by true y z u e = rw e
@@ -168,13 +155,13 @@ module _ (p : ℕ) (T : List ℕ) (i : ℕ) (row column : List ℕ) where
     pub report-room : (bits k : ℕ) → bits ≡ report_to k → k < 16 → bits + 1 * 2 ^ k % 65536 < 65536
     report-room bits k e h = rw (one_shl k h, e) (le_trans (add-lt (report_to k) k (mask_lt says k)) (pow_mono {j = 16} h))
 
-    module _ (bits k : ℕ) (b : Bool) (e : bits ≡ report_to k)
-        (same : b ≡ confirms_by p T i row column (k + 1) (get_or fs k 0) (get_or ss k 0)) where
-      place : b ≡ says k
-      place = same ∙ ap (λ j. confirms_by p T i row column j (get_or fs k 0) (get_or ss k 0)) (add-one k)
+    module _ (bits k : ℕ) (e : bits ≡ report_to k) where
+      place : (b : Bool) → b ≡ confirms_by p T i row column (k + 1) (get_or fs k 0) (get_or ss k 0) → says k ≡ b
+      place b same = sym (same ∙ ap (λ j. confirms_by p T i row column j (get_or fs k 0) (get_or ss k 0)) (add-one k))
 
-      pub report-one : k < 16 → b ≡ true → bits + 1 * 2 ^ k % 65536 ≡ report_to (k + 1)
-      report-one h set = rw (one_shl k h, e, add-one k) (sym (mask-in says k (sym place ∙ set)))
+      pub report-one : k < 16 → true ≡ confirms_by p T i row column (k + 1) (get_or fs k 0) (get_or ss k 0)
+          → bits + 1 * 2 ^ k % 65536 ≡ report_to (k + 1)
+      report-one h set = rw (one_shl k h, e, add-one k) (sym (mask-in says k (place true set)))
 
-      pub report-zero : b ≡ false → bits ≡ report_to (k + 1)
-      report-zero unset = rw (e, add-one k) (sym (mask-out says k (sym place ∙ unset)))
+      pub report-zero : false ≡ confirms_by p T i row column (k + 1) (get_or fs k 0) (get_or ss k 0) → bits ≡ report_to (k + 1)
+      report-zero unset = rw (e, add-one k) (sym (mask-out says k (place false unset)))

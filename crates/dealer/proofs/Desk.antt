@@ -14,24 +14,21 @@ use lib.Seq.{take_at, drop_at, take_all}
 use borrow.Author.Tests.{eqb-true, eq-eqb}
 use Rattle.lists.proofs.Cases.{true-or-false}
 use Rattle.lists.proofs.InPlace.{part-in-front}
-use Rattle.polynomial.specs.Polynomial.{Residues, residues}
+use Rattle.polynomial.specs.Polynomial.{Residues}
 use Rattle.polynomial.proofs.Below.{residues-facts, residues-true}
 use Rattle.bivariate.specs.Bivariate.{row, column}
 use Rattle.bivariate.proofs.Crossing.{length-row, length-column}
 use Rattle.parties.specs.Parties.{sizes}
 use Rattle.parties.proofs.Parties.{sizes-facts}
-use Rattle.tables.specs.Tables.{point_at, IsTable, is_table}
-use Rattle.tables.proofs.Tables.{table-facts, table-true}
+use Rattle.tables.specs.Tables.{point_at, one_to, IsTable}
+use Rattle.tables.proofs.Tables.{table-facts, table-true, sixteen-front, length-one-to}
 use Rattle.answers.specs.declared.Refusal.{Refusal}
-use Rattle.answers.specs.declared.Refusal.TheVariants.{WrongSize, WrongLength, NotResidue, WrongTable}
-use Rattle.answers.specs.declared.Admission.{Admission}
-use Rattle.answers.specs.declared.Admission.TheVariants.{Pass, Fail}
-use Rattle.answers.specs.Refusals.{lowest, also}
-use Rattle.answers.proofs.Tests.{lowest-pass, lowest-first, lowest-then, lowest-also}
-use Rattle.dealer.specs.Desk.{deal, deals, stretch, dealing_number, dealt_by, desk_with}
+use Rattle.answers.specs.declared.Refusal.TheVariants.{WrongSize, WrongLength}
+use Rattle.answers.specs.Refusals.{lowest, Admission, number_of}
+use Rattle.answers.proofs.Tests.{lowest-pass, lowest-first, lowest-then}
+use Rattle.dealer.specs.Desk.{deal, deals, stretch, dealt_by, desk_with}
 use Rattle.dealer.specs.Desk.{size_tests, length_tests, content_tests, desk_tests}
-use Rattle.dealer.specs.declared.Dealing.{Dealing}
-use Rattle.dealer.specs.declared.Dealing.TheVariants.{Written, Refused}
+use Rattle.std.specs.Prelude.{Ok, Err}
 
 -- ---- The deals
 
@@ -84,14 +81,14 @@ module _ (p w : ℕ) (T F : List ℕ) where
 -- ---- The answer, and the list after it
 
 module _ (new out : List ℕ) where
-  dealt-none : (a : Admission) → dealing_number (dealt_by a new out).1 ≡ none → a ≡ Pass
-  dealt-none Pass e = refl
-  dealt-none (Fail why) e = absurd (let z : ◌≡◌ {A = ℕ} 0 1 = cc in omega arith)
+  dealt-none : (a : Admission) → number_of (dealt_by a new out).1 ≡ none → a ≡ Ok tt
+  dealt-none (Ok tt) e = refl
+  dealt-none (Err why) e = absurd (let z : ◌≡◌ {A = ℕ} 0 1 = cc in omega arith)
 
-  dealt-written : {a : Admission} → a ≡ Pass → (new, Written) ≡ dealt_by a new out
+  dealt-written : {a : Admission} → a ≡ Ok tt → (new, Ok tt) ≡ dealt_by a new out
   dealt-written e = rw e
 
-  dealt-refused : {a : Admission} {why : Refusal} → a ≡ Fail why → (out, Refused why) ≡ dealt_by a new out
+  dealt-refused : {a : Admission} {why : Refusal} → a ≡ Err why → (out, Err why) ≡ dealt_by a new out
   dealt-refused e = rw e
 
 -- All tests pass: what that says.
@@ -102,7 +99,7 @@ pub record Deals (p n t : ℕ) (T F : List ℕ) (room : ℕ) : Type 0 where
   pub table : IsTable p n T
   pub below : Residues p F
 
-pub desk-passed : (p n t : ℕ) (T F : List ℕ) (room : ℕ) → lowest (desk_tests p n t T F room) ≡ Pass → Deals p n t T F room
+pub desk-passed : (p n t : ℕ) (T F : List ℕ) (room : ℕ) → lowest (desk_tests p n t T F room) ≡ Ok tt → Deals p n t T F room
 desk-passed p n t T F room e =
     let all = lowest-pass (desk_tests p n t T F room) e in
     record {
@@ -114,33 +111,31 @@ desk-passed p n t T F room e =
     }
 
 -- ---- The tests, list by list
-module _ (n t size room points : ℕ) where
-  -- That of the table's length comes behind those of the sizes.
-  pub also-length : lowest (length_tests n t size room points) ≡ also (lowest (size_tests n t size room)) (eqb points n) WrongLength
-  also-length = lowest-also (size_tests n t size room) (eqb points n) WrongLength
-
--- The table, then the list.
-pub also-residues : (p n : ℕ) (T F : List ℕ)
-    → lowest (content_tests p n T F) ≡ also (also Pass (is_table p n T) WrongTable) (residues p F) NotResidue
-also-residues p n T F =
-    lowest-also ((is_table p n T, WrongTable) ∷ []) (residues p F) NotResidue
-    ∙ ap (λ a. also a (residues p F) NotResidue) (lowest-also [] (is_table p n T) WrongTable)
-
 module _ (p n t : ℕ) (T F : List ℕ) (room : ℕ) where
   -- The lengths pass, and what the table and the list hold settles it.
-  pub lengths-pass : lowest (length_tests n t (length F) room (length T)) ≡ Pass
+  pub lengths-pass : lowest (length_tests n t (length F) room (length T)) ≡ Ok tt
       → lowest (desk_tests p n t T F room) ≡ lowest (content_tests p n T F)
   lengths-pass e = lowest-then (length_tests n t (length F) room (length T)) (content_tests p n T F) e
 
-  -- A table of n numbers is long enough.
-  pub length-pass : lowest (size_tests n t (length F) room) ≡ Pass → length T ≡ n
-      → lowest (length_tests n t (length F) room (length T)) ≡ Pass
-  length-pass e l =
-      also-length n t (length F) room (length T)
-      ∙ ap₂ (λ a b. also a b WrongLength) e (eq-eqb (length T) n l)
+-- ---- The points 1 to n
+-- They are long enough.
+pub plain-lengths : (n t size room points : ℕ) → lowest (size_tests n t size room) ≡ Ok tt → points ≡ n
+    → lowest (length_tests n t size room points) ≡ Ok tt
+plain-lengths n t size room points e l =
+    lowest-then (size_tests n t size room) ((eqb points n, WrongLength) ∷ []) e ∙ rw (eq-eqb points n l)
+
+pub plain-fits : (n t size room : ℕ) → lowest (size_tests n t size room) ≡ Ok tt → n ≤ 16
+plain-fits n t size room e = let s = sizes-facts n t (lowest-pass (size_tests n t size room) e).0 in s.3
+
+-- The first n of 1 to 16.
+pub plain-points : (n : ℕ) (points : List ℕ) → n ≤ 16 → points ≡ one_to 16 → take n points ≡ one_to n
+plain-points n points h e = ap (take n) e ∙ sixteen-front n h
+
+pub few-of-sixteen : (n : ℕ) (points : List ℕ) → n ≤ 16 → points ≡ one_to 16 → n ≤ length points
+few-of-sixteen n points h e = omega (arith, ap length e, length-one-to 16)
 
 -- The lengths where they are right: all that is dealt fits sixteen places.
-pub lengths-fit : (n t size room points : ℕ) → lowest (length_tests n t size room points) ≡ Pass
+pub lengths-fit : (n t size room points : ℕ) → lowest (length_tests n t size room points) ≡ Ok tt
     → (n ≤ 16) × (t + 1 ≤ 4) × (size ≤ 16) × (points ≡ n)
 lengths-fit n t size room points e =
     let all = lowest-pass (length_tests n t size room points) e in
@@ -153,8 +148,8 @@ lengths-fit n t size room points e =
     )
 
 -- What the code that writes the deals asks for, where all tests pass.
-pub to_write : (p n t : ℕ) (T F : List ℕ) (room : ℕ) → lowest (length_tests n t (length F) room (length T)) ≡ Pass
-    → lowest (content_tests p n T F) ≡ Pass
+pub to_write : (p n t : ℕ) (T F : List ℕ) (room : ℕ) → lowest (length_tests n t (length F) room (length T)) ≡ Ok tt
+    → lowest (content_tests p n T F) ≡ Ok tt
     → ((n ≤ 16) × (t + 1 ≤ 4) × (length F ≡ (t + 1) * (t + 1)) × (room ≡ n * (2 * (t + 1)))) × (Residues p T × Residues p F)
 to_write p n t T F room e h =
     let fit = lengths-fit n t (length F) room (length T) e in
@@ -165,11 +160,11 @@ to_write p n t T F room e h =
 
 module _ (p n t : ℕ) (T F out : List ℕ) where
   -- It writes exactly if all tests pass.
-  pub desk-written : dealing_number (desk_with p n t T F out).1 ≡ none → Deals p n t T F (length out)
+  pub desk-written : number_of (desk_with p n t T F out).1 ≡ none → Deals p n t T F (length out)
   unfolding desk_with
   desk-written e = desk-passed p n t T F (length out) (dealt-none (deals p (suc t) T F n) out _ e)
 
-  pub desk-writes : Deals p n t T F (length out) → desk_with p n t T F out ≡ (deals p (suc t) T F n, Written)
+  pub desk-writes : Deals p n t T F (length out) → desk_with p n t T F out ≡ (deals p (suc t) T F n, Ok tt)
   unfolding desk_with
   desk-writes d =
       rw (
@@ -182,47 +177,47 @@ module _ (p n t : ℕ) (T F out : List ℕ) where
       )
 
   -- Then the list is the deals, each party's in its own part.
-  pub desk-list : dealing_number (desk_with p n t T F out).1 ≡ none → (desk_with p n t T F out).0 ≡ deals p (suc t) T F n
-  desk-list e = ap (λ (q : List ℕ × Dealing). q.0) (desk-writes (desk-written e))
+  pub desk-list : number_of (desk_with p n t T F out).1 ≡ none → (desk_with p n t T F out).0 ≡ deals p (suc t) T F n
+  desk-list e = ap (λ (q : List ℕ × Admission). q.0) (desk-writes (desk-written e))
 
-  pub desk-stretch : dealing_number (desk_with p n t T F out).1 ≡ none → (i : ℕ) → 1 ≤ i → i ≤ n
+  pub desk-stretch : number_of (desk_with p n t T F out).1 ≡ none → (i : ℕ) → 1 ≤ i → i ≤ n
       → stretch (suc t) (desk_with p n t T F out).0 i ≡ deal p (suc t) T F i
   desk-stretch e i a b = ap (λ l. stretch (suc t) l i) (desk-list e) ∙ deals-at p (suc t) T F (desk-written e).square n i a b
 
   -- The desk by what its tests find.
-  pub desk-by-pass : lowest (desk_tests p n t T F (length out)) ≡ Pass → (deals p (suc t) T F n, Written) ≡ desk_with p n t T F out
+  pub desk-by-pass : lowest (desk_tests p n t T F (length out)) ≡ Ok tt → (deals p (suc t) T F n, Ok tt) ≡ desk_with p n t T F out
   unfolding desk_with
   desk-by-pass e = dealt-written (deals p (suc t) T F n) out e
 
-  pub desk-by-fail : (why : Refusal) → lowest (desk_tests p n t T F (length out)) ≡ Fail why → (out, Refused why) ≡ desk_with p n t T F out
+  pub desk-by-fail : (why : Refusal) → lowest (desk_tests p n t T F (length out)) ≡ Err why → (out, Err why) ≡ desk_with p n t T F out
   unfolding desk_with
   desk-by-fail why e = dealt-refused (deals p (suc t) T F n) out e
 
   -- The lengths settle it, and of those the first three alone; more than sixteen parties are refused first.
-  pub desk-by-lengths : (why : Refusal) → lowest (length_tests n t (length F) (length out) (length T)) ≡ Fail why
-      → (out, Refused why) ≡ desk_with p n t T F out
+  pub desk-by-lengths : (why : Refusal) → lowest (length_tests n t (length F) (length out) (length T)) ≡ Err why
+      → (out, Err why) ≡ desk_with p n t T F out
   desk-by-lengths why e =
       desk-by-fail why (lowest-first (length_tests n t (length F) (length out) (length T)) (content_tests p n T F) e)
 
-  pub desk-by-sizes : (why : Refusal) → lowest (size_tests n t (length F) (length out)) ≡ Fail why
-      → (out, Refused why) ≡ desk_with p n t T F out
+  pub desk-by-sizes : (why : Refusal) → lowest (size_tests n t (length F) (length out)) ≡ Err why
+      → (out, Err why) ≡ desk_with p n t T F out
   desk-by-sizes why e =
       desk-by-fail why
       (lowest-first (size_tests n t (length F) (length out)) ((eqb (length T) n, WrongLength) ∷ content_tests p n T F) e)
 
-  pub desk-by-many : 16 < n → (out, Refused WrongSize) ≡ desk_with p n t T F out
+  pub desk-by-many : 16 < n → (out, Err WrongSize) ≡ desk_with p n t T F out
   desk-by-many h =
       let wrong : sizes n t ≡ false =
       ⊎_elim (λ e. let s = sizes-facts n t e in absurd (omega arith)) (λ e. e) (true-or-false (sizes n t)) in
       desk-by-fail WrongSize (rw wrong)
 
   -- The lengths are right: what the code that deals then answers.
-  module _ (fit : lowest (length_tests n t (length F) (length out) (length T)) ≡ Pass) where
-    pub desk-by-content : (new : List ℕ) → lowest (content_tests p n T F) ≡ Pass → new ≡ deals p (t + 1) T F n
-        → (new, Written) ≡ desk_with p n t T F out
+  module _ (fit : lowest (length_tests n t (length F) (length out) (length T)) ≡ Ok tt) where
+    pub desk-by-content : (new : List ℕ) → lowest (content_tests p n T F) ≡ Ok tt → new ≡ deals p (t + 1) T F n
+        → (new, Ok tt) ≡ desk_with p n t T F out
     desk-by-content new h e =
-        ap (λ l. (l, Written)) (e ∙ ap (λ w. deals p w T F n) (add-one t))
+        ap (λ l. (l, Ok tt)) (e ∙ ap (λ w. deals p w T F n) (add-one t))
         ∙ desk-by-pass (lengths-pass p n t T F (length out) fit ∙ h)
 
-    pub desk-by-bad-content : (why : Refusal) → lowest (content_tests p n T F) ≡ Fail why → (out, Refused why) ≡ desk_with p n t T F out
+    pub desk-by-bad-content : (why : Refusal) → lowest (content_tests p n T F) ≡ Err why → (out, Err why) ≡ desk_with p n t T F out
     desk-by-bad-content why h = desk-by-fail why (lengths-pass p n t T F (length out) fit ∙ h)

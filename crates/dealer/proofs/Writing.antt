@@ -16,7 +16,10 @@ use Rattle.bivariate.specs.Bivariate.{row, column, row_in, column_in}
 use Rattle.bivariate.proofs.Lent.{row-in, column-in}
 use Rattle.bivariate.proofs.Crossing.{length-row, row-poly, column-poly}
 use Rattle.tables.specs.Tables.{point_at}
-use Rattle.dealer.specs.Desk.{deal, deals}
+use Rattle.std.proofs.Common.{map}
+use Rattle.std.proofs.lemmas.List.{take-map, drop-map, map-append, length-map}
+use Rattle.answers.specs.Refusals.{Admission, lowest}
+use Rattle.dealer.specs.Desk.{deal, deals, size_tests, length_tests}
 use Rattle.dealer.proofs.Desk.{length-deal}
 
 -- A list copied into the front of an array.
@@ -26,6 +29,27 @@ module _ (list part rest : List ℕ) (e : part ≡ list) where
 
   pub copied-within : length list ≤ length (part ++ rest)
   copied-within = omega (arith, length-append part rest, ap length e)
+
+-- The same of a list of numbers of either width.
+pub copied-numbers : {X : Type 0} (f : X → ℕ) (xs : List X) (part rest : List ℕ) → part ≡ map f xs → take (length xs) (part ++ rest) ≡ map f xs
+copied-numbers f xs part rest e = take_at part rest (length xs) (ap length e ∙ length-map xs f) ∙ e
+
+pub copied-room : {X : Type 0} (f : X → ℕ) (xs : List X) (part rest : List ℕ) → part ≡ map f xs → length xs ≤ length (part ++ rest)
+copied-room f xs part rest e = omega (arith, length-append part rest, ap length e, length-map xs f)
+
+-- The lengths of the lists as numbers are those of the lent ones.
+module _ {X : Type 0} (f : X → ℕ) (n t : ℕ) (xs out : List X) {a : Admission} where
+  pub lengths : (points : ℕ) → lowest (length_tests n t (length xs) (length out) points) ≡ a
+      → lowest (length_tests n t (length (map f xs)) (length (map f out)) points) ≡ a
+  lengths points e = rw (length-map xs f, length-map out f) e
+
+  pub lengths-with : (T : List X) → lowest (length_tests n t (length xs) (length out) (length T)) ≡ a
+      → lowest (length_tests n t (length (map f xs)) (length (map f out)) (length (map f T))) ≡ a
+  lengths-with T e = rw (length-map T f) (lengths (length T) e)
+
+  pub lengths-plain : lowest (size_tests n t (length xs) (length out)) ≡ a
+      → lowest (size_tests n t (length (map f xs)) (length (map f out))) ≡ a
+  lengths-plain e = rw (length-map xs f, length-map out f) e
 
 module _ (p : ℕ) where
   module _ (w : ℕ) (T F : List ℕ) where
@@ -62,7 +86,7 @@ module _ (p : ℕ) where
           ∙ ap₂ ◌++◌ (take_at f (drop w out) w row-wide ∙ row_written) second
           ∙ ap (λ z. row p w w F z ++ column p w w F z) at
 
-    -- ---- `write_narrow_deal`: a deal in the front of an array
+    -- ---- `write_deal_in`: a deal in the front of an array
     module _ (i : ℕ) (part rest : List ℕ) (square : length F ≡ w * w) (e : part ≡ deal p w T F i) where
       pub front-deal : take (2 * w) (part ++ rest) ≡ deal p w T F i
       front-deal = take_at part rest (2 * w) (ap length e ∙ length-deal p w T F square i) ∙ e
@@ -73,17 +97,17 @@ module _ (p : ℕ) where
       pub front-within : 2 * w ≤ length (part ++ rest)
       front-within = omega (arith, length-append part rest, ap length e, length-deal p w T F square i)
 
-      -- Its numbers are residues, and those of a prime of 16 bits have no more.
-      pub front-narrow : 0 < p → p ≤ 65536 → All (λ x. x < 65536) (take (2 * w) (part ++ rest))
+      -- Its numbers are residues, so that they fit wherever those do.
+      pub front-below : (m : ℕ) → 0 < p → p ≤ m → All (λ x. x < m) (take (2 * w) (part ++ rest))
       unfolding deal
-      front-narrow positive few =
+      front-below m positive few =
           let x : ℕ = point_at T i in
           let residues = all_append (λ c. c < p) (row p w w F x) (column p w w F x) (row-poly p w w F x positive).residues
           (column-poly p w w F x positive square).residues in
-          subst (All (λ x. x < 65536)) (sym front-deal)
-          (all_of (deal p w T F i) (λ c m. let small : c < p = all-at (λ c. c < p) (deal p w T F i) residues c m in omega arith))
+          subst (All (λ x. x < m)) (sym front-deal)
+          (all_of (deal p w T F i) (λ c e. let small : c < p = all-at (λ c. c < p) (deal p w T F i) residues c e in omega arith))
 
-    -- ---- `write_narrow_deals`, `write_wide_deals`
+    -- ---- `write_deals`
     pub record DealsLoop (n : ℕ) (out : List ℕ) (i start : ℕ) : Type 0 where
       pub square : length F ≡ w * w
       pub within : i ≤ n
@@ -129,3 +153,10 @@ module _ (p : ℕ) where
             let all : i ≡ n = omega (arith, k.within) in
             let last : length out ≡ start = k.size ∙ ap (λ z. z * (2 * w)) (sym all) ∙ sym k.place in
             sym (take_all start out (omega arith)) ∙ k.goal ∙ ap (deals p w T F) all
+
+-- ---- A part of a list, as numbers
+pub map-put_mid : {X : Type 0} (f : X → ℕ) (a k : ℕ) (xs ys : List X) → map f (put_mid a k xs ys) ≡ put_mid a k (map f xs) (map f ys)
+map-put_mid f a k xs ys =
+    map-append f (take a xs) (ys ++ drop k (drop a xs))
+    ∙ ap₂ ◌++◌ (sym (take-map f a xs)) (map-append f ys (drop k (drop a xs))
+    ∙ ap (λ l. map f ys ++ l) (sym (drop-map f k (drop a xs)) ∙ ap (drop k) (sym (drop-map f a xs))))

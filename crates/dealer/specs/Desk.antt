@@ -3,21 +3,16 @@
 --   deals p w T F n           the deals of parties 1 to n, in order
 --   stretch w out i           party i's own part of a list of deals
 --   desk_tests p n t T F room   what the desk looks at, in the order of the refusals: size_tests, then length_tests, then content_tests
---   dealing_number            the protocol's number of an answer
 --   desk_with p n t T F out   the list afterwards, and the answer, with the table T; desk p n t F out: without one
 -- Laws: proofs/Desk.
-use Rattle.std.proofs.Math.Option.{Option, none, some}
 use Rattle.std.specs.Prelude.{List, [], ◌∷◌, ◌++◌, ℕ, zero, suc, ◌*◌, ◌-◌, eqb, length, take, drop}
 use Rattle.polynomial.specs.Polynomial.{residues}
 use Rattle.bivariate.specs.Bivariate.{row, column}
 use Rattle.parties.specs.Parties.{sizes}
 use Rattle.tables.specs.Tables.{point_at, one_to, is_table}
 use Rattle.answers.specs.declared.Refusal.TheVariants.{WrongSize, WrongLength, NotResidue, WrongTable}
-use Rattle.answers.specs.declared.Admission.{Admission}
-use Rattle.answers.specs.declared.Admission.TheVariants.{Pass, Fail}
-use Rattle.answers.specs.Refusals.{Test, refusal_number, lowest}
-use Rattle.dealer.specs.declared.Dealing.{Dealing}
-use Rattle.dealer.specs.declared.Dealing.TheVariants.{Written, Refused}
+use Rattle.answers.specs.Refusals.{Test, lowest, Admission}
+use Rattle.std.specs.Prelude.{Ok, Err}
 
 -- Party i's deal.
 unfoldable pub deal : ℕ → ℕ → List ℕ → List ℕ → ℕ → List ℕ
@@ -49,20 +44,15 @@ content_tests p n T F = (is_table p n T, WrongTable) ∷ (residues p F, NotResid
 abbrev pub desk_tests : ℕ → ℕ → ℕ → List ℕ → List ℕ → ℕ → List Test
 desk_tests p n t T F room = length_tests n t (length F) room (length T) ++ content_tests p n T F
 
--- The number of an answer; none where the deals are written.
-abbrev pub dealing_number : Dealing → Option ℕ
-dealing_number Written = none
-dealing_number (Refused why) = some (refusal_number why)
-
--- The new list and `Written`, unless the call is refused.
-abbrev pub dealt_by : Admission → List ℕ → List ℕ → List ℕ × Dealing
-dealt_by Pass new out = (new, Written)
-dealt_by (Fail why) new out = (out, Refused why)
+-- The new list, unless the call is refused.
+abbrev pub dealt_by : Admission → List ℕ → List ℕ → List ℕ × Admission
+dealt_by (Ok tt) new out = (new, Ok tt)
+dealt_by (Err why) new out = (out, Err why)
 
 -- The lent list afterwards, and the answer.
-unfoldable pub desk_with : ℕ → ℕ → ℕ → List ℕ → List ℕ → List ℕ → List ℕ × Dealing
+unfoldable pub desk_with : ℕ → ℕ → ℕ → List ℕ → List ℕ → List ℕ → List ℕ × Admission
 desk_with p n t T F out = let new = deals p (suc t) T F n in dealt_by (lowest (desk_tests p n t T F (length out))) new out
 
 -- Without a table: the parties' points are 1 to n.
-abbrev pub desk : ℕ → ℕ → ℕ → List ℕ → List ℕ → List ℕ × Dealing
+abbrev pub desk : ℕ → ℕ → ℕ → List ℕ → List ℕ → List ℕ × Admission
 desk p n t F out = desk_with p n t (one_to n) F out

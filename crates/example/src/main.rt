@@ -3,30 +3,27 @@
 // then with another secret and numbers of 32 bits. Each step writes a line: what it answered.
 #![tactic(auto)]
 
-use dealer::Dealing;
+use answers::Refusal;
+use arrays::Number;
 use lamp::{Lamp, Reply};
 use recovery::Decoder;
 use std::io;
 use std::io::Write;
 
 fn line<W: Write>(out: &mut W, step: &[u8], reply: Reply) -> io::Result<()> {
-    let answer = reply.answer;
     replies::word(out, step)?;
-    replies::answer(out, answer)?;
+    replies::answer(out, reply.answer)?;
     replies::word(out, b"\n")
 }
 
-fn dealt_line<W: Write>(out: &mut W, desk: Dealing, deals: &[u16]) -> io::Result<()> {
+fn dealt_line<N: Number, W: Write>(
+    out: &mut W,
+    desk: Result<(), Refusal>,
+    deals: &[N],
+) -> io::Result<()> {
     replies::word(out, b"deal ")?;
     replies::dealing(out, desk)?;
     replies::numbers(out, deals)?;
-    replies::word(out, b"\n")
-}
-
-fn wide_dealt_line<W: Write>(out: &mut W, desk: Dealing, deals: &[u32]) -> io::Result<()> {
-    replies::word(out, b"deal ")?;
-    replies::dealing(out, desk)?;
-    replies::wide_numbers(out, deals)?;
     replies::word(out, b"\n")
 }
 
@@ -103,7 +100,7 @@ fn stations<W: Write>(out: &mut W) -> io::Result<()> {
 fn wide<W: Write>(out: &mut W) -> io::Result<()> {
     let mut deals = [0u32; 20];
     let desk = dealer::deal_wide(5, 1, &[2147483646, 2, 3, 4], &mut deals);
-    wide_dealt_line(out, desk, &deals)?;
+    dealt_line(out, desk, &deals)?;
 
     // A lamp is made wide; what lends numbers of the field has a form for them, saying a pair and settling have one form for both.
     let made = Lamp::make_wide(5, 1, 1);

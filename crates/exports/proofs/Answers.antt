@@ -1,11 +1,13 @@
 -- What the C functions make of the desk's answers and of a repair's fit is what their definitions say, for any prime. Openings:
 -- proofs/Opened.
---   dealing-by                        the desk's list, and the number of its answer
+--   fit-below                         what is fitted are numbers that fit where residues do
 --   repairs-passed, repairs-tests     the sizes of a repair and what they ask for
---   points-refused, points-fit, column-by, column-narrow   what is fitted and written, and that it has 16 bits where the prime has
 --   repairing-refused, repairing-sized, repairing-by   refused for the sizes, or by the points, or what fits
+--   points-fit                        what fits points that are a table
+--   fit-refused, fit-sizes, fit-even, fit-sized   what a repair fits by its sizes: refused, or what the points fit
+--   column-repaired, column-below     what is written of it, and that it fits where residues do
 --   repair-1, repair-3, repair-14, deal-number   which number is given, and that what was lent is left alone
-use mathlib.Core.Path.{◌≡◌, refl, sym, ap, subst, ◌∙◌}
+use mathlib.Core.Path.{◌≡◌, refl, sym, ap, ◌∙◌}
 use mathlib.Core.Logic.{◌⊎◌, inl, inr, ⊎_elim}
 use mathlib.Core.Bool.{Bool, true, false}
 use mathlib.Core.Option.{Option, none, some}
@@ -22,13 +24,10 @@ use Rattle.lists.proofs.All.{all_append}
 use Rattle.lists.proofs.Cases.{true-or-false}
 use Rattle.field.specs.Arithmetic.{Prime}
 use Rattle.polynomial.specs.Polynomial.{Residues}
-use Rattle.answers.specs.declared.Fitted.{Fitted}
 use Rattle.answers.specs.declared.Refusal.{Refusal}
 use Rattle.answers.specs.declared.Refusal.TheVariants.{WrongLength, WrongTable}
-use Rattle.answers.specs.declared.Admission.{Admission}
-use Rattle.answers.specs.declared.Admission.TheVariants.{Pass, Fail}
-use Rattle.answers.specs.Fits.{refused_fit}
-use Rattle.answers.specs.Refusals.{Test, refusal_number, lowest}
+use Rattle.answers.specs.Fits.{Fitted}
+use Rattle.answers.specs.Refusals.{Test, refusal_number, lowest, Admission, number_of}
 use Rattle.answers.proofs.Tests.{lowest-pass, lowest-first, lowest-then}
 use Rattle.fit.specs.Fit.{fit}
 use Rattle.fit.specs.Admitted.{decoded_if, fit_in}
@@ -37,57 +36,53 @@ use Rattle.fit.proofs.Rule.{sent-length}
 use Rattle.fit.proofs.Decoding.{fit-sound}
 use Rattle.tables.specs.Tables.{IsTable, is_table}
 use Rattle.tables.proofs.Tables.{table-facts, table-true}
-use Rattle.dealer.specs.declared.Dealing.{Dealing}
-use Rattle.dealer.specs.Desk.{dealing_number, desk_with}
-use Rattle.exports.specs.Exports.{dealing_at, repair_sizes, repaired, repaired_if, repairing}
-use Rattle.exports.specs.Pieces.{column_by, Repairs}
+use Rattle.dealer.specs.Desk.{desk_with}
+use Rattle.exports.specs.Exports.{dealing_at, repair_sizes, repair_tests, repaired, repaired_if, repairing}
+use Rattle.exports.specs.Pieces.{repair_fit, column_by, Repairs}
+use Rattle.std.specs.Prelude.{Ok, Err, IfOk, IfSome}
+use Rattle.std.proofs.Common.{map}
+use Rattle.std.proofs.lemmas.List.{length-map}
 
 -- ---- a dealing: the desk's number, and 0 for none
 module _ (p n t : ℕ) (T F out : List ℕ) where
-  pub dealing-by : (after : List ℕ) (answer : Dealing) (k : ℕ) → k ≡ or_zero (dealing_number answer)
-      → (after, answer) ≡ desk_with p n t T F out → (after, k) ≡ dealing_at p n t T F out
-  unfolding dealing_at
-  dealing-by after answer k e d =
-      ap (λ (m : ℕ). (after, m)) e ∙ ap (λ (a : List ℕ × Dealing). (a.0, or_zero (dealing_number a.1))) d
-
-  pub deal-number : (k : ℕ) → dealing_number (desk_with p n t T F out).1 ≡ some k → dealing_at p n t T F out ≡ ((desk_with p n t T F out).0, k)
+  pub deal-number : (k : ℕ) → number_of (desk_with p n t T F out).1 ≡ some k → dealing_at p n t T F out ≡ ((desk_with p n t T F out).0, k)
   unfolding dealing_at
   deal-number k e = ap (λ o. ((desk_with p n t T F out).0, or_zero o)) e
 
-  pub deal-written : dealing_number (desk_with p n t T F out).1 ≡ none → dealing_at p n t T F out ≡ ((desk_with p n t T F out).0, 0)
+  pub deal-written : number_of (desk_with p n t T F out).1 ≡ none → dealing_at p n t T F out ≡ ((desk_with p n t T F out).0, 0)
   unfolding dealing_at
   deal-written e = ap (λ o. ((desk_with p n t T F out).0, or_zero o)) e
 
--- ---- what is found is residues, and so are the zeros elsewhere
+-- ---- what is found is residues, and so are the zeros elsewhere: both fit where residues do
+below : (p m : ℕ) (xs : List ℕ) → p ≤ m → Residues p xs → Residues m xs
+below p m [] h r = tt
+below p m (x ∷ xs) h r = (omega (arith, r.0), below p m xs h r.1)
+
 zeros-below : (p m : ℕ) → 0 < p → Residues p (replicate m 0)
 zeros-below p zero h = tt
 zeros-below p (suc m) h = (h, zeros-below p m h)
 
-decoded-below : (p : ℕ) (a : Admission) (o : Option (List ℕ)) → 0 < p → ((f : List ℕ) → o ≡ some f → Residues p f)
-    → Residues p (decoded_if a o).coefficients
-decoded-below p (Fail why) o h r = zeros-below p 4 h
-decoded-below p Pass none h r = zeros-below p 4 h
-decoded-below p Pass (some f) h r = all_append (λ c. c < p) f (replicate (4 - length f) 0) (r f refl) (zeros-below p (4 - length f) h)
+decoded-below : (p m : ℕ) (a : Admission) (o : Option (List ℕ)) → 0 < m → p ≤ m → ((f : List ℕ) → o ≡ some f → Residues p f)
+    → IfOk (decoded_if a o) (λ found. IfSome found (All (λ c. c < m)))
+decoded-below p m (Err why) o h k r = tt
+decoded-below p m (Ok u) none h k r = tt
+decoded-below p m (Ok u) (some f) h k r =
+    all_append (λ c. c < m) f (replicate (4 - length f) 0) (below p m f k (r f refl)) (zeros-below m (4 - length f) h)
 
-pub fit-below : (p : ℕ) → Prime p → (a : Admission) (t need : ℕ) (xs ys : List ℕ)
-    → Residues p (decoded_if a (fit p t need xs ys)).coefficients
-fit-below p P a t need xs ys =
-    decoded-below p a (fit p t need xs ys) (omega (arith, P.two)) (λ f e. (fit-sound p P t need xs ys f e).poly.residues)
-
--- Residues of a prime of 16 bits are numbers of 16 bits.
-pub below-narrow : (p : ℕ) (xs : List ℕ) → p ≤ 65536 → Residues p xs → All (λ c. c < 65536) xs
-below-narrow p [] h r = tt
-below-narrow p (x ∷ xs) h r = (omega (arith, r.0), below-narrow p xs h r.1)
+pub fit-below : (p m : ℕ) → Prime p → p ≤ m → (a : Admission) (t need : ℕ) (xs ys : List ℕ)
+    → IfOk (decoded_if a (fit p t need xs ys)) (λ found. IfSome found (All (λ c. c < m)))
+fit-below p m P h a t need xs ys =
+    decoded-below p m a (fit p t need xs ys) (omega (arith, P.two)) h (λ f e. (fit-sound p P t need xs ys f e).poly.residues)
 
 -- ---- the sizes of a repair
 -- What is found of them.
-abbrev sized : ℕ → List ℕ → List ℕ → List ℕ → Admission
-sized t xs ys column = lowest (repair_sizes t (length xs) (length ys) (length column))
+abbrev sized : ℕ → List ℕ → List ℕ → ℕ → Admission
+sized t xs ys room = lowest (repair_sizes t (length xs) (length ys) room)
 
-module _ (t : ℕ) (xs ys column : List ℕ) where
-  pub repairs-passed : sized t xs ys column ≡ Pass → Repairs t xs ys × (length column ≡ suc t)
+module _ (t : ℕ) (xs ys : List ℕ) (room : ℕ) where
+  pub repairs-passed : sized t xs ys room ≡ Ok tt → Repairs t xs ys × (room ≡ suc t)
   repairs-passed e =
-      let sizes = lowest-pass (repair_sizes t (length xs) (length ys) (length column)) e in
+      let sizes = lowest-pass (repair_sizes t (length xs) (length ys) room) e in
       let lists = sizes.1.1 in
       let rest = lists.1.1 in (
         record {
@@ -97,18 +92,18 @@ module _ (t : ℕ) (xs ys column : List ℕ) where
           enough = leb-true (3 * t + 1) (length xs) lists.1.0;
           most = leb-true (length xs) 16 rest.0;
         },
-        eqb-true (length column) (suc t) rest.1.0,
+        eqb-true room (suc t) rest.1.0,
       )
 
-  pub repairs-tests : Repairs t xs ys → length column ≡ suc t → sized t xs ys column ≡ Pass
-  repairs-tests r room =
+  pub repairs-tests : Repairs t xs ys → room ≡ suc t → sized t xs ys room ≡ Ok tt
+  repairs-tests r right =
       rw (
         le-leb 1 t r.some_faulty,
         le-leb t 3 r.few_faulty,
         eq-eqb (length xs) (length ys) r.lengths,
         le-leb (3 * t + 1) (length xs) r.enough,
         le-leb (length xs) 16 r.most,
-        eq-eqb (length column) (suc t) room,
+        eq-eqb room (suc t) right,
       )
 
 -- ---- a repair
@@ -117,14 +112,15 @@ abbrev points : ℕ → List ℕ → List Test
 points p xs = (is_table p (length xs) xs, WrongTable) ∷ []
 
 module _ (p t : ℕ) (xs ys column : List ℕ) where
-  pub repairing-refused : {why : Refusal} → sized t xs ys column ≡ Fail why → (column, refusal_number why) ≡ repairing p t xs ys column
+  pub repairing-refused : {why : Refusal} → sized t xs ys (length column) ≡ Err why
+      → (column, refusal_number why) ≡ repairing p t xs ys column
   unfolding repairing
   repairing-refused e =
       ap (λ a. repaired_if a column (fit p t (length xs - t) xs ys))
       (sym (lowest-first (repair_sizes t (length xs) (length ys) (length column)) (points p xs) e))
 
   -- Where the sizes are right the points decide.
-  pub repairing-sized : sized t xs ys column ≡ Pass
+  pub repairing-sized : sized t xs ys (length column) ≡ Ok tt
       → repaired_if (lowest (points p xs)) column (fit p t (length xs - t) xs ys) ≡ repairing p t xs ys column
   unfolding repairing
   repairing-sized e =
@@ -134,55 +130,100 @@ module _ (p t : ℕ) (xs ys column : List ℕ) where
   pub repairing-by : Repairs t xs ys → length column ≡ suc t → IsTable p (length xs) xs
       → repairing p t xs ys column ≡ repaired column (fit p t (length xs - t) xs ys)
   repairing-by r room table =
-      sym (repairing-sized (repairs-tests t xs ys column r room))
+      sym (repairing-sized (repairs-tests t xs ys (length column) r room))
       ∙ ap (λ b. repaired_if (lowest ((b, WrongTable) ∷ [])) column (fit p t (length xs - t) xs ys)) (table-true p (length xs) xs table)
 
 -- The front of the four coefficients is the polynomial.
-column-decoded : (a : Admission) (o : Option (List ℕ)) (column : List ℕ) → ((f : List ℕ) → o ≡ some f → length f ≡ length column)
-    → column_by (decoded_if a o).outcome (decoded_if a o).coefficients column ≡ repaired_if a column o
-column-decoded (Fail why) o column size = refl
-column-decoded Pass none column size = refl
-column-decoded Pass (some f) column size =
-    ap (λ (l : List ℕ). (l, 0)) (take_at f (replicate (4 - length f) 0) (length column) (size f refl))
+column-decoded : (a : Admission) (o : Option (List ℕ)) (column : List ℕ)
+    → (a ≡ Ok tt → (f : List ℕ) → o ≡ some f → length f ≡ length column)
+    → column_by (decoded_if a o) column ≡ repaired_if a column o
+column-decoded (Err why) o column size = refl
+column-decoded (Ok u) none column size = refl
+column-decoded (Ok u) (some f) column size =
+    ap (λ (l : List ℕ). (l, 0)) (take_at f (replicate (4 - length f) 0) (length column) (size refl f refl))
 
--- What the code has of the fit where the sizes are right: refused for the points, or what fits.
-abbrev pub repair_fit : ℕ → ℕ → List ℕ → List ℕ → Fitted
-repair_fit p t xs ys = decoded_if (lowest (points p xs)) (fit p t (length xs - t) xs ys)
+-- And the list has room for no more than four.
+room-below : (m room : ℕ) (a : Admission) (o : Option (List ℕ)) → (a ≡ Ok tt → room ≤ 4)
+    → IfOk (decoded_if a o) (λ found. IfSome found (All (λ c. c < m)))
+    → IfOk (decoded_if a o) (λ found. IfSome found (λ f. (room ≤ 4) × All (λ c. c < m) f))
+room-below m room (Err why) o short h = tt
+room-below m room (Ok u) none short h = tt
+room-below m room (Ok u) (some f) short h = (short refl, h)
 
-module _ (p t : ℕ) (xs ys : List ℕ) where
-  pub points-refused : is_table p (length xs) xs ≡ false → refused_fit WrongTable ≡ repair_fit p t xs ys
-  points-refused e = ap (λ b. decoded_if (lowest ((b, WrongTable) ∷ [])) (fit p t (length xs - t) xs ys)) (sym e)
+-- What is fitted where the sizes are right: refused for the points, or what fits.
+abbrev pub points_fit : ℕ → ℕ → List ℕ → List ℕ → Fitted
+points_fit p t xs ys = decoded_if (lowest (points p xs)) (fit p t (length xs - t) xs ys)
 
-  pub points-fit : Repairs t xs ys → is_table p (length xs) xs ≡ true → fit_in p t (length xs - t) xs ys ≡ repair_fit p t xs ys
-  points-fit r e =
-      fit-least p t (length xs - t) xs ys (record {
-        degree = r.few_faulty;
-        bounded = record { lengths = r.lengths; most = r.most };
-        enough = omega (arith, r.enough);
-      }) (omega (arith, r.lengths, r.enough, sent-length p ys))
-      ∙ ap (λ b. decoded_if (lowest ((b, WrongTable) ∷ [])) (fit p t (length xs - t) xs ys)) (sym e)
+pub points-fit : (p t : ℕ) (xs ys : List ℕ) → Repairs t xs ys → is_table p (length xs) xs ≡ true
+    → fit_in p t (length xs - t) xs ys ≡ points_fit p t xs ys
+points-fit p t xs ys r e =
+    fit-least p t (length xs - t) xs ys (record {
+      degree = r.few_faulty;
+      bounded = record { lengths = r.lengths; most = r.most };
+      enough = omega (arith, r.enough);
+    }) (omega (arith, r.lengths, r.enough, sent-length p ys))
+    ∙ ap (λ b. decoded_if (lowest ((b, WrongTable) ∷ [])) (fit p t (length xs - t) xs ys)) (sym e)
 
-module _ (p : ℕ) (P : Prime p) (t : ℕ) (xs ys : List ℕ) (fitted : Fitted) (same : fitted ≡ repair_fit p t xs ys) where
-  pub column-by : (column : List ℕ) (r : List ℕ × ℕ) → sized t xs ys column ≡ Pass
-      → r ≡ column_by fitted.outcome fitted.coefficients column → r ≡ repairing p t xs ys column
-  column-by column r e h =
-      h
-      ∙ ap (λ w. column_by w.outcome w.coefficients column) same
-      ∙ column-decoded (lowest (points p xs)) (fit p t (length xs - t) xs ys) column
-      (λ f found. (fit-sound p P t (length xs - t) xs ys f found).poly.size ∙ sym (repairs-passed t xs ys column e).1)
-      ∙ repairing-sized p t xs ys column e
+-- What the code makes of lists of numbers of either width.
+module _ {X : Type 0} (value : X → ℕ) (p t : ℕ) (xs ys : List X) (room : ℕ) where
+  abbrev points_of : List ℕ
+  points_of = map value xs
 
-  pub column-narrow : p ≤ 65536 → All (λ c. c < 65536) fitted.coefficients
-  column-narrow h =
-      below-narrow p fitted.coefficients h
-      (subst (λ w. Residues p w.coefficients) (sym same) (fit-below p P (lowest (points p xs)) t (length xs - t) xs ys))
+  abbrev values_of : List ℕ
+  values_of = map value ys
+
+  -- The sizes are those of the lists as numbers.
+  module _ {a : Admission} (e : lowest (repair_sizes t (length xs) (length ys) room) ≡ a) where
+    as-numbers : lowest (repair_sizes t (length points_of) (length values_of) room) ≡ a
+    as-numbers = rw (length-map xs value, length-map ys value) e
+
+  pub fit-refused : {why : Refusal} → lowest (repair_sizes t (length xs) (length ys) room) ≡ Err why
+      → Err why ≡ repair_fit p t points_of values_of room
+  unfolding repair_fit
+  fit-refused e =
+      ap (λ a. decoded_if a (fit p t (length points_of - t) points_of values_of))
+      (sym (lowest-first (repair_sizes t (length points_of) (length values_of) room) (points p points_of) (as-numbers e)))
+
+  module _ (e : lowest (repair_sizes t (length xs) (length ys) room) ≡ Ok tt) where
+    pub fit-sizes : Repairs t points_of values_of
+    fit-sizes = (repairs-passed t points_of values_of room (as-numbers e)).0
+
+    pub fit-even : length ys ≡ length xs
+    fit-even = sym (length-map ys value) ∙ sym fit-sizes.lengths ∙ length-map xs value
+
+    pub fit-sized : points_fit p t points_of values_of ≡ repair_fit p t points_of values_of room
+    unfolding repair_fit
+    fit-sized =
+        ap (λ a. decoded_if a (fit p t (length points_of - t) points_of values_of))
+        (sym (lowest-then (repair_sizes t (length points_of) (length values_of) room) (points p points_of) (as-numbers e)))
+
+module _ (p : ℕ) (P : Prime p) (t : ℕ) (xs ys column : List ℕ) where
+  -- Where no test refuses there is room for the coefficients.
+  room-passed : lowest (repair_tests p t xs (length ys) (length column)) ≡ Ok tt → (length column ≡ suc t) × (t ≤ 3)
+  room-passed e =
+      let all = lowest-pass (repair_tests p t xs (length ys) (length column)) e in
+      (eqb-true (length column) (suc t) all.1.1.1.1.1.0, leb-true t 3 all.1.0)
+
+  pub column-repaired : column_by (repair_fit p t xs ys (length column)) column ≡ repairing p t xs ys column
+  unfolding repair_fit repairing
+  column-repaired =
+      column-decoded (lowest (repair_tests p t xs (length ys) (length column))) (fit p t (length xs - t) xs ys) column
+      (λ e f found. (fit-sound p P t (length xs - t) xs ys f found).poly.size ∙ sym (room-passed e).0)
+
+  pub column-below : (m : ℕ) → p ≤ m
+      → IfOk (repair_fit p t xs ys (length column)) (λ found. IfSome found (λ f. (length column ≤ 4) × All (λ c. c < m) f))
+  unfolding repair_fit
+  column-below m h =
+      let tests = lowest (repair_tests p t xs (length ys) (length column)) in
+      room-below m (length column) tests (fit p t (length xs - t) xs ys) (λ e. let r = room-passed e in omega arith)
+      (fit-below p m P h tests t (length xs - t) xs ys)
 
 -- ---- the numbers of a repair: 1 for t, 3 for the lists, 14 for the points
 -- The tests of the lists.
 abbrev lengths : Bool → Bool → Bool → Bool → List Test
 lengths a b c d = (a, WrongLength) ∷ (b, WrongLength) ∷ (c, WrongLength) ∷ (d, WrongLength) ∷ []
 
-lists-only : (a b c d : Bool) → (lowest (lengths a b c d) ≡ Pass) ⊎ (lowest (lengths a b c d) ≡ Fail WrongLength)
+lists-only : (a b c d : Bool) → (lowest (lengths a b c d) ≡ Ok tt) ⊎ (lowest (lengths a b c d) ≡ Err WrongLength)
 lists-only false b c d = inr refl
 lists-only true false c d = inr refl
 lists-only true true false d = inr refl
@@ -202,7 +243,7 @@ module _ (p t : ℕ) (xs ys column : List ℕ) where
       (true-or-false (leb 1 t))
 
   -- The first tests pass, or one of them says 3.
-  listed : 1 ≤ t → t ≤ 3 → (sized t xs ys column ≡ Pass) ⊎ (sized t xs ys column ≡ Fail WrongLength)
+  listed : 1 ≤ t → t ≤ 3 → (sized t xs ys (length column) ≡ Ok tt) ⊎ (sized t xs ys (length column) ≡ Err WrongLength)
   listed a b =
       ⊎_elim
       (λ e. inl (rw (le-leb 1 t a, le-leb t 3 b) e))
@@ -212,7 +253,7 @@ module _ (p t : ℕ) (xs ys column : List ℕ) where
   pub repair-3 : 1 ≤ t → t ≤ 3 → (Repairs t xs ys × (length column ≡ suc t) → ⊥) → repairing p t xs ys column ≡ (column, 3)
   repair-3 a b d =
       ⊎_elim
-      (λ e. absurd (d (repairs-passed t xs ys column e)))
+      (λ e. absurd (d (repairs-passed t xs ys (length column) e)))
       (λ e. sym (repairing-refused p t xs ys column {why = WrongLength} e))
       (listed a b)
 
@@ -221,6 +262,6 @@ module _ (p t : ℕ) (xs ys column : List ℕ) where
       ⊎_elim
       (λ e. absurd (d (table-facts p (length xs) xs e)))
       (λ (e : is_table p (length xs) xs ≡ false).
-      sym (repairing-sized p t xs ys column (repairs-tests t xs ys column r room))
+      sym (repairing-sized p t xs ys column (repairs-tests t xs ys (length column) r room))
       ∙ ap (λ b. repaired_if (lowest ((b, WrongTable) ∷ [])) column (fit p t (length xs - t) xs ys)) e)
       (true-or-false (is_table p (length xs) xs))

@@ -32,9 +32,7 @@ use Rattle.parties.specs.Parties.{sizes, is_party}
 use Rattle.parties.proofs.Parties.{sizes-facts, party-facts}
 use Rattle.tables.specs.Tables.{one_to, IsTable}
 use Rattle.tables.proofs.Tables.{table-points, one-to-table, one-to-point}
-use Rattle.dealer.specs.declared.Dealing.{Dealing}
-use Rattle.dealer.specs.declared.Dealing.TheVariants.{Written, Refused}
-use Rattle.dealer.specs.Desk.{deal, stretch, dealing_number, desk_with}
+use Rattle.dealer.specs.Desk.{deal, stretch, desk_with}
 use Rattle.dealer.proofs.Desk.{desk-stretch}
 use Rattle.answers.specs.Fits.{constant}
 use Rattle.answers.proofs.Tests.{number-not-0}
@@ -42,11 +40,13 @@ use Rattle.exports.specs.Exports.{dealing_at, dealing, repaired, repairing, open
 use Rattle.exports.specs.Pieces.{Repairs, Openings}
 use Rattle.exports.proofs.Answers.{repairing-by}
 use Rattle.exports.proofs.Opened.{opening-by}
+use Rattle.std.specs.Prelude.{Ok, Err}
+use Rattle.answers.specs.Refusals.{Admission, number_of}
 
 -- A dealing whose number is 0 is no refusal.
-no-refusal : (d : Dealing) → or_zero (dealing_number d) ≡ 0 → dealing_number d ≡ none
-no-refusal Written e = refl
-no-refusal (Refused why) e = absurd (number-not-0 why e)
+no-refusal : (d : Admission) → or_zero (number_of d) ≡ 0 → number_of d ≡ none
+no-refusal (Ok tt) e = refl
+no-refusal (Err why) e = absurd (number-not-0 why e)
 
 module _ (p : ℕ) (P : Prime p) (t : ℕ) (xs ys column : List ℕ) (r : Repairs t xs ys) (room : length column ≡ suc t)
     (table : IsTable p (length xs) xs) where

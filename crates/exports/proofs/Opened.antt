@@ -1,11 +1,13 @@
 -- What the C functions make of an opening is what its definition says, for any prime.
---   opened-by, opened-narrow      what is written by the parts of the fit's answer, and that it has 16 bits where the prime has
+--   opened-at, opened-below       what is written of what fits, and that it fits where residues do
+--   opening-refused, opening-admitted, opening-passed   by the tests: refused, or what fits, and what they ask for
 --   lengths-passed                what the tests of sizes and lengths ask for
---   with-passed, opening-with     with the table in an array: what its tests ask for, and what is opened
---   plain-passed, opening-plain   the same without a table, with 1 to 16 in the array
+--   tests-kept, tests-plain       the tests with the table in an array, and without one
+--   front-kept, front-sixteen     the table in front of the array
+--   asked-with, asked-plain       the tests of the lists that the code is lent; fits-lent: what fits them
 --   opening-by                    what is opened where all is right
 --   open-1, open-3, open-14       which number is given, and that the number lent is left alone
-use mathlib.Core.Path.{◌≡◌, refl, sym, ap, ap₂, subst, ◌∙◌}
+use mathlib.Core.Path.{◌≡◌, refl, sym, ap, ap₂, ◌∙◌}
 use mathlib.Core.Logic.{⊎_elim}
 use mathlib.Core.Bool.{true, false}
 use mathlib.Core.Option.{Option, none, some}
@@ -13,17 +15,13 @@ use mathlib.Core.List.{List, [], ◌∷◌, ◌++◌}
 use Prim.Native.Nat.{ℕ, ◌+◌, ◌*◌, ◌-◌, ◌≤◌, ◌<◌}
 use native.Mathlib.Omega.{arith}
 use borrow.Author.Tests.{eq-eqb, ne_eqb, eqb-true}
-use lib.Dec.{eqb}
-use lib.ListN.{length, take, get_or}
+use lib.Dec.{eqb, lit<}
+use lib.ListN.{length, take}
 use Rattle.lists.proofs.Cases.{true-or-false}
 use Rattle.lists.proofs.Padded.{get_or-zeros}
 use Rattle.field.specs.Arithmetic.{Prime}
-use Rattle.polynomial.specs.Polynomial.{Residues}
 use Rattle.answers.specs.declared.Refusal.TheVariants.{WrongTable}
-use Rattle.answers.specs.declared.Fitted.{Fitted}
-use Rattle.answers.specs.declared.Admission.{Admission}
-use Rattle.answers.specs.declared.Admission.TheVariants.{Pass, Fail}
-use Rattle.answers.specs.Refusals.{Test, lowest}
+use Rattle.answers.specs.Refusals.{Test, lowest, Admission}
 use Rattle.answers.proofs.Tests.{lowest-pass, lowest-first, passed-more}
 use Rattle.fit.specs.Admitted.{decoded_if}
 use Rattle.parties.specs.Parties.{sizes}
@@ -32,124 +30,141 @@ use Rattle.tables.specs.Tables.{one_to, IsTable, is_table, in_array}
 use Rattle.tables.proofs.Tables.{table-facts, table-true, length-one-to, one-to-table, sixteen-front, kept-front}
 use Rattle.fit.specs.Fit.{sent}
 use Rattle.fit.specs.Opening.{needed, opening_of}
-use Rattle.recovery.specs.Recovery.{published_tests, published_in}
-use Rattle.exports.specs.Exports.{opened, opened_if, opening_lengths, opening_at}
-use Rattle.exports.specs.Pieces.{opened_by, Openings}
+use Rattle.exports.specs.Exports.{opened, opened_if, opening_lengths, opening_tests, opening_at}
+use Rattle.exports.specs.Pieces.{opening_fit, opened_by, Openings}
 use Rattle.exports.proofs.Answers.{fit-below}
+use Rattle.std.specs.Prelude.{Ok, Err, IfOk, IfSome}
+use Rattle.std.proofs.Common.{map}
+use Rattle.std.proofs.lemmas.List.{length-map}
+use Rattle.answers.specs.Fits.{Fitted, decoded}
+use Rattle.recovery.specs.Recovery.{published_in}
+use Rattle.recovery.proofs.Fitting.{published-admitted}
+use Rattle.exports.proofs.Fronts.{front-list}
+use Rattle.answers.specs.declared.Refusal.{Refusal}
+use Rattle.lists.specs.All.{All}
+use Rattle.field.specs.declared.Width.{Width}
+use Rattle.field.specs.declared.Width.TheVariants.{Narrow, Wide}
+use Rattle.field.specs.Modulus.{prime_of}
 
 -- ---- what is written
-opened-decoded : (a : Admission) (o : Option (List ℕ)) (old : ℕ)
-    → opened_by (decoded_if a o).outcome (get_or (decoded_if a o).coefficients 0 0) old ≡ opened_if a old o
-opened-decoded (Fail why) o old = refl
-opened-decoded Pass none old = refl
-opened-decoded Pass (some f) old = ap (λ (v : ℕ). (v, 0)) (get_or-zeros f (4 - length f) 0)
+opened-decoded : (a : Admission) (o : Option (List ℕ)) (old : ℕ) → opened_by (decoded_if a o) old ≡ opened_if a old o
+opened-decoded (Err why) o old = refl
+opened-decoded (Ok u) none old = refl
+opened-decoded (Ok u) (some f) old = ap (λ (v : ℕ). (v, 0)) (get_or-zeros f (4 - length f) 0)
 
--- The first number of a list of residues, or 0.
-first_below : (p : ℕ) (xs : List ℕ) → 0 < p → Residues p xs → get_or xs 0 0 < p
-first_below p [] h r = h
-first_below p (x ∷ xs) h r = r.0
+module _ (p n t : ℕ) (T shares : List ℕ) where
+  pub opened-at : (old : ℕ) → opened_by (opening_fit p n t T shares) old ≡ opening_at p n t T shares old
+  unfolding opening_fit opening_at
+  opened-at old = opened-decoded (lowest (opening_tests p n t T (length shares))) (opening_of p t T shares) old
 
-module _ (p n t : ℕ) (T shares : List ℕ) (fitted : Fitted) (same : fitted ≡ published_in p n t T shares) where
-  pub opened-by : (old : ℕ) (a : Admission) (r : ℕ × ℕ) → Openings p n t T shares → a ≡ Pass
-      → r ≡ opened_by fitted.outcome (get_or fitted.coefficients 0 0) old → r ≡ opened_if a old (opening_of p t T shares)
-  unfolding published_in
-  opened-by old a r right e h =
-      h
-      ∙ ap (λ w. opened_by w.outcome (get_or w.coefficients 0 0) old) same
-      ∙ opened-decoded (lowest (published_tests n t (length shares))) (opening_of p t T shares) old
-      ∙ ap (λ b. opened_if b old (opening_of p t T shares)) (passed ∙ sym e)
-    where
-      passed : lowest (published_tests n t (length shares)) ≡ Pass
-      passed = rw (right.size, eq-eqb (length shares) n right.lengths)
+  -- It fits where residues do.
+  pub opened-below : (m : ℕ) → Prime p → p ≤ m → IfOk (opening_fit p n t T shares) (λ found. IfSome found (All (λ c. c < m)))
+  unfolding opening_fit
+  opened-below m P h =
+      fit-below p m P h (lowest (opening_tests p n t T (length shares))) t (needed t (2 * t + 1) (sent p shares)) T shares
 
-  -- With a prime of 16 bits it has 16 bits.
-  pub opened-narrow : Prime p → p ≤ 65536 → get_or fitted.coefficients 0 0 < 65536
-  unfolding published_in
-  opened-narrow P h =
-      let tests = lowest (published_tests n t (length shares)) in
-      let below = first_below p (decoded_if tests (opening_of p t T shares)).coefficients (omega (arith, P.two))
-      (fit-below p P tests t (needed t (2 * t + 1) (sent p shares)) T shares) in
-      subst (λ w. get_or w.coefficients 0 0 < 65536) (sym same) (omega (arith, below))
+  -- ---- refused, or what fits
+  pub opening-refused : {why : Refusal} → lowest (opening_tests p n t T (length shares)) ≡ Err why
+      → Err why ≡ opening_fit p n t T shares
+  unfolding opening_fit
+  opening-refused e = ap (λ a. decoded_if a (opening_of p t T shares)) (sym e)
 
--- ---- with the table in an array
+  pub opening-admitted : lowest (opening_tests p n t T (length shares)) ≡ Ok tt
+      → decoded (opening_of p t T shares) ≡ opening_fit p n t T shares
+  unfolding opening_fit
+  opening-admitted e = ap (λ a. decoded_if a (opening_of p t T shares)) (sym e)
+
+  pub opening-passed : lowest (opening_tests p n t T (length shares)) ≡ Ok tt → Openings p n t T shares
+  opening-passed e =
+      let all = lowest-pass (opening_tests p n t T (length shares)) e in
+      record { size = all.0; lengths = eqb-true (length shares) n all.1.0; table = table-facts p n T all.1.1.1.0 }
+
+-- ---- the tests that the code asks, with the table in an array
 -- The test behind the lengths, of the table.
 abbrev kept : ℕ → ℕ → List ℕ → List Test
 kept p n T = (is_table p n T, WrongTable) ∷ []
 
 -- The sizes and lengths, by themselves.
-pub lengths-passed : (n t m k : ℕ) → lowest (opening_lengths n t m k) ≡ Pass → (sizes n t ≡ true) × (m ≡ n) × (k ≡ n) × (n ≤ 16)
+pub lengths-passed : (n t m k : ℕ) → lowest (opening_lengths n t m k) ≡ Ok tt → (sizes n t ≡ true) × (m ≡ n) × (k ≡ n) × (n ≤ 16)
 lengths-passed n t m k e =
     let all = lowest-pass (opening_lengths n t m k) e in
     (all.0, eqb-true m n all.1.0, eqb-true k n all.1.1.0, (sizes-facts n t all.0).3)
 
-module _ (p n t : ℕ) (shares : List ℕ) where
-  pub with-passed : (T : List ℕ) (k : ℕ) → lowest (opening_lengths n t (length shares) k ++ kept p n T) ≡ Pass → Openings p n t T shares
-  with-passed T k e =
-      let all = lowest-pass (opening_lengths n t (length shares) k ++ kept p n T) e in
-      record { size = all.0; lengths = eqb-true (length shares) n all.1.0; table = table-facts p n T all.1.1.1.0 }
-
+module _ (p n t m : ℕ) where
   -- A table of another length is refused before it is looked at.
-  pub opening-with : (T A : List ℕ) (old : ℕ) (a : Admission) (r : ℕ × ℕ) → A ≡ in_array n T
-      → a ≡ lowest (opening_lengths n t (length shares) (length T) ++ kept p n (take n A))
-      → r ≡ opened_if a old (opening_of p t (take n A) shares) → r ≡ opening_at p n t T shares old
-  unfolding opening_at
-  opening-with T A old a r array e h =
-      h ∙ ap (λ b. opened_if b old (opening_of p t (take n A) shares)) e ∙ ap answer array ∙ go (lowest tests) refl
+  pub tests-kept : (T : List ℕ)
+      → lowest (opening_lengths n t m (length T) ++ kept p n (take n (in_array n T))) ≡ lowest (opening_tests p n t T m)
+  tests-kept T = go (lowest tests) refl
     where
       tests : List Test
-      tests = opening_lengths n t (length shares) (length T)
+      tests = opening_lengths n t m (length T)
 
-      -- What is answered with the array B.
-      answer : List ℕ → ℕ × ℕ
-      answer B = opened_if (lowest (tests ++ kept p n (take n B))) old (opening_of p t (take n B) shares)
+      go : (b : Admission) → lowest tests ≡ b → lowest (tests ++ kept p n (take n (in_array n T))) ≡ lowest (tests ++ kept p n T)
+      go (Ok u) e =
+          let l = lengths-passed n t m (length T) e in
+          ap (λ B. lowest (tests ++ kept p n B)) (kept-front n T l.3 l.2)
+      go (Err why) e = lowest-first tests (kept p n (take n (in_array n T))) e ∙ sym (lowest-first tests (kept p n T) e)
 
-      go : (b : Admission) → lowest tests ≡ b
-          → answer (in_array n T) ≡ opened_if (lowest (tests ++ kept p n T)) old (opening_of p t T shares)
-      go Pass e =
-          let l = lengths-passed n t (length shares) (length T) e in
-          ap (λ B. opened_if (lowest (tests ++ kept p n B)) old (opening_of p t B shares)) (kept-front n T l.3 l.2)
-      go (Fail why) e =
-          ap (λ b. opened_if b old (opening_of p t (take n (in_array n T)) shares)) (lowest-first tests (kept p n (take n (in_array n T))) e)
-          ∙ ap (λ b. opened_if b old (opening_of p t T shares)) (sym (lowest-first tests (kept p n T) e))
+  -- 1 to n is a table, and no test is needed.
+  pub tests-plain : 16 < p → lowest (opening_lengths n t m n) ≡ lowest (opening_tests p n t (one_to n) m)
+  tests-plain above =
+      go (lowest tests) refl
+      ∙ ap (λ k. lowest (opening_lengths n t m k ++ kept p n (one_to n))) (sym (length-one-to n))
+    where
+      tests : List Test
+      tests = opening_lengths n t m n
 
-  -- ---- without a table
-  module _ (above : 16 < p) where
-    pub plain-passed : (A : List ℕ) → A ≡ one_to 16 → lowest (opening_lengths n t (length shares) n) ≡ Pass
-        → Openings p n t (take n A) shares
-    plain-passed A array e =
-        let l = lengths-passed n t (length shares) n e in
-        record {
-          size = l.0;
-          lengths = l.1;
-          table = subst (IsTable p n) (sym (ap (take n) array ∙ sixteen-front n l.3)) (one-to-table p n (omega arith));
-        }
+      go : (b : Admission) → lowest tests ≡ b → lowest tests ≡ lowest (tests ++ kept p n (one_to n))
+      go (Ok u) e =
+          let few = (lengths-passed n t m n e).3 in
+          let table = table-true p n (one_to n) (one-to-table p n (omega arith)) in
+          passed-more tests (kept p n (one_to n)) (ap (λ b. lowest ((b, WrongTable) ∷ [])) table)
+      go (Err why) e = e ∙ sym (lowest-first tests (kept p n (one_to n)) e)
 
-    pub opening-plain : (A : List ℕ) (old : ℕ) (a : Admission) (r : ℕ × ℕ) → A ≡ one_to 16
-        → a ≡ lowest (opening_lengths n t (length shares) n)
-        → r ≡ opened_if a old (opening_of p t (take n A) shares) → r ≡ opening_at p n t (one_to n) shares old
-    unfolding opening_at
-    opening-plain A old a r array e h =
-        h
-        ∙ ap₂ (λ b B. opened_if b old (opening_of p t (take n B) shares)) e array
-        ∙ go (lowest (opening_lengths n t (length shares) n)) refl
-        ∙ ap (λ k. opened_if (lowest (opening_lengths n t (length shares) k ++ kept p n (one_to n))) old (opening_of p t (one_to n) shares))
-        (sym (length-one-to n))
-      where
-        tests : List Test
-        tests = opening_lengths n t (length shares) n
+-- ---- what the code makes of lists of numbers of either width
+above-sixteen : (w : Width) → 16 < prime_of w
+above-sixteen Narrow = lit< tt
+above-sixteen Wide = lit< tt
 
-        go : (b : Admission) → lowest tests ≡ b
-            → opened_if (lowest tests) old (opening_of p t (take n (one_to 16)) shares)
-            ≡ opened_if (lowest (tests ++ kept p n (one_to n))) old (opening_of p t (one_to n) shares)
-        go Pass e =
-            let few = (lengths-passed n t (length shares) n e).3 in
-            let table = table-true p n (one_to n) (one-to-table p n (omega arith)) in
-            ap₂ (λ b T. opened_if b old (opening_of p t T shares))
-            (passed-more tests (kept p n (one_to n)) (ap (λ b. lowest ((b, WrongTable) ∷ [])) table))
-            (sixteen-front n few)
-        go (Fail why) e =
-            ap (λ b. opened_if b old (opening_of p t (take n (one_to 16)) shares)) e
-            ∙ ap (λ b. opened_if b old (opening_of p t (one_to n) shares)) (sym (lowest-first tests (kept p n (one_to n)) e))
+-- The table in an array, and 1 to n in that of 1 to 16.
+module _ (p n t : ℕ) (T shares A : List ℕ) (right : Openings p n t T shares) where
+  pub front-kept : A ≡ in_array n T → take n A ≡ T
+  front-kept array = ap (take n) array ∙ kept-front n T (sizes-facts n t right.size).3 right.table.size
+
+  pub front-sixteen : A ≡ one_to 16 → take n A ≡ one_to n
+  front-sixteen array = ap (take n) array ∙ sixteen-front n (sizes-facts n t right.size).3
+
+module _ {X : Type 0} (value : X → ℕ) (w : Width) (n t : ℕ) (shares : List X) where
+  abbrev shares_of : List ℕ
+  shares_of = map value shares
+
+  module _ {a : Admission} where
+    -- The tests with a table that stands in an array.
+    pub asked-with : {v : Width} (T : List X) (A : List ℕ) → v ≡ w → A ≡ in_array n (map value T)
+        → a ≡ lowest (opening_lengths n t (length shares) (length T) ++ kept (prime_of v) n (take n A))
+        → lowest (opening_tests (prime_of w) n t (map value T) (length shares_of)) ≡ a
+    asked-with T A width array e =
+        sym (e
+        ∙ ap₂ (λ v B. lowest (opening_lengths n t (length shares) (length T) ++ kept (prime_of v) n (take n B))) width array
+        ∙ ap₂ (λ m k. lowest (opening_lengths n t m k ++ kept (prime_of w) n (take n (in_array n (map value T)))))
+        (sym (length-map shares value)) (sym (length-map T value))
+        ∙ tests-kept (prime_of w) n t (length shares_of) (map value T))
+
+    -- And those without one.
+    pub asked-plain : a ≡ lowest (opening_lengths n t (length shares) n)
+        → lowest (opening_tests (prime_of w) n t (one_to n) (length shares_of)) ≡ a
+    asked-plain e =
+        sym (e ∙ ap (λ m. lowest (opening_lengths n t m n)) (sym (length-map shares value))
+        ∙ tests-plain (prime_of w) n t (length shares_of) (above-sixteen w))
+
+  -- What fits them, lent in front of an array.
+  pub fits-lent : {v : Width} {r : Fitted} (T part rest : List ℕ) → v ≡ w → Openings (prime_of w) n t T shares_of → part ≡ shares_of
+      → r ≡ published_in (prime_of v) n t T (take n (part ++ rest)) → r ≡ decoded (opening_of (prime_of w) t T shares_of)
+  fits-lent T part rest width right e h =
+      h
+      ∙ ap₂ (λ v xs. published_in (prime_of v) n t T xs) width
+      (front-list value shares part rest n (sym (length-map shares value) ∙ right.lengths) e)
+      ∙ published-admitted (prime_of w) n t T shares_of right.size right.lengths
 
 -- ---- where all is right, and the numbers: 1 for the sizes, 3 for the shares and for the table's length, 14 for its entries
 module _ (p n t : ℕ) (T shares : List ℕ) (old : ℕ) where

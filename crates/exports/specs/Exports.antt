@@ -11,20 +11,19 @@ use Rattle.std.proofs.Math.Option.{Option, none, some}
 use Rattle.std.specs.Prelude.{List, [], ◌∷◌, ◌++◌, ℕ, suc, ◌+◌, ◌*◌, ◌-◌, leb, eqb, length}
 use Rattle.lists.specs.Options.{or_zero}
 use Rattle.answers.specs.declared.Refusal.TheVariants.{WrongSize, WrongLength, NoColumn, NoOpening, WrongTable}
-use Rattle.answers.specs.declared.Admission.{Admission}
-use Rattle.answers.specs.declared.Admission.TheVariants.{Pass, Fail}
-use Rattle.answers.specs.Refusals.{Test, refusal_number, lowest}
+use Rattle.answers.specs.Refusals.{Test, refusal_number, lowest, Admission, number_of}
 use Rattle.answers.specs.Fits.{constant}
 use Rattle.fit.specs.Fit.{fit}
 use Rattle.tables.specs.Tables.{one_to, is_table}
 use Rattle.fit.specs.Opening.{opening_of}
 use Rattle.recovery.specs.Recovery.{published_tests}
-use Rattle.dealer.specs.Desk.{dealing_number, desk_with}
+use Rattle.dealer.specs.Desk.{desk_with}
 use Rattle.transcript.specs.Transcript.{rendering, bytes_written}
+use Rattle.std.specs.Prelude.{Ok, Err}
 
 -- The desk's list, and its answer as a number.
 unfoldable pub dealing_at : ℕ → ℕ → ℕ → List ℕ → List ℕ → List ℕ → List ℕ × ℕ
-dealing_at p n t T F out = let d = desk_with p n t T F out in (d.0, or_zero (dealing_number d.1))
+dealing_at p n t T F out = let d = desk_with p n t T F out in (d.0, or_zero (number_of d.1))
 
 -- Without a table.
 abbrev pub dealing : ℕ → ℕ → ℕ → List ℕ → List ℕ → List ℕ × ℕ
@@ -52,8 +51,8 @@ repaired old (some f) = (f, 0)
 
 -- The same, unless the call is refused.
 abbrev pub repaired_if : Admission → List ℕ → Option (List ℕ) → List ℕ × ℕ
-repaired_if Pass old o = repaired old o
-repaired_if (Fail why) old o = (old, refusal_number why)
+repaired_if (Ok tt) old o = repaired old o
+repaired_if (Err why) old o = (old, refusal_number why)
 
 -- At most t of the points differ from the column.
 unfoldable pub repairing : ℕ → ℕ → List ℕ → List ℕ → List ℕ → List ℕ × ℕ
@@ -67,8 +66,8 @@ opened old (some f) = (constant f, 0)
 
 -- The same, unless the call is refused.
 abbrev pub opened_if : Admission → ℕ → Option (List ℕ) → ℕ × ℕ
-opened_if Pass old o = opened old o
-opened_if (Fail why) old o = (old, refusal_number why)
+opened_if (Ok tt) old o = opened old o
+opened_if (Err why) old o = (old, refusal_number why)
 
 -- 1 for the sizes, 3 for the number of shares and of points.
 abbrev pub opening_lengths : ℕ → ℕ → ℕ → ℕ → List Test

@@ -1,5 +1,5 @@
 // Repairing a column: what it is refused for, what fits, and the coefficients written.
-ghost use Rattle.std.specs.Prelude.{◌≡◌, [], ◌∷◌, ◌-◌, ◌≤◌, ◌<◌, length, take};
+ghost use Rattle.std.specs.Prelude.{◌≡◌, map, [], ◌∷◌, ◌-◌, ◌≤◌, ◌<◌, length, IfOk, IfSome};
 ghost use Rattle.lists.specs.All.{All};
 ghost use Rattle.field.specs.Modulus.{prime_of};
 ghost use Rattle.answers.specs.declared.Refusal.TheVariants.{WrongTable};
@@ -7,76 +7,70 @@ ghost use Rattle.answers.specs.Refusals.{lowest};
 ghost use Rattle.fit.specs.Fit.{fit};
 ghost use Rattle.fit.specs.Admitted.{decoded_if};
 ghost use Rattle.tables.specs.Tables.{is_table};
-ghost use Rattle.exports.specs.Exports.{repair_sizes};
-ghost use Rattle.exports.specs.Pieces.{column_by, Repairs};
+ghost use Rattle.exports.specs.Exports.{repair_sizes, repairing};
+ghost use Rattle.exports.specs.Pieces.{repair_fit, column_by, Repairs};
 
-use answers::{Admission, Decoding, Fitted, Refusal, also, refusal_number};
+use answers::{Fitted, Refusal, refuse_unless};
+use arrays::Number;
 use field::Width;
 
 // What a repair is refused for, with so many points and values and so much room for coefficients.
-pub(crate) fn repair_sizes(t: u8, points: usize, values: usize, room: usize) -> Admission
+fn repair_sizes(t: u8, points: usize, values: usize, room: usize) -> Result<(), Refusal>
     ensures { result ≡ lowest (repair_sizes t points values room) }
 {
     let degree = t as usize;
-    let some = also(Admission::Pass, 1 <= t, Refusal::WrongSize);
-    let size = also(some, t <= 3, Refusal::WrongSize);
-    let even = also(size, points == values, Refusal::WrongLength);
-    let enough = also(even, 3 * degree + 1 <= points, Refusal::WrongLength);
-    let few = also(enough, points <= 16, Refusal::WrongLength);
-    also(few, room == degree + 1, Refusal::WrongLength)
+    refuse_unless(1 <= t, Refusal::WrongSize)?;
+    refuse_unless(t <= 3, Refusal::WrongSize)?;
+    refuse_unless(points == values, Refusal::WrongLength)?;
+    refuse_unless(3 * degree + 1 <= points, Refusal::WrongLength)?;
+    refuse_unless(points <= 16, Refusal::WrongLength)?;
+    refuse_unless(room == degree + 1, Refusal::WrongLength)
 }
 
 // The repair where the sizes are right: refused for its points, which are entries of a table, or else what fits.
-pub(crate) fn repaired(w: Width, t: u8, xs: &[u32], ys: &[u32]) -> Fitted
+fn repaired(w: Width, t: u8, xs: &[u32], ys: &[u32]) -> Fitted
     requires { Repairs t xs.now ys.now }
     ensures { result ≡ decoded_if (lowest ((is_table (prime_of w) (length xs.now) xs.now, WrongTable) ∷ []))
         (fit (prime_of w) t (length xs.now - t) xs.now ys.now) }
 {
-    if !tables::is_table(w, xs.len() as u8, xs) {
-        return answers::refused_fit(Refusal::WrongTable);
-    }
+    refuse_unless(tables::is_table(w, xs.len() as u8, xs), Refusal::WrongTable)?;
     let degree = t as usize;
     fit::fit(w, degree, xs.len() - degree, xs, ys)
 }
 
-// Writes the front of the list over the whole of the lent one.
-fn put_front(list: [u32; 4], out: &mut [u32])
-    requires { length out.old ≤ 4 }
-    ensures { out.new ≡ take (length out.old) list }
+// What a repair of numbers of either width fits, with room for so many coefficients: refused, or a column.
+fn column_fitted<N: Number>(t: u8, xs: &[N], ys: &[N], room: usize) -> Fitted
+    ensures { result ≡ repair_fit (prime_of N.WIDTH) t (map N.value xs.now) (map N.value ys.now) room }
 {
-    let mut k = 0;
-    while k < out.len() {
-        out[k] = list[k];
-        k += 1;
-    }
+    repair_sizes(t, xs.len(), ys.len(), room)?;
+    let w = N::WIDTH;
+    let count = xs.len();
+    let mut points = [0u32; 16];
+    let mut values = [0u32; 16];
+    arrays::widened(xs, &mut points[..count]);
+    arrays::widened(ys, &mut values[..count]);
+    repaired(w, t, &points[..count], &values[..count])
 }
 
 // Writes the coefficients where they are found.
-pub(crate) fn put_wide_column(outcome: Decoding, list: [u32; 4], out: &mut [u32]) -> u8
-    requires { length out.old ≤ 4 }
-    ensures { (out.new, result) ≡ column_by outcome list out.old }
+fn put_column<N: Number>(fitted: Fitted, column: &mut [N]) -> u8
+    requires { IfOk fitted (λ found. IfSome found (λ f. (length column.old ≤ 4) × All (λ c. c < N.limit) f)) }
+    ensures { (map N.value column.new, result) ≡ column_by fitted (map N.value column.old) }
 {
-    match outcome {
-        Decoding::Found => {
-            put_front(list, out);
+    match fitted {
+        Ok(Some(f)) => {
+            arrays::narrowed(&f[..column.len()], column);
             0
         }
-        Decoding::Nothing => refusal_number(Refusal::NoColumn),
-        Decoding::Refused(why) => refusal_number(why),
+        Ok(None) => u8::from(Refusal::NoColumn),
+        Err(why) => u8::from(why),
     }
 }
 
-// The same in numbers of 16 bits.
-pub(crate) fn put_column(outcome: Decoding, list: [u32; 4], out: &mut [u16]) -> u8
-    requires { (length out.old ≤ 4) × All (λ c. c < 65536) list }
-    ensures { (out.new, result) ≡ column_by outcome list out.old }
+// Repairs a column of numbers of either width.
+pub(crate) fn repair<N: Number>(t: u8, xs: &[N], ys: &[N], column: &mut [N]) -> u8
+    ensures { (map N.value column.new, result)
+        ≡ repairing (prime_of N.WIDTH) t (map N.value xs.now) (map N.value ys.now) (map N.value column.old) }
 {
-    match outcome {
-        Decoding::Found => {
-            arrays::narrowed(&list[..out.len()], out);
-            0
-        }
-        Decoding::Nothing => refusal_number(Refusal::NoColumn),
-        Decoding::Refused(why) => refusal_number(why),
-    }
+    put_column(column_fitted(t, xs, ys, column.len()), column)
 }

@@ -4,53 +4,37 @@
 #![tactic(auto)]
 
 mod columns;
-mod locating;
 mod openings;
 
 ghost use Rattle.std.specs.Prelude.{◌≡◌};
-ghost use Rattle.lists.specs.Options.{or_zero};
 ghost use Rattle.field.specs.Modulus.{modulus, wide_modulus};
-ghost use Rattle.dealer.specs.Desk.{dealing_number};
 ghost use Rattle.happy.specs.Happy.{happy_set};
 ghost use Rattle.exports.specs.Exports.{dealing_at, dealing, repairing, opening_at, opening, rendered};
 
-use answers::{Admission, refusal_number};
-use columns::{put_column, put_wide_column, repair_sizes, repaired};
-use dealer::Dealing;
-use field::Width;
-use locating::{located_by, located_wide_by};
-use openings::{open_admission, open_lengths, opened_by, opened_wide_by};
-
-// The protocol's number of the desk's answer, 0 where the deals are written.
-fn dealing_number(answer: Dealing) -> u8
-    ensures { result ≡ or_zero (dealing_number answer) }
-{
-    match answer {
-        Dealing::Written => 0,
-        Dealing::Refused(why) => refusal_number(why),
-    }
-}
+use answers::answer_number;
+use openings::{BY_LOCATOR, BY_TRIAL};
 
 // Deals F, whose coefficients stand in `f`, to n lamps.
 #[unsafe(no_mangle)]
+#[tactic(auto, unfolding(crate::specs::Exports::dealing_at))]
 pub extern "C" fn doumbaht_deal(n: u8, t: u8, f: &[u16], deals: &mut [u16]) -> u8
     ensures { (deals.new, result) ≡ dealing modulus n t f.now deals.old }
 {
-    let answer = dealer::deal(n, t, f, deals);
-    dealing_number(answer)
+    answer_number(dealer::deal(n, t, f, deals))
 }
 
 // The same with numbers of 32 bits.
 #[unsafe(no_mangle)]
+#[tactic(auto, unfolding(crate::specs::Exports::dealing_at))]
 pub extern "C" fn doumbaht_deal_wide(n: u8, t: u8, f: &[u32], deals: &mut [u32]) -> u8
     ensures { (deals.new, result) ≡ dealing wide_modulus n t f.now deals.old }
 {
-    let answer = dealer::deal_wide(n, t, f, deals);
-    dealing_number(answer)
+    answer_number(dealer::deal_wide(n, t, f, deals))
 }
 
 // The same with the lamps' points in a table.
 #[unsafe(no_mangle)]
+#[tactic(auto, unfolding(crate::specs::Exports::dealing_at))]
 pub extern "C" fn doumbaht_deal_with(
     n: u8,
     t: u8,
@@ -60,12 +44,12 @@ pub extern "C" fn doumbaht_deal_with(
 ) -> u8
     ensures { (deals.new, result) ≡ dealing_at modulus n t table.now f.now deals.old }
 {
-    let answer = dealer::deal_with(n, t, table, f, deals);
-    dealing_number(answer)
+    answer_number(dealer::deal_with(n, t, table, f, deals))
 }
 
 // The same with numbers of 32 bits.
 #[unsafe(no_mangle)]
+#[tactic(auto, unfolding(crate::specs::Exports::dealing_at))]
 pub extern "C" fn doumbaht_deal_wide_with(
     n: u8,
     t: u8,
@@ -75,8 +59,7 @@ pub extern "C" fn doumbaht_deal_wide_with(
 ) -> u8
     ensures { (deals.new, result) ≡ dealing_at wide_modulus n t table.now f.now deals.old }
 {
-    let answer = dealer::deal_wide_with(n, t, table, f, deals);
-    dealing_number(answer)
+    answer_number(dealer::deal_wide_with(n, t, table, f, deals))
 }
 
 // The happy set by the reports.
@@ -92,21 +75,7 @@ pub extern "C" fn doumbaht_happy_set(reports: &[u16]) -> u16
 pub extern "C" fn doumbaht_repair(t: u8, xs: &[u16], ys: &[u16], column: &mut [u16]) -> u8
     ensures { (column.new, result) ≡ repairing modulus t xs.now ys.now column.old }
 {
-    let sized = repair_sizes(t, xs.len(), ys.len(), column.len());
-    match sized {
-        Admission::Fail(why) => refusal_number(why),
-        Admission::Pass => {
-            let count = xs.len();
-            let mut points = [0u32; 16];
-            let mut values = [0u32; 16];
-            arrays::widened(xs, &mut points[..count]);
-            arrays::widened(ys, &mut values[..count]);
-            let fitted = repaired(Width::Narrow, t, &points[..count], &values[..count]);
-            let outcome = fitted.outcome;
-            let coefficients = fitted.coefficients;
-            put_column(outcome, coefficients, column)
-        }
-    }
+    columns::repair(t, xs, ys, column)
 }
 
 // The same with numbers of 32 bits.
@@ -114,16 +83,7 @@ pub extern "C" fn doumbaht_repair(t: u8, xs: &[u16], ys: &[u16], column: &mut [u
 pub extern "C" fn doumbaht_repair_wide(t: u8, xs: &[u32], ys: &[u32], column: &mut [u32]) -> u8
     ensures { (column.new, result) ≡ repairing wide_modulus t xs.now ys.now column.old }
 {
-    let sized = repair_sizes(t, xs.len(), ys.len(), column.len());
-    match sized {
-        Admission::Fail(why) => refusal_number(why),
-        Admission::Pass => {
-            let fitted = repaired(Width::Wide, t, xs, ys);
-            let outcome = fitted.outcome;
-            let coefficients = fitted.coefficients;
-            put_wide_column(outcome, coefficients, column)
-        }
-    }
+    columns::repair(t, xs, ys, column)
 }
 
 // Opens the published shares of n lamps, by themselves, with the lamps' points in a table.
@@ -137,9 +97,7 @@ pub extern "C" fn doumbaht_open_with(
 ) -> u8
     ensures { (opened.new, result) ≡ opening_at modulus n t table.now shares.now opened.old }
 {
-    let points = tables::in_array(n, table);
-    let admitted = open_admission(Width::Narrow, n, t, points, shares.len(), table.len());
-    opened_by(admitted, n, t, points, shares, opened)
+    openings::open_with::<BY_TRIAL, u16>(n, t, table, shares, opened)
 }
 
 // The same at the points 1 to n.
@@ -147,8 +105,7 @@ pub extern "C" fn doumbaht_open_with(
 pub extern "C" fn doumbaht_open(n: u8, t: u8, shares: &[u16], opened: &mut u16) -> u8
     ensures { (opened.new, result) ≡ opening modulus n t shares.now opened.old }
 {
-    let admitted = open_lengths(n, t, shares.len(), n as usize);
-    opened_by(admitted, n, t, tables::sixteen(), shares, opened)
+    openings::open::<BY_TRIAL, u16>(n, t, shares, opened)
 }
 
 // With a table, of numbers of 32 bits.
@@ -163,9 +120,7 @@ pub extern "C" fn doumbaht_open_wide_with(
     ensures { (opened.new, result)
         ≡ opening_at wide_modulus n t table.now shares.now opened.old }
 {
-    let points = tables::in_array_wide(n, table);
-    let admitted = open_admission(Width::Wide, n, t, points, shares.len(), table.len());
-    opened_wide_by(admitted, n, t, points, shares, opened)
+    openings::open_with::<BY_TRIAL, u32>(n, t, table, shares, opened)
 }
 
 // The same at the points 1 to n.
@@ -173,8 +128,7 @@ pub extern "C" fn doumbaht_open_wide_with(
 pub extern "C" fn doumbaht_open_wide(n: u8, t: u8, shares: &[u32], opened: &mut u32) -> u8
     ensures { (opened.new, result) ≡ opening wide_modulus n t shares.now opened.old }
 {
-    let admitted = open_lengths(n, t, shares.len(), n as usize);
-    opened_wide_by(admitted, n, t, tables::sixteen(), shares, opened)
+    openings::open::<BY_TRIAL, u32>(n, t, shares, opened)
 }
 
 // The same four by an error locator, which answers the same for every list. With a table.
@@ -188,9 +142,7 @@ pub extern "C" fn doumbaht_open_by_locator_with(
 ) -> u8
     ensures { (opened.new, result) ≡ opening_at modulus n t table.now shares.now opened.old }
 {
-    let points = tables::in_array(n, table);
-    let admitted = open_admission(Width::Narrow, n, t, points, shares.len(), table.len());
-    located_by(admitted, n, t, points, shares, opened)
+    openings::open_with::<BY_LOCATOR, u16>(n, t, table, shares, opened)
 }
 
 // The same at the points 1 to n.
@@ -198,8 +150,7 @@ pub extern "C" fn doumbaht_open_by_locator_with(
 pub extern "C" fn doumbaht_open_by_locator(n: u8, t: u8, shares: &[u16], opened: &mut u16) -> u8
     ensures { (opened.new, result) ≡ opening modulus n t shares.now opened.old }
 {
-    let admitted = open_lengths(n, t, shares.len(), n as usize);
-    located_by(admitted, n, t, tables::sixteen(), shares, opened)
+    openings::open::<BY_LOCATOR, u16>(n, t, shares, opened)
 }
 
 // With a table, of numbers of 32 bits.
@@ -214,9 +165,7 @@ pub extern "C" fn doumbaht_open_by_locator_wide_with(
     ensures { (opened.new, result)
         ≡ opening_at wide_modulus n t table.now shares.now opened.old }
 {
-    let points = tables::in_array_wide(n, table);
-    let admitted = open_admission(Width::Wide, n, t, points, shares.len(), table.len());
-    located_wide_by(admitted, n, t, points, shares, opened)
+    openings::open_with::<BY_LOCATOR, u32>(n, t, table, shares, opened)
 }
 
 // The same at the points 1 to n.
@@ -229,16 +178,15 @@ pub extern "C" fn doumbaht_open_by_locator_wide(
 ) -> u8
     ensures { (opened.new, result) ≡ opening wide_modulus n t shares.now opened.old }
 {
-    let admitted = open_lengths(n, t, shares.len(), n as usize);
-    located_wide_by(admitted, n, t, tables::sixteen(), shares, opened)
+    openings::open::<BY_LOCATOR, u32>(n, t, shares, opened)
 }
 
 // Writes the text of a record over the front of the lent buffer, and answers its length. No text is empty: 0 says that the
 // buffer is too short.
 #[unsafe(no_mangle)]
+#[tactic(auto, unfolding(crate::specs::Exports::rendered))]
 pub extern "C" fn doumbaht_text(bytes: &[u8], out: &mut [u8]) -> usize
     ensures { (out.new, result) ≡ rendered bytes.now out.old }
 {
-    let answer = transcript::render(bytes, out);
-    transcript::bytes_written(answer)
+    transcript::bytes_written(transcript::render(bytes, out))
 }

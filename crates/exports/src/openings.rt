@@ -1,124 +1,118 @@
-// Opening published shares: what it is refused for, what fits, and the constant written.
-ghost use Rattle.std.specs.Prelude.{◌≡◌, [], ◌∷◌, ◌++◌, ◌<◌, take};
-ghost use Rattle.field.specs.Modulus.{modulus, wide_modulus, prime_of};
-ghost use Rattle.answers.specs.declared.Admission.TheVariants.{Pass};
+// Opening published shares: what it is refused for, what fits, by trial or by an error locator, and the constant written.
+ghost use Rattle.std.specs.Prelude.{◌≡◌, map, [], ◌∷◌, ◌++◌, ◌<◌, take, IfOk, IfSome};
+ghost use Rattle.lists.specs.All.{All};
+ghost use Rattle.field.specs.Modulus.{prime_of};
 ghost use Rattle.answers.specs.declared.Refusal.TheVariants.{WrongTable};
 ghost use Rattle.answers.specs.Refusals.{lowest};
-ghost use Rattle.tables.specs.Tables.{is_table};
+ghost use Rattle.answers.specs.Fits.{decoded};
+ghost use Rattle.tables.specs.Tables.{one_to, is_table};
 ghost use Rattle.fit.specs.Opening.{opening_of};
-ghost use Rattle.exports.specs.Exports.{opening_lengths, opened_if};
-ghost use Rattle.exports.specs.Pieces.{opened_by, Openings};
+ghost use Rattle.exports.specs.Exports.{opening_lengths, opening_at, opening};
+ghost use Rattle.exports.specs.Pieces.{opening_fit, opened_by, Openings};
 
-use answers::{Admission, Decoding, Refusal, also, refusal_number};
+use answers::{Fitted, Refusal, refuse_unless};
+use arrays::Number;
 use field::Width;
 
+// How an opening is found, which each function here is told by its parameter: with a value in its place both decoders stood in one
+// function, which took 2 ns of 22 more.
+pub(crate) const BY_TRIAL: bool = false;
+
+pub(crate) const BY_LOCATOR: bool = true;
+
 // What an opening is refused for, with so many shares and, in a table, so many points.
-pub(crate) fn open_lengths(n: u8, t: u8, shares: usize, points: usize) -> Admission
+fn open_lengths(n: u8, t: u8, shares: usize, points: usize) -> Result<(), Refusal>
     ensures { result ≡ lowest (opening_lengths n t shares points) }
 {
-    let size = also(Admission::Pass, parties::sizes(n, t), Refusal::WrongSize);
-    let lent = also(size, shares == n as usize, Refusal::WrongLength);
-    also(lent, points == n as usize, Refusal::WrongLength)
+    refuse_unless(parties::sizes(n, t), Refusal::WrongSize)?;
+    refuse_unless(shares == n as usize, Refusal::WrongLength)?;
+    refuse_unless(points == n as usize, Refusal::WrongLength)
 }
 
 // The same with a table, the first n numbers of the array, which is looked at behind these.
-pub(crate) fn open_admission(
+fn open_admission(
     w: Width,
     n: u8,
     t: u8,
     table: [u32; 16],
     shares: usize,
     points: usize,
-) -> Admission
+) -> Result<(), Refusal>
     ensures { result ≡ lowest (opening_lengths n t shares points ++ (is_table (prime_of w) n (take n table), WrongTable) ∷ []) }
 {
-    let sized = open_lengths(n, t, shares, points);
-    match sized {
-        Admission::Fail(why) => Admission::Fail(why),
-        Admission::Pass => also(
-            Admission::Pass,
-            tables::is_table(w, n, &table[..n as usize]),
-            Refusal::WrongTable,
-        ),
+    open_lengths(n, t, shares, points)?;
+    refuse_unless(
+        tables::is_table(w, n, &table[..n as usize]),
+        Refusal::WrongTable,
+    )
+}
+
+// What fits admitted shares, by themselves, at the first n points of the array.
+fn fitted<const LOCATED: bool, N: Number>(n: u8, t: u8, table: [u32; 16], shares: &[N]) -> Fitted
+    requires { Openings (prime_of N.WIDTH) n t (take n table) (map N.value shares.now) }
+    ensures { result ≡ decoded (opening_of (prime_of N.WIDTH) t (take n table) (map N.value shares.now)) }
+{
+    let w = N::WIDTH;
+    let count = n as usize;
+    let mut list = [0u32; 16];
+    arrays::widened(shares, &mut list[..count]);
+    if LOCATED {
+        recovery::located(w, n, t, table, &list[..count])
+    } else {
+        recovery::published(w, n, t, table, &list[..count])
     }
+}
+
+// Refused, or what fits the shares with the parties' points in a table.
+fn fitted_with<const LOCATED: bool, N: Number>(n: u8, t: u8, table: &[N], shares: &[N]) -> Fitted
+    ensures { result ≡ opening_fit (prime_of N.WIDTH) n t (map N.value table.now) (map N.value shares.now) }
+{
+    let points = tables::in_array(n, table);
+    open_admission(N::WIDTH, n, t, points, shares.len(), table.len())?;
+    fitted::<LOCATED, N>(n, t, points, shares)
+}
+
+// The same at the points 1 to n.
+fn fitted_plain<const LOCATED: bool, N: Number>(n: u8, t: u8, shares: &[N]) -> Fitted
+    ensures { result ≡ opening_fit (prime_of N.WIDTH) n t (one_to n) (map N.value shares.now) }
+{
+    open_lengths(n, t, shares.len(), n as usize)?;
+    fitted::<LOCATED, N>(n, t, tables::sixteen(), shares)
 }
 
 // Writes the constant where it is found.
-pub(crate) fn put_wide_opened(outcome: Decoding, constant: u32, opened: &mut u32) -> u8
-    ensures { (opened.new, result) ≡ opened_by outcome constant opened.old }
+fn put_opened<N: Number>(fitted: Fitted, opened: &mut N) -> u8
+    requires { IfOk fitted (λ found. IfSome found (All (λ c. c < N.limit))) }
+    ensures { (N.value opened.new, result) ≡ opened_by fitted (N.value opened.old) }
 {
-    match outcome {
-        Decoding::Found => {
-            *opened = constant;
+    match fitted {
+        Ok(Some(f)) => {
+            *opened = N::narrow(f[0]);
             0
         }
-        Decoding::Nothing => refusal_number(Refusal::NoOpening),
-        Decoding::Refused(why) => refusal_number(why),
+        Ok(None) => u8::from(Refusal::NoOpening),
+        Err(why) => u8::from(why),
     }
 }
 
-// The same as a number of 16 bits.
-pub(crate) fn put_opened(outcome: Decoding, constant: u32, opened: &mut u16) -> u8
-    requires { constant < 65536 }
-    ensures { (opened.new, result) ≡ opened_by outcome constant opened.old }
-{
-    match outcome {
-        Decoding::Found => {
-            *opened = arrays::narrow(constant);
-            0
-        }
-        Decoding::Nothing => refusal_number(Refusal::NoOpening),
-        Decoding::Refused(why) => refusal_number(why),
-    }
-}
-
-// The opening by what is found of its arguments: refused, or what fits the shares by themselves.
-pub(crate) fn opened_by(
-    admitted: Admission,
+// Opens the shares with the parties' points in a table.
+pub(crate) fn open_with<const LOCATED: bool, N: Number>(
     n: u8,
     t: u8,
-    table: [u32; 16],
-    shares: &[u16],
-    opened: &mut u16,
+    table: &[N],
+    shares: &[N],
+    opened: &mut N,
 ) -> u8
-    requires { admitted ≡ Pass → Openings modulus n t (take n table) shares.now }
-    ensures { (opened.new, result) ≡ opened_if admitted opened.old
-        (opening_of modulus t (take n table) shares.now) }
+    ensures { (N.value opened.new, result)
+        ≡ opening_at (prime_of N.WIDTH) n t (map N.value table.now) (map N.value shares.now) (N.value opened.old) }
 {
-    match admitted {
-        Admission::Fail(why) => refusal_number(why),
-        Admission::Pass => {
-            let count = n as usize;
-            let mut list = [0u32; 16];
-            arrays::widened(shares, &mut list[..count]);
-            let fitted = recovery::published(Width::Narrow, n, t, table, &list[..count]);
-            let outcome = fitted.outcome;
-            let coefficients = fitted.coefficients;
-            put_opened(outcome, coefficients[0], opened)
-        }
-    }
+    put_opened(fitted_with::<LOCATED, N>(n, t, table, shares), opened)
 }
 
-// The same of numbers of 32 bits.
-pub(crate) fn opened_wide_by(
-    admitted: Admission,
-    n: u8,
-    t: u8,
-    table: [u32; 16],
-    shares: &[u32],
-    opened: &mut u32,
-) -> u8
-    requires { admitted ≡ Pass → Openings wide_modulus n t (take n table) shares.now }
-    ensures { (opened.new, result) ≡ opened_if admitted opened.old
-        (opening_of wide_modulus t (take n table) shares.now) }
+// The same at the points 1 to n.
+pub(crate) fn open<const LOCATED: bool, N: Number>(n: u8, t: u8, shares: &[N], opened: &mut N) -> u8
+    ensures { (N.value opened.new, result)
+        ≡ opening (prime_of N.WIDTH) n t (map N.value shares.now) (N.value opened.old) }
 {
-    match admitted {
-        Admission::Fail(why) => refusal_number(why),
-        Admission::Pass => {
-            let fitted = recovery::published(Width::Wide, n, t, table, shares);
-            let outcome = fitted.outcome;
-            let coefficients = fitted.coefficients;
-            put_wide_opened(outcome, coefficients[0], opened)
-        }
-    }
+    put_opened(fitted_plain::<LOCATED, N>(n, t, shares), opened)
 }

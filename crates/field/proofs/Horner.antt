@@ -1,14 +1,16 @@
 -- Horner's rule without a reduction on the way.
 --   cubic-by   the sum for four coefficients has the residue of a cubic's value, also where another number of the same residue stands for
 --              what is found so far
---   next_le    how large a step's number gets
---   product-fits, step_fits, both-fits   of numbers of 31 bits a product, a step and the sum of two products fit 64
+--   narrow-fits   of numbers of 16 bits the sum fits 64
 use mathlib.Core.Path.{◌≡◌, refl, sym, ap, ◌∙◌}
-use Prim.Native.Nat.{ℕ, ◌+◌, ◌*◌, ◌%◌, ◌≤◌}
+use Prim.Native.Nat.{ℕ, ◌+◌, ◌*◌, ◌%◌, ◌≤◌, ◌<◌}
 use native.Mathlib.Nat.{mul-le-mul}
 use native.Mathlib.Omega.{arith}
-use mir.Syntax.{w64}
-use mir.Val.{Fits}
+use mathlib.Core.List.{List}
+use lib.Dec.{lit<}
+use lib.ListN.{length, get_or}
+use Rattle.lists.specs.All.{All}
+use Rattle.lists.proofs.All.{all-get_or}
 use Rattle.field.specs.Arithmetic.{add, mul, cubic_value}
 use Rattle.field.proofs.Ring.{add-residue, mul-mod, one-reduction}
 
@@ -23,18 +25,15 @@ cubic-by p a b c d x h m eh em =
     λ w v k e. step p x w v k e ∙ sym (add-residue p k (mul p x v)) in
     step p x m _ a (em ∙ again h _ b (eh ∙ again d d c refl))
 
-pub next_le : (x w c k l m : ℕ) → x ≤ k → c ≤ l → w ≤ m → x * w + c ≤ k * m + l
+-- How large a step's number gets.
+next_le : (x w c k l m : ℕ) → x ≤ k → c ≤ l → w ≤ m → x * w + c ≤ k * m + l
 next_le x w c k l m hx hc hw = omega (arith, mul-le-mul {n₁ = x} {m₁ = w} {n₂ = k} {m₂ = m} hx hw)
 
--- ---- products of numbers of 31 bits
-product_le : (a b : ℕ) → a ≤ 2147483647 → b ≤ 2147483647 → a * b ≤ 4611686014132420609
-product_le a b ha hb = mul-le-mul {n₁ = a} {m₁ = b} {n₂ = 2147483647} {m₂ = 2147483647} ha hb
-
-pub product-fits : (a b : ℕ) → a ≤ 2147483647 → b ≤ 2147483647 → Fits w64 (a * b)
-product-fits a b ha hb = omega (arith, product_le a b ha hb)
-
-pub step_fits : (a b c : ℕ) → a ≤ 2147483647 → b ≤ 2147483647 → c ≤ 2147483647 → Fits w64 (a * b + c)
-step_fits a b c ha hb hc = omega (arith, product_le a b ha hb)
-
-pub both-fits : (a b c d : ℕ) → a ≤ 2147483647 → b ≤ 2147483647 → c ≤ 2147483647 → d ≤ 2147483647 → Fits w64 (a * b + c * d)
-both-fits a b c d ha hb hc hd = omega (arith, product_le a b ha hb, product_le c d hc hd)
+-- Of numbers of 16 bits the whole sum fits 64.
+pub narrow-fits : (f : List ℕ) (x : ℕ) → length f ≡ 4 → All (λ c. c < 65521) f → x < 65521
+    → x * (x * (x * get_or f 3 0 + get_or f 2 0) + get_or f 1 0) + get_or f 0 0 ≤ 18429017544357703920
+narrow-fits f x l h hx =
+    let at : (k : ℕ) → k < 4 → get_or f k 0 ≤ 65520 = λ k q. omega (arith, all-get_or (λ c. c < 65521) f k 0 (omega arith) h) in
+    let high = next_le x (get_or f 3 0) (get_or f 2 0) 65520 65520 65520 (omega arith) (at 2 (lit< tt)) (at 3 (lit< tt)) in
+    let middle = next_le x _ (get_or f 1 0) 65520 65520 4292935920 (omega arith) (at 1 (lit< tt)) high in
+    next_le x _ (get_or f 0 0) 65520 65520 281273161543920 (omega arith) (at 0 (lit< tt)) middle

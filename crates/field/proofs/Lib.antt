@@ -8,3 +8,4 @@ mod Residues
 pub mod Slopes
 mod Horner
 pub mod Sums
+mod Reductions

@@ -4,7 +4,9 @@ use mathlib.Core.List.{List, [], ◌∷◌, map, zip_with}
 use Prim.Native.Nat.{ℕ, ◌%◌, ◌≤◌, ◌<◌}
 use native.Mathlib.Nat.{mod-eq_of_lt}
 use native.Mathlib.Omega.{arith}
+use lib.ListN.{length, get_or, drop}
 use Rattle.lists.specs.All.{All}
+use Rattle.lists.proofs.Padded.{four}
 use Rattle.field.specs.Arithmetic.{Prime, sub, mul, inv}
 use Rattle.field.specs.Differences.{slope, slopes, newton, from_rises, runs}
 use Rattle.field.proofs.Ring.{sub-none, sub-residue, sub-lt, mul-one, mul_comm, mul-lt, mul-residue}
@@ -119,3 +121,24 @@ module _ (p y x₀ x₁ x₂ x₃ e₁ e₂ e₃ : ℕ) where
       (rise e₃ r₃ h₃)
       (sym (slope-from e₃ r₃ x₃ (unit_left p r₃ _ u-third)))
       (sym (ap (λ (n : ℕ). slope p x₂ n x₃ d₂) c ∙ one-quotient-common p P _ third _ second r₁ (sub p x₃ x₂) u-third u-second))
+
+-- ---- the same of lists of four points and three rises
+pub three : (e : List ℕ) → length e ≡ 3 → get_or e 0 0 ∷ get_or e 1 0 ∷ get_or e 2 0 ∷ [] ≡ e
+three [] l = absurd (omega arith)
+three (a ∷ []) l = absurd (omega arith)
+three (a ∷ b ∷ []) l = absurd (omega arith)
+three (a ∷ b ∷ c ∷ []) l = refl
+three (a ∷ b ∷ c ∷ d ∷ e) l = absurd (omega arith)
+
+pub listed : (p y : ℕ) (x e : List ℕ) → length x ≡ 4 → length e ≡ 3
+    → from_rises p y (get_or x 0 0) (get_or x 1 0 ∷ get_or x 2 0 ∷ get_or x 3 0 ∷ []) (get_or e 0 0 ∷ get_or e 1 0 ∷ get_or e 2 0 ∷ [])
+    ≡ from_rises p y (get_or x 0 0) (drop 1 x) e
+listed p y x e lx le = ap₂ (from_rises p y (get_or x 0 0)) (ap (drop 1) (four x lx)) (three e le)
+
+-- The rises between four values give their coefficients.
+pub by-rises : (p : ℕ) (x y : List ℕ) → length x ≡ 4 → length y ≡ 4 → let y₀ = get_or y 0 0 in
+    from_rises p y₀ (get_or x 0 0) (drop 1 x) (sub p (get_or y 1 0) y₀ ∷ sub p (get_or y 2 0) y₀ ∷ sub p (get_or y 3 0) y₀ ∷ [])
+    ≡ newton p x y
+by-rises p [] y lx ly = absurd (omega arith)
+by-rises p (x₀ ∷ xs) y lx ly =
+    newton-rises p x₀ (get_or y 0 0) xs (get_or y 1 0 ∷ get_or y 2 0 ∷ get_or y 3 0 ∷ []) ∙ ap (newton p (x₀ ∷ xs)) (four y ly)

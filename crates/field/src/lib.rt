@@ -1,17 +1,18 @@
 // Arithmetic modulo either of two primes, on residues of 32 bits, which a processor handles best. Which prime is meant stands in front of
-// the numbers. Beside `width_number` six functions choose, `modulus`, `reduced`, `mul_add`, `sum_of_products`, `cubic_sum` and `next_sum`;
-// all others are written once. That the numbers are residues is the caller's to show: nothing reduces what is reduced already.
+// the numbers. Beside the conversion to a number six functions choose, `modulus`, `reduced`, `mul_add`, `sum_of_products`, `cubic_sum`
+// and `next_sum`; all others are written once. That the numbers are residues is the caller's to show: nothing reduces what is reduced
+// already.
 #![tactic(auto)]
 
-ghost use Rattle.std.specs.Prelude.{◌≡◌, [], ◌∷◌, ℕ, suc, ◌%◌, ◌≤◌, ◌<◌, ◌/◌, ◌+◌, ◌*◌, eqb};
+ghost use Rattle.std.specs.Prelude.{◌≡◌, ℕ, suc, ◌%◌, ◌≤◌, ◌<◌, ◌/◌, ◌+◌, ◌*◌, eqb, drop, get_or};
 ghost use Rattle.lists.specs.All.{All};
 ghost use Rattle.field.specs.Arithmetic.{add, sub, mul, inv, cubic_value, cubic_scheme};
 ghost use Rattle.field.specs.Differences.{slope, newton, from_rises, runs};
-ghost use Rattle.field.specs.Modulus.{prime_of, wide_modulus, width_number, same_width};
+ghost use Rattle.field.specs.Modulus.{prime_of, wide_modulus, width_number};
 ghost use Rattle.field.specs.Sums.{sum_below};
 
 // Numbers of 16 bits modulo 65,521, or of 32 bits modulo 2,147,483,647.
-#[derive(Clone, Copy)]
+#[derive(Clone, Copy, PartialEq, Eq)]
 pub enum Width {
     Narrow,
     Wide,
@@ -20,21 +21,16 @@ pub enum Width {
 // Runs below this, forth or back, are small: each has its inverse in a few turns.
 const NEAR: u32 = 128;
 
-// The widths as numbers.
-pub fn width_number(w: Width) -> u8
-    ensures { result ≡ width_number w }
-{
-    match w {
-        Width::Narrow => 0,
-        Width::Wide => 1,
-    }
-}
+// The widths as numbers: 0 for the narrow one, 1 for the wide one.
+impl From<Width> for u8 {
+    ghost from_gives = { λ w r. r ≡ width_number w };
 
-// Whether two widths are one.
-pub fn same_width(v: Width, w: Width) -> bool
-    ensures { result ≡ same_width v w }
-{
-    width_number(v) == width_number(w)
+    fn from(w: Width) -> u8 {
+        match w {
+            Width::Narrow => 0,
+            Width::Wide => 1,
+        }
+    }
 }
 
 // The prime.
@@ -76,6 +72,7 @@ pub fn reduced(w: Width, v: u64) -> u32
 }
 
 // c + a b by one reduction: a product of two residues and a third still fit 32 bits where the prime has 16, and 64 where it has 31.
+#[tactic(auto, using(crate::proofs::Reductions::reductions))]
 pub fn mul_add(w: Width, a: u32, b: u32, c: u32) -> u32
     requires { (a ≤ prime_of w) × (b < prime_of w) × (c < prime_of w) }
     ensures { (result ≡ add (prime_of w) c (mul (prime_of w) a b)) × (result < prime_of w) }
@@ -98,6 +95,7 @@ fn difference(w: Width, a: u32, b: u32) -> u32
 }
 
 // The product of two residues.
+#[tactic(auto, using(crate::proofs::Reductions::reductions))]
 fn product(w: Width, a: u32, b: u32) -> u32
     requires { (a < prime_of w) × (b < prime_of w) }
     ensures { (result ≡ mul (prime_of w) a b) × (result < prime_of w) }
@@ -106,6 +104,7 @@ fn product(w: Width, a: u32, b: u32) -> u32
 }
 
 // c − a b, by one reduction too.
+#[tactic(auto, using(crate::proofs::Reductions::reductions))]
 pub fn mul_sub(w: Width, a: u32, b: u32, c: u32) -> u32
     requires { (a < prime_of w) × (b < prime_of w) × (c < prime_of w) }
     ensures { (result ≡ sub (prime_of w) c (mul (prime_of w) a b)) × (result < prime_of w) }
@@ -129,10 +128,11 @@ fn reduces_to(w: Width, v: u64, y: u32) -> bool
 
 // A number with the residue of a + b x + c x² + d x³: Horner's rule for four coefficients, without a loop. Products of four numbers of 16
 // bits, and what is added to them, fit 64; those of 31 bits are folded on the way.
-fn cubic_sum(w: Width, a: u32, b: u32, c: u32, d: u32, x: u32) -> u64
-    requires { (a < prime_of w) × (b < prime_of w) × (c < prime_of w) × (d < prime_of w) × (x < prime_of w) }
-    ensures { result % prime_of w ≡ cubic_value (prime_of w) a b c d x }
+fn cubic_sum(w: Width, f: [u32; 4], x: u32) -> u64
+    requires { All (λ c. c < prime_of w) f × (x < prime_of w) }
+    ensures { result % prime_of w ≡ cubic_value (prime_of w) (get_or f 0 0) (get_or f 1 0) (get_or f 2 0) (get_or f 3 0) x }
 {
+    let [a, b, c, d] = f;
     let by = x as u64;
     let high = by * d as u64 + c as u64;
     match w {
@@ -162,14 +162,16 @@ pub fn next_sum(w: Width, x: u32, v: u64, c: u32) -> u64
 
 // a + b x + c x² + d x³ by one reduction, and behind it the three coefficients of the quotient by X − x, Horner's values on the way, which
 // the value does not wait for. A caller of the value alone pays for no more: a compiler writes this out there and drops the rest.
-pub fn cubic_divided(w: Width, a: u32, b: u32, c: u32, d: u32, x: u32) -> [u32; 4]
-    requires { (a < prime_of w) × (b < prime_of w) × (c < prime_of w) × (d < prime_of w) × (x < prime_of w) }
-    ensures { result ≡ cubic_scheme (prime_of w) a b c d x }
+#[tactic(auto, using(crate::proofs::Reductions::reductions))]
+pub fn cubic_divided(w: Width, f: [u32; 4], x: u32) -> [u32; 4]
+    requires { All (λ c. c < prime_of w) f × (x < prime_of w) }
+    ensures { result ≡ cubic_scheme (prime_of w) (get_or f 0 0) (get_or f 1 0) (get_or f 2 0) (get_or f 3 0) x }
 {
+    let [_, b, c, d] = f;
     let by = x as u64;
     let middle = reduced(w, by * d as u64 + c as u64);
     let low = reduced(w, by * middle as u64 + b as u64);
-    [reduced(w, cubic_sum(w, a, b, c, d, x)), low, middle, d]
+    [reduced(w, cubic_sum(w, f, x)), low, middle, d]
 }
 
 // Whether a cubic's value is y, which may be any number.
@@ -177,7 +179,7 @@ pub fn is_cubic_value(w: Width, a: u32, b: u32, c: u32, d: u32, x: u32, y: u32) 
     requires { (a < prime_of w) × (b < prime_of w) × (c < prime_of w) × (d < prime_of w) × (x < prime_of w) }
     ensures { result ≡ eqb (cubic_value (prime_of w) a b c d x) y }
 {
-    reduces_to(w, cubic_sum(w, a, b, c, d, x), y)
+    reduces_to(w, cubic_sum(w, [a, b, c, d], x), y)
 }
 
 // The inverse of a residue that is not 0, turn by turn. Throughout the loop a * t is d: each turn puts what the prime is above or below
@@ -253,6 +255,7 @@ fn sum_of_products(w: Width, a: u32, b: u32, c: u32, d: u32) -> u64
 }
 
 // a b − c d, by one reduction: what is left of the prime besides c stands for its opposite.
+#[tactic(auto, using(crate::proofs::Reductions::reductions))]
 pub fn determinant(w: Width, a: u32, b: u32, c: u32, d: u32) -> u32
     requires { (a < prime_of w) × (b < prime_of w) × (c < prime_of w) × (d < prime_of w) }
     ensures { (result ≡ sub (prime_of w) (mul (prime_of w) a b) (mul (prime_of w) c d)) × (result < prime_of w) }
@@ -262,10 +265,12 @@ pub fn determinant(w: Width, a: u32, b: u32, c: u32, d: u32) -> u32
 }
 
 // The product of the six runs between four points; 0 also where they are near, and slope by slope is quicker.
-fn all_runs(w: Width, x0: u32, x1: u32, x2: u32, x3: u32) -> u32
-    requires { (x0 < prime_of w) × (x1 < prime_of w) × (x2 < prime_of w) × (x3 < prime_of w) }
-    ensures { ((0 < result) → result ≡ runs (prime_of w) x0 x1 x2 x3) × (result < prime_of w) }
+fn all_runs(w: Width, x: [u32; 4]) -> u32
+    requires { All (λ c. c < prime_of w) x }
+    ensures product { (0 < result) → result ≡ runs (prime_of w) (get_or x 0 0) (get_or x 1 0) (get_or x 2 0) (get_or x 3 0) }
+    ensures bound { result < prime_of w }
 {
+    let [x0, x1, x2, x3] = x;
     let far = difference(w, x3, x0);
     if far < NEAR {
         return 0;
@@ -278,23 +283,14 @@ fn all_runs(w: Width, x0: u32, x1: u32, x2: u32, x3: u32) -> u32
 }
 
 // Newton's coefficients by one inverse, that of the product of all runs: each coefficient is a quotient of products.
-fn by_one_inverse(
-    w: Width,
-    all: u32,
-    first: u32,
-    x0: u32,
-    x1: u32,
-    x2: u32,
-    x3: u32,
-    e1: u32,
-    e2: u32,
-    e3: u32,
-) -> [u32; 4]
-    requires x0_bound { (x0 < prime_of w) × (x1 < prime_of w) × (x2 < prime_of w) × (x3 < prime_of w) }
-    requires e1_bound { (e1 < prime_of w) × (e2 < prime_of w) × (e3 < prime_of w) }
-    requires all_value { (all ≡ runs (prime_of w) x0 x1 x2 x3) × (0 < all) × (all < prime_of w) }
-    ensures { result ≡ from_rises (prime_of w) first x0 (x1 ∷ x2 ∷ x3 ∷ []) (e1 ∷ e2 ∷ e3 ∷ []) }
+fn by_one_inverse(w: Width, all: u32, first: u32, x: [u32; 4], rises: [u32; 3]) -> [u32; 4]
+    requires residues { All (λ c. c < prime_of w) x × All (λ c. c < prime_of w) rises }
+    requires all_value { all ≡ runs (prime_of w) (get_or x 0 0) (get_or x 1 0) (get_or x 2 0) (get_or x 3 0) }
+    requires all_bound { (0 < all) × (all < prime_of w) }
+    ensures { result ≡ from_rises (prime_of w) first (get_or x 0 0) (drop 1 x) rises }
 {
+    let [x0, x1, x2, x3] = x;
+    let [e1, e2, e3] = rises;
     let r1 = difference(w, x1, x0);
     let r2 = difference(w, x2, x0);
     let r3 = difference(w, x3, x0);
@@ -315,25 +311,16 @@ fn by_one_inverse(
 
 // Newton's coefficients from the first value and the rises from it to the others: by one inverse, or slope by slope, which is quick
 // where runs are small, since their inverses are found at once.
-fn from_rises(
-    w: Width,
-    first: u32,
-    x0: u32,
-    x1: u32,
-    x2: u32,
-    x3: u32,
-    e1: u32,
-    e2: u32,
-    e3: u32,
-) -> [u32; 4]
-    requires x0_bound { (x0 < prime_of w) × (x1 < prime_of w) × (x2 < prime_of w) × (x3 < prime_of w) }
-    requires e1_bound { (e1 < prime_of w) × (e2 < prime_of w) × (e3 < prime_of w) }
-    ensures { result ≡ from_rises (prime_of w) first x0 (x1 ∷ x2 ∷ x3 ∷ []) (e1 ∷ e2 ∷ e3 ∷ []) }
+fn from_rises(w: Width, first: u32, x: [u32; 4], rises: [u32; 3]) -> [u32; 4]
+    requires { All (λ c. c < prime_of w) x × All (λ c. c < prime_of w) rises }
+    ensures { result ≡ from_rises (prime_of w) first (get_or x 0 0) (drop 1 x) rises }
 {
-    let all = all_runs(w, x0, x1, x2, x3);
+    let all = all_runs(w, x);
     if 0 < all {
-        return by_one_inverse(w, all, first, x0, x1, x2, x3, e1, e2, e3);
+        return by_one_inverse(w, all, first, x, rises);
     }
+    let [x0, x1, x2, x3] = x;
+    let [e1, e2, e3] = rises;
     let b = slope(w, x0, 0, x1, e1);
     let c = slope(w, x1, b, x2, slope(w, x0, 0, x2, e2));
     let d = slope(w, x2, c, x3, slope(w, x1, b, x3, slope(w, x0, 0, x3, e3)));
@@ -341,30 +328,15 @@ fn from_rises(
 }
 
 // Newton's coefficients of four points: no list is written and read again.
-pub fn divided_differences(
-    w: Width,
-    x0: u32,
-    x1: u32,
-    x2: u32,
-    x3: u32,
-    y0: u32,
-    y1: u32,
-    y2: u32,
-    y3: u32,
-) -> [u32; 4]
-    requires x0_bound { (x0 < prime_of w) × (x1 < prime_of w) × (x2 < prime_of w) × (x3 < prime_of w) }
-    requires y0_bound { (y0 < prime_of w) × (y1 < prime_of w) × (y2 < prime_of w) × (y3 < prime_of w) }
-    ensures { (result ≡ newton (prime_of w) (x0 ∷ x1 ∷ x2 ∷ x3 ∷ []) (y0 ∷ y1 ∷ y2 ∷ y3 ∷ [])) × All (λ c. c < prime_of w) result }
+pub fn divided_differences(w: Width, x: [u32; 4], y: [u32; 4]) -> [u32; 4]
+    requires { All (λ c. c < prime_of w) x × All (λ c. c < prime_of w) y }
+    ensures { (result ≡ newton (prime_of w) x y) × All (λ c. c < prime_of w) result }
 {
-    from_rises(
-        w,
-        y0,
-        x0,
-        x1,
-        x2,
-        x3,
+    let [y0, y1, y2, y3] = y;
+    let rises = [
         difference(w, y1, y0),
         difference(w, y2, y0),
         difference(w, y3, y0),
-    )
+    ];
+    from_rises(w, y0, x, rises)
 }

@@ -1,6 +1,7 @@
 -- Examples of decoding, all computed together: those of the protocol, its trap, the worst cases, and some that it does not have.
 use mathlib.Core.Path.{◌≡◌, refl}
 use mathlib.Core.Bool.{true, false}
+use Rattle.std.specs.Prelude.{Err}
 use mathlib.Core.Option.{none, some}
 use mathlib.Core.List.{List, [], ◌∷◌, zip_with}
 use Prim.Native.Nat.{ℕ, ◌+◌, ◌-◌}
@@ -11,7 +12,7 @@ use Rattle.interpolation.specs.Interpolation.{interpolate}
 use Rattle.lists.specs.Choices.{hide}
 use Rattle.trial.specs.Trial.{hits, points_sent, through}
 use Rattle.answers.specs.declared.Refusal.TheVariants.{WrongSize, WrongLength}
-use Rattle.answers.specs.Fits.{decoded, refused_fit}
+use Rattle.answers.specs.Fits.{Fitted, decoded}
 use Rattle.fit.specs.Fit.{sent, fit}
 use Rattle.fit.specs.Opening.{opening_of}
 use Rattle.fit.specs.Admitted.{fit_in}
@@ -71,9 +72,9 @@ pub answers :
     × (fit_in modulus 1 4 (up_to 5) (10 ∷ 13 ∷ 999 ∷ 998 ∷ 22 ∷ []) ≡ decoded none)
     × (fit_in modulus 1 3 (up_to 5) (10 ∷ 13 ∷ unsent ∷ unsent ∷ 22 ∷ []) ≡ decoded (some (7 ∷ 3 ∷ 0 ∷ 0 ∷ [])))
     × (fit_in modulus 1 4 (up_to 5) (10 ∷ 13 ∷ unsent ∷ unsent ∷ 22 ∷ []) ≡ decoded none)
-    × (fit_in modulus 4 4 (up_to 4) (0 ∷ 0 ∷ 0 ∷ 0 ∷ 0 ∷ []) ≡ refused_fit WrongSize)
-    × (fit_in modulus 1 4 (up_to 4) (0 ∷ 0 ∷ 0 ∷ 0 ∷ 0 ∷ []) ≡ refused_fit WrongLength)
-    × (fit_in modulus 1 4 (0 ∷ up_to 16) (0 ∷ up_to 16) ≡ refused_fit WrongLength)
-    × (fit_in modulus 1 2 (up_to 5) (0 ∷ 0 ∷ 0 ∷ 0 ∷ 0 ∷ []) ≡ refused_fit WrongLength)
+    × (◌≡◌ {A = Fitted} (fit_in modulus 4 4 (up_to 4) (0 ∷ 0 ∷ 0 ∷ 0 ∷ 0 ∷ [])) (Err WrongSize))
+    × (◌≡◌ {A = Fitted} (fit_in modulus 1 4 (up_to 4) (0 ∷ 0 ∷ 0 ∷ 0 ∷ 0 ∷ [])) (Err WrongLength))
+    × (◌≡◌ {A = Fitted} (fit_in modulus 1 4 (0 ∷ up_to 16) (0 ∷ up_to 16)) (Err WrongLength))
+    × (◌≡◌ {A = Fitted} (fit_in modulus 1 2 (up_to 5) (0 ∷ 0 ∷ 0 ∷ 0 ∷ 0 ∷ [])) (Err WrongLength))
 unfolding zip_with fit_in fit hits sent points_sent through interpolate add sub mul inv inv_within
 answers = (refl, refl, refl, refl, refl, refl, refl, refl)

@@ -10,21 +10,18 @@ use Prim.Native.Nat.{ℕ, ◌+◌, ◌*◌, ◌-◌, ◌≤◌, ◌<◌}
 use native.Mathlib.Numerals.{add-one}
 use native.Mathlib.Omega.{arith}
 use lib.Dec.{leb}
+use Rattle.std.specs.Prelude.{Option as Answer, None, is_some}
 use lib.ListN.{length, take, drop}
 use Rattle.lists.specs.Choices.{choices}
 use Rattle.field.specs.Arithmetic.{Prime}
 use Rattle.polynomial.specs.Polynomial.{Points}
 use Rattle.lists.proofs.Choices.{first-append, choices-front}
 use Rattle.lists.proofs.Sublists.{take-take}
-use Rattle.trial.specs.declared.Tried.{Tried}
 use Rattle.trial.specs.Trial.{hits, points_sent, through, first_fitting, tried}
 use Rattle.trial.specs.Results.{result_of}
-use Rattle.trial.proofs.Results.{result-found}
-use Rattle.answers.specs.Fits.{decoded}
+use Rattle.trial.proofs.Results.{result-some}
 use Rattle.fit.specs.Fit.{sent, fit}
 use Rattle.fit.specs.Opening.{needed}
-use Rattle.fit.specs.Admitted.{fitted_of}
-use Rattle.fit.proofs.Admitted.{fitted-result}
 use Rattle.fit.proofs.Decoding.{fit-too-few}
 use Rattle.fit.proofs.Opening.{narrowed}
 
@@ -59,29 +56,28 @@ module _ (p t need : ℕ) (xs ys : List ℕ) where
   first_fits f some-f = sym whole ∙ tried-front p need xs ys 0 (t + 1) spare f some-f
 
   -- What the first points sent give is what fits.
-  pub fit-first : (r : Tried) → r ≡ result_of (tried p need xs ys 0 (t + 1) 0) → r.found ≡ true
-      → fitted_of r ≡ decoded (fit p t need xs ys)
+  pub fit-first : (r : Answer (List ℕ)) → r ≡ result_of (tried p need xs ys 0 (t + 1) 0) → is_some r ≡ true
+      → r ≡ result_of (fit p t need xs ys)
   fit-first r e told =
-      let (f, some-f) = result-found _ (sym (ap (λ w. w.found) e) ∙ told) in
-      fitted-result r (fit p t need xs ys) (e ∙ ap result_of (some-f ∙ sym (first_fits f some-f)))
+      let (f, some-f) = result-some _ r e told in
+      e ∙ ap result_of (some-f ∙ sym (first_fits f some-f))
 
   -- Where they give nothing, and none may be wrong, nothing does.
   pub fit-first-none : (n : ℕ) → n ≡ sent p ys → n ≤ need → tried p need xs ys 0 (t + 1) 0 ≡ none
-      → decoded none ≡ decoded (fit p t need xs ys)
+      → None ≡ result_of (fit p t need xs ys)
   fit-first-none n counted few lost =
       let none-spare : 0 ≡ spare = omega arith in
-      ap decoded (sym lost ∙ ap (tried p need xs ys 0 (t + 1)) none-spare ∙ whole)
+      ap result_of (sym lost ∙ ap (tried p need xs ys 0 (t + 1)) none-spare ∙ whole)
 
 module _ (p : ℕ) (P : Prime p) (t : ℕ) (xs ys : List ℕ) where
   -- What the first points give with the need of all is what fits with the need of those sent.
-  pub narrowed-first : (least : ℕ) → length xs ≡ length ys → Points p xs → 2 * t + 1 ≤ least → (r : Tried)
-      → r ≡ result_of (tried p (needed t least (length xs)) xs ys 0 (t + 1) 0) → r.found ≡ true
-      → fitted_of r ≡ decoded (fit p t (needed t least (sent p ys)) xs ys)
+  pub narrowed-first : (least : ℕ) → length xs ≡ length ys → Points p xs → 2 * t + 1 ≤ least → (r : Answer (List ℕ))
+      → r ≡ result_of (tried p (needed t least (length xs)) xs ys 0 (t + 1) 0) → is_some r ≡ true
+      → r ≡ result_of (fit p t (needed t least (sent p ys)) xs ys)
   narrowed-first least l ps enough r e told =
       let all = needed t least (length xs) in
-      let (f, some-f) = result-found _ (sym (ap (λ w. w.found) e) ∙ told) in
-      fitted-result r (fit p t (needed t least (sent p ys)) xs ys)
-      (e ∙ ap result_of (some-f ∙ sym (narrowed p P t least xs ys l ps enough f (first_fits p t all xs ys f some-f))))
+      let (f, some-f) = result-some _ r e told in
+      e ∙ ap result_of (some-f ∙ sym (narrowed p P t least xs ys l ps enough f (first_fits p t all xs ys f some-f)))
 
   -- Where fewer were sent than must agree they give nothing.
   pub first-too-few : (need : ℕ) → sent p ys < need → tried p need xs ys 0 (t + 1) 0 ≡ none

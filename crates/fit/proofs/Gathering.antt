@@ -10,6 +10,7 @@ use lib.Seq.{length-take-le, take_all, take_at, take-suc-set}
 use Rattle.lists.proofs.InPlace.{drop-end}
 use Rattle.trial.specs.Trial.{points_of, points_sent}
 use Rattle.trial.proofs.Steps.{points-sent-next, points-sent-over}
+use Rattle.trial.proofs.Turns.{Point}
 use Rattle.fit.proofs.Rule.{length-points}
 
 -- ---- points from their coordinates
@@ -28,9 +29,6 @@ pub record Gathering (p m : ℕ) (xs ys px py : List ℕ) (d i : ℕ) : Type 0 w
   pub split : points_of (take d px) (take d py) ++ points_sent p (drop i xs) (drop i ys) ≡ points_sent p xs ys
 
 module _ (p m : ℕ) (xs ys px py : List ℕ) where
-  pub gathering-start : length px ≡ m → length py ≡ m → Gathering p m xs ys px py 0 0
-  gathering-start lx ly = record { few = omega arith; inside = omega arith; width_x = lx; width_y = ly; split = refl }
-
   module _ (d i : ℕ) (g : Gathering p m xs ys px py d i) where
     abbrev gathered : List (ℕ × ℕ)
     gathered = points_of (take d px) (take d py)
@@ -41,10 +39,10 @@ module _ (p m : ℕ) (xs ys px py : List ℕ) where
     gathered-size : length gathered ≡ d
     gathered-size = length-points (take d px) (take d py) same_size ∙ length-take-le d px (omega (arith, g.few, g.width_x))
 
-    -- With so many points among them the lists do not end before they are gathered.
-    pub gathering-short : m ≤ length (points_sent p xs ys) → d < m → length xs ≤ i → ⊥
+    -- With so many points among them they are gathered when the lists end.
+    pub gathering-end : m ≤ length (points_sent p xs ys) → length xs ≤ i → m ≤ d
     unfolding points_sent
-    gathering-short many h e =
+    gathering-end many e =
         let last : points_sent p (drop i xs) (drop i ys) ≡ [] = rw (drop-end xs i e) refl in
         omega (arith, ap length g.split, length-append gathered (points_sent p (drop i xs) (drop i ys)), ap length last, gathered-size)
 
@@ -55,32 +53,31 @@ module _ (p m : ℕ) (xs ys px py : List ℕ) where
         ∙ sym (take_at gathered (points_sent p (drop i xs) (drop i ys)) m (gathered-size ∙ full))
         ∙ ap (take m) g.split
 
-    module _ (lengths : length xs ≡ length ys) (h : i < length xs) where
-      pub gathering-unsent : p ≤ get_or ys i 0 → Gathering p m xs ys px py d (i + 1)
-      gathering-unsent q = record {
+    module _ (lengths : length xs ≡ length ys) (x y : ℕ) (point : Point xs ys i x y) (i' : ℕ) (next : i' ≡ i + 1) where
+      pub gathering-unsent : p ≤ y → Gathering p m xs ys px py d i'
+      gathering-unsent q = rw next record {
         few = g.few;
         inside = omega arith;
         width_x = g.width_x;
         width_y = g.width_y;
-        split = ap (λ qs. gathered ++ qs) (sym (points-sent-over p xs ys lengths i h q)) ∙ g.split;
+        split = ap (λ qs. gathered ++ qs) (sym (points-sent-over p xs ys lengths i point.inside (omega (arith, point.y_is)))) ∙ g.split;
       }
 
-      pub gathering-sent : d < m → get_or ys i 0 < p → Gathering p m xs ys (set px d (get_or xs i 0)) (set py d (get_or ys i 0)) (d + 1) (i + 1)
+      pub gathering-sent : d < m → y < p → Gathering p m xs ys (set px d x) (set py d y) (d + 1) i'
       gathering-sent room q =
-          let x : ℕ = get_or xs i 0 in
-          let y : ℕ = get_or ys i 0 in
           let rest : List (ℕ × ℕ) = points_sent p (drop (i + 1) xs) (drop (i + 1) ys) in
-          let next : (v : ℕ) (l : List ℕ) → length l ≡ m → take (d + 1) (set l d v) ≡ take d l ++ v ∷ [] =
+          let one_more : (v : ℕ) (l : List ℕ) → length l ≡ m → take (d + 1) (set l d v) ≡ take d l ++ v ∷ [] =
           λ v l w. rw (add-one d) (take-suc-set l d v (omega arith)) in
-          record {
+          let at : (get_or xs i 0, get_or ys i 0) ∷ rest ≡ (x, y) ∷ rest = ap₂ (λ u v. (u, v) ∷ rest) (sym point.x_is) (sym point.y_is) in
+          rw next record {
             few = omega arith;
             inside = omega arith;
             width_x = length-set px d x ∙ g.width_x;
             width_y = length-set py d y ∙ g.width_y;
             split =
-                ap₂ (λ u v. points_of u v ++ rest) (next x px g.width_x) (next y py g.width_y)
+                ap₂ (λ u v. points_of u v ++ rest) (one_more x px g.width_x) (one_more y py g.width_y)
                 ∙ ap (λ qs. qs ++ rest) (points-next (take d px) (take d py) x y same_size)
                 ∙ append_assoc gathered ((x, y) ∷ []) rest
-                ∙ ap (λ qs. gathered ++ qs) (sym (points-sent-next p xs ys lengths i h q))
+                ∙ ap (λ qs. gathered ++ qs) (sym (points-sent-next p xs ys lengths i point.inside (omega (arith, point.y_is)) ∙ at))
                 ∙ g.split;
           }

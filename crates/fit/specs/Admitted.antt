@@ -1,19 +1,13 @@
 -- What `fit` answers for every input.
 --   Admitted t least xs ys   what is decoded; fit_tests t least xs ys are the tests for it, in the order of their numbers
 --   decoded_if a o           what is answered where the tests gave a: the refusal, or else what was decoded
---   fitted_of r              what is answered for what was found by trial
 --   fit_in p t least xs ys   what `fit` answers
 -- Laws: proofs/Admitted.
-use Rattle.std.specs.Prelude.{cond, List, [], ◌∷◌, ℕ, ◌+◌, ◌*◌, ◌≤◌, leb, eqb, length}
+use Rattle.std.specs.Prelude.{List, [], ◌∷◌, ℕ, ◌+◌, ◌*◌, ◌≤◌, leb, eqb, length, Ok, Err}
 use Rattle.std.proofs.Math.Option.{Option}
 use Rattle.answers.specs.declared.Refusal.TheVariants.{WrongSize, WrongLength}
-use Rattle.answers.specs.declared.Admission.{Admission}
-use Rattle.answers.specs.declared.Admission.TheVariants.{Pass, Fail}
-use Rattle.answers.specs.declared.Decoding.TheVariants.{Found, Nothing}
-use Rattle.answers.specs.declared.Fitted.{Fitted}
-use Rattle.answers.specs.Refusals.{Test, lowest}
-use Rattle.answers.specs.Fits.{decoded, refused_fit}
-use Rattle.trial.specs.declared.Tried.{Tried}
+use Rattle.answers.specs.Refusals.{Test, lowest, Admission}
+use Rattle.answers.specs.Fits.{decoded, Fitted}
 use Rattle.trial.specs.Results.{Bounded}
 use Rattle.fit.specs.Fit.{sent, fit}
 use Rattle.fit.specs.Opening.{needed}
@@ -36,12 +30,8 @@ fit_tests t least xs ys =
 
 -- The refusal where there is one, and otherwise what was decoded.
 abbrev pub decoded_if : Admission → Option (List ℕ) → Fitted
-decoded_if Pass o = decoded o
-decoded_if (Fail why) o = refused_fit why
-
--- Found or nothing, with the coefficients as they are.
-abbrev pub fitted_of : Tried → Fitted
-fitted_of r = record { outcome = cond r.found Found Nothing; coefficients = r.coefficients }
+decoded_if (Ok tt) o = decoded o
+decoded_if (Err why) o = Err why
 
 -- Refused, or what fits with the need of those sent.
 unfoldable pub fit_in : ℕ → ℕ → ℕ → List ℕ → List ℕ → Fitted

@@ -1,6 +1,5 @@
 // The search for a cubic by pairs of points.
 ghost use Rattle.std.specs.Prelude.{◌≡◌, ◌+◌, ◌≤◌, length, take};
-ghost use Rattle.answers.specs.Fits.{decoded};
 ghost use Rattle.field.specs.Modulus.{prime_of};
 ghost use Rattle.polynomial.specs.Polynomial.{Residues};
 ghost use Rattle.trial.specs.Trial.{fitting_through};
@@ -9,10 +8,8 @@ ghost use Rattle.fit.specs.Fit.{fit};
 ghost use Rattle.fit.specs.Grouping.{Grouping};
 ghost use Rattle.fit.specs.Pairs.{four_at};
 
-use crate::{decoded, first_sent, nothing};
-use answers::Fitted;
+use crate::first_sent;
 use field::Width;
-use trial::Tried;
 
 // The numbers at places a and a + 1, b and b + 1.
 fn four_at(list: &[u32; 10], a: usize, b: usize) -> [u32; 4]
@@ -32,7 +29,7 @@ fn test_pairs(
     py: &[u32; 10],
     a: usize,
     b: usize,
-) -> Tried
+) -> Option<[u32; 4]>
     requires bounded { Bounded xs.now ys.now × (a ≤ 8) × (b ≤ 8) }
     requires residues { Residues (prime_of w) xs.now
         × Residues (prime_of w) (four_at a b px.now) × Residues (prime_of w) (four_at a b py.now) }
@@ -43,31 +40,38 @@ fn test_pairs(
 }
 
 // Two of five pairs of points, each by the place of its first point: every choice but that of the first two.
-const FIRST_PAIRS: [usize; 9] = [4, 0, 0, 2, 2, 0, 2, 4, 6];
-
-const SECOND_PAIRS: [usize; 9] = [6, 4, 6, 4, 6, 8, 8, 8, 8];
+const PAIRS: [(usize, usize); 9] = [
+    (4, 6),
+    (0, 4),
+    (0, 6),
+    (2, 4),
+    (2, 6),
+    (0, 8),
+    (2, 8),
+    (4, 8),
+    (6, 8),
+];
 
 // The search for a cubic where at most one fits, at most three of the points sent are wrong, and one of the first four is. Of five
 // pairs of points two have no wrong point, so ten choices are enough where points one by one would take 35.
-pub(crate) fn by_pairs(w: Width, xs: &[u32], ys: &[u32], need: usize, sent: usize) -> Fitted
+pub(crate) fn by_pairs(
+    w: Width,
+    xs: &[u32],
+    ys: &[u32],
+    need: usize,
+    sent: usize,
+) -> Option<[u32; 4]>
     requires { Grouping (prime_of w) 3 need xs.now ys.now 0 sent 3 × (10 ≤ sent) }
-    ensures { result ≡ decoded (fit (prime_of w) 3 need xs.now ys.now) }
+    ensures { result ≡ result_of (fit (prime_of w) 3 need xs.now ys.now) }
 {
     let mut px = [0u32; 10];
     let mut py = [0u32; 10];
     first_sent(field::modulus(w), xs, ys, &mut px, &mut py);
-    // A constant would be written to memory anew wherever it is named.
-    let firsts = FIRST_PAIRS;
-    let seconds = SECOND_PAIRS;
-    let mut k = 0;
-    while k < 9 {
-        let a = firsts[k];
-        let b = seconds[k];
+    for (a, b) in PAIRS {
         let tested = test_pairs(w, xs, ys, need, &px, &py, a, b);
-        if tested.found {
-            return decoded(tested);
+        if tested.is_some() {
+            return tested;
         }
-        k += 1;
     }
-    nothing()
+    None
 }

@@ -1,10 +1,12 @@
 -- Interpolation through at most four points, each coefficient written out.
 --   line-by, square-by, cubic-by        two, three and four points, from the numbers that the code finds one after the other
---   cubic-pad, constant-pad, none-pad   with four points nothing stands behind the coefficients; one point, and none
+--   constant-pad, none-pad              one point, and none
 --   first_of                            the points and values may be the first of lists of four
+--   two                                 the numbers of a list of two
 use mathlib.Core.Path.{◌≡◌, refl, sym, ap, ap₂, ◌∙◌}
 use mathlib.Core.List.{List, [], ◌∷◌, zip_with}
 use Prim.Native.Nat.{ℕ}
+use native.Mathlib.Omega.{arith}
 use lib.ListN.{length, get_or, take}
 use Rattle.lists.specs.Tabulate.{pad}
 use Rattle.lists.proofs.Padded.{four}
@@ -15,6 +17,12 @@ use Rattle.interpolation.specs.Interpolation.{expand, interpolate}
 -- The numbers of a list of four.
 abbrev numbers : List ℕ → List ℕ
 numbers l = get_or l 0 0 ∷ get_or l 1 0 ∷ get_or l 2 0 ∷ get_or l 3 0 ∷ []
+
+pub two : (l : List ℕ) → length l ≡ 2 → get_or l 0 0 ∷ get_or l 1 0 ∷ [] ≡ l
+two [] e = absurd (omega arith)
+two (a ∷ []) e = absurd (omega arith)
+two (a ∷ b ∷ []) e = refl
+two (a ∷ b ∷ c ∷ l) e = absurd (omega arith)
 
 module _ (p : ℕ) where
   -- ---- two points
@@ -36,21 +44,15 @@ module _ (p : ℕ) where
       (ec ∙ ap₂ (λ u v. slope p x₁ u x₂ v) eb es)
 
   -- ---- four points: Newton's form f, multiplied out from the inside
-  pub cubic-by : (x₀ x₁ x₂ x₃ y₀ y₁ y₂ y₃ : ℕ) (f : List ℕ) → length f ≡ 4
-      → f ≡ newton p (x₀ ∷ x₁ ∷ x₂ ∷ x₃ ∷ []) (y₀ ∷ y₁ ∷ y₂ ∷ y₃ ∷ []) → (b c e r s t : ℕ)
-      → c ≡ sub p (get_or f 2 0) (mul p x₂ (get_or f 3 0))
-      → b ≡ sub p (get_or f 1 0) (mul p x₁ c) → e ≡ sub p c (mul p x₁ (get_or f 3 0))
-      → r ≡ sub p (get_or f 0 0) (mul p x₀ b) → s ≡ sub p b (mul p x₀ e) → t ≡ sub p e (mul p x₀ (get_or f 3 0))
-      → r ∷ s ∷ t ∷ get_or f 3 0 ∷ [] ≡ interpolate p (x₀ ∷ x₁ ∷ x₂ ∷ x₃ ∷ []) (y₀ ∷ y₁ ∷ y₂ ∷ y₃ ∷ [])
+  pub cubic-by : (xs ys f : List ℕ) → length xs ≡ 4 → length f ≡ 4 → f ≡ newton p xs ys → (b c e r s t : ℕ)
+      → c ≡ sub p (get_or f 2 0) (mul p (get_or xs 2 0) (get_or f 3 0))
+      → b ≡ sub p (get_or f 1 0) (mul p (get_or xs 1 0) c) → e ≡ sub p c (mul p (get_or xs 1 0) (get_or f 3 0))
+      → r ≡ sub p (get_or f 0 0) (mul p (get_or xs 0 0) b) → s ≡ sub p b (mul p (get_or xs 0 0) e)
+      → t ≡ sub p e (mul p (get_or xs 0 0) (get_or f 3 0))
+      → r ∷ s ∷ t ∷ get_or f 3 0 ∷ [] ≡ interpolate p xs ys
   unfolding interpolate
-  cubic-by x₀ x₁ x₂ x₃ y₀ y₁ y₂ y₃ f l n b c e r s t ec eb ee er es et =
-      rw (er, es, et, eb, ee, ec) (ap (expand p (x₀ ∷ x₁ ∷ x₂ ∷ x₃ ∷ [])) (four f l ∙ n))
-
-  -- With four points nothing stands behind.
-  pub cubic-pad : (x₀ x₁ x₂ x₃ y₀ y₁ y₂ y₃ : ℕ) → let whole = interpolate p (x₀ ∷ x₁ ∷ x₂ ∷ x₃ ∷ []) (y₀ ∷ y₁ ∷ y₂ ∷ y₃ ∷ []) in
-      whole ≡ pad 4 whole
-  unfolding interpolate zip_with
-  cubic-pad x₀ x₁ x₂ x₃ y₀ y₁ y₂ y₃ = refl
+  cubic-by xs ys f lx l n b c e r s t ec eb ee er es et =
+      rw (er, es, et, eb, ee, ec) (ap₂ (expand p) (four xs lx) (four f l ∙ n))
 
   -- ---- one point, and none
   pub constant-pad : (x y : ℕ) → y ∷ 0 ∷ 0 ∷ 0 ∷ [] ≡ pad 4 (interpolate p (x ∷ []) (y ∷ []))

@@ -2,7 +2,7 @@
 // residues.
 #![tactic(auto)]
 
-ghost use Rattle.std.specs.Prelude.{◌≡◌, [], ◌∷◌, ◌≤◌, ◌<◌, length, take};
+ghost use Rattle.std.specs.Prelude.{◌≡◌, ◌≤◌, length, take};
 ghost use Rattle.lists.specs.Tabulate.{pad};
 ghost use Rattle.field.specs.Modulus.{prime_of};
 ghost use Rattle.polynomial.specs.Polynomial.{Residues};
@@ -11,21 +11,24 @@ ghost use Rattle.interpolation.specs.Interpolation.{interpolate};
 use field::Width;
 
 // The line through two points, with 0 behind its coefficients.
-fn line(w: Width, x0: u32, x1: u32, y0: u32, y1: u32) -> [u32; 4]
-    requires { (x0 < prime_of w) × (x1 < prime_of w) × (y0 < prime_of w) × (y1 < prime_of w) }
-    ensures { (result ≡ pad 4 (interpolate (prime_of w) (x0 ∷ x1 ∷ []) (y0 ∷ y1 ∷ []))) × Residues (prime_of w) result }
+fn line(w: Width, x: [u32; 2], y: [u32; 2]) -> [u32; 4]
+    requires { Residues (prime_of w) x × Residues (prime_of w) y }
+    ensures { (result ≡ pad 4 (interpolate (prime_of w) x y)) × Residues (prime_of w) result }
 {
+    let [x0, x1] = x;
+    let [y0, y1] = y;
     let b = field::slope(w, x0, y0, x1, y1);
     let a = field::mul_sub(w, x0, b, y0);
     [a, b, 0, 0]
 }
 
 // The square through three points, likewise.
-fn square(w: Width, x0: u32, x1: u32, x2: u32, y0: u32, y1: u32, y2: u32) -> [u32; 4]
-    requires x0_bound { (x0 < prime_of w) × (x1 < prime_of w) × (x2 < prime_of w) }
-    requires y0_bound { (y0 < prime_of w) × (y1 < prime_of w) × (y2 < prime_of w) }
-    ensures { (result ≡ pad 4 (interpolate (prime_of w) (x0 ∷ x1 ∷ x2 ∷ []) (y0 ∷ y1 ∷ y2 ∷ []))) × Residues (prime_of w) result }
+fn square(w: Width, x: [u32; 3], y: [u32; 3]) -> [u32; 4]
+    requires { Residues (prime_of w) x × Residues (prime_of w) y }
+    ensures { (result ≡ pad 4 (interpolate (prime_of w) x y)) × Residues (prime_of w) result }
 {
+    let [x0, x1, x2] = x;
+    let [y0, y1, y2] = y;
     let b = field::slope(w, x0, y0, x1, y1);
     let s = field::slope(w, x0, y0, x2, y2);
     let c = field::slope(w, x1, b, x2, s);
@@ -36,27 +39,16 @@ fn square(w: Width, x0: u32, x1: u32, x2: u32, y0: u32, y1: u32, y2: u32) -> [u3
 }
 
 // The cubic through four points: f₀ + (X − x₀)(f₁ + (X − x₁)(f₂ + (X − x₂) d)), multiplied out from the inside.
-fn cubic(
-    w: Width,
-    x0: u32,
-    x1: u32,
-    x2: u32,
-    x3: u32,
-    y0: u32,
-    y1: u32,
-    y2: u32,
-    y3: u32,
-) -> [u32; 4]
-    requires x0_bound { (x0 < prime_of w) × (x1 < prime_of w) × (x2 < prime_of w) × (x3 < prime_of w) }
-    requires y0_bound { (y0 < prime_of w) × (y1 < prime_of w) × (y2 < prime_of w) × (y3 < prime_of w) }
-    ensures { (result ≡ interpolate (prime_of w) (x0 ∷ x1 ∷ x2 ∷ x3 ∷ []) (y0 ∷ y1 ∷ y2 ∷ y3 ∷ [])) × Residues (prime_of w) result }
+fn cubic(w: Width, x: [u32; 4], y: [u32; 4]) -> [u32; 4]
+    requires { Residues (prime_of w) x × Residues (prime_of w) y }
+    ensures { (result ≡ interpolate (prime_of w) x y) × Residues (prime_of w) result }
 {
-    let f = field::divided_differences(w, x0, x1, x2, x3, y0, y1, y2, y3);
-    let d = f[3];
-    let c = field::mul_sub(w, x2, d, f[2]);
-    let b = field::mul_sub(w, x1, c, f[1]);
+    let [x0, x1, x2, _] = x;
+    let [f0, f1, f2, d] = field::divided_differences(w, x, y);
+    let c = field::mul_sub(w, x2, d, f2);
+    let b = field::mul_sub(w, x1, c, f1);
     let e = field::mul_sub(w, x1, d, c);
-    let constant = field::mul_sub(w, x0, b, f[0]);
+    let constant = field::mul_sub(w, x0, b, f0);
     let linear = field::mul_sub(w, x0, e, b);
     let square = field::mul_sub(w, x0, d, e);
     [constant, linear, square, d]
@@ -69,13 +61,13 @@ pub fn through(w: Width, c: usize, x: &[u32], y: &[u32]) -> [u32; 4]
     ensures { (result ≡ pad 4 (interpolate (prime_of w) (take c x.now) (take c y.now))) × Residues (prime_of w) result }
 {
     if c == 4 {
-        return cubic(w, x[0], x[1], x[2], x[3], y[0], y[1], y[2], y[3]);
+        return cubic(w, [x[0], x[1], x[2], x[3]], [y[0], y[1], y[2], y[3]]);
     }
     if c == 3 {
-        return square(w, x[0], x[1], x[2], y[0], y[1], y[2]);
+        return square(w, [x[0], x[1], x[2]], [y[0], y[1], y[2]]);
     }
     if c == 2 {
-        return line(w, x[0], x[1], y[0], y[1]);
+        return line(w, [x[0], x[1]], [y[0], y[1]]);
     }
     if c == 1 {
         return [y[0], 0, 0, 0];

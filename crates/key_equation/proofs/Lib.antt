@@ -2,6 +2,7 @@ pub mod Mixing
 pub mod Solving
 mod Loops
 mod Parts
-mod Stepping
 mod Rooting
 mod Starting
+mod Stepping
+mod Turns

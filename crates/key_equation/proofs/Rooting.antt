@@ -8,7 +8,6 @@ use native.Mathlib.Decide.{ℕ_discrete}
 use native.Mathlib.Nat.{zero-mod}
 use native.Mathlib.Omega.{arith}
 use lib.ListN.{length, get_or, take, drop, set}
-use lib.Seq.{take_all}
 use Rattle.lists.proofs.All.{all-get_or}
 use Rattle.field.specs.Arithmetic.{Prime, add, sub, mul}
 use Rattle.field.proofs.Ring.{zero-add, mul-zero}
@@ -77,9 +76,6 @@ module _ (p : ℕ) (P : Prime p) (xs : List ℕ) (points : Residues p xs) where
   rooting-start (c ∷ out) l = record { within = omega arith; size = l; roots = roots-none }
 
   module _ (out : List ℕ) (k : ℕ) (r : Rooting p xs out k) (more : k < length xs) where
-    pub rooting-point : get_or xs k 0 < p
-    rooting-point = point k more
-
     pub rooting-lent : Residues p (front (take (k + 2) out)) × (k + 2 ≤ length out)
     rooting-lent =
         let two : k + 2 ≡ suc (suc k) = omega arith in
@@ -100,9 +96,3 @@ module _ (p : ℕ) (P : Prime p) (xs : List ℕ) (points : Residues p xs) where
           size = back-size (suc (suc k)) out part inside size ∙ r.size;
           roots = subst (Roots p xs (suc k)) (sym front-is) (roots-next (take (suc k) out) k more r.roots);
         })
-
-  pub rooting-end : (out : List ℕ) (k : ℕ) → Rooting p xs out k → length xs ≤ k → Roots p xs (length xs) out
-  rooting-end out k r done =
-      let here : k ≡ length xs = omega (arith, r.within) in
-      subst (λ l. Roots p xs (length xs) l) (take_all (suc (length xs)) out (omega (arith, r.size)))
-      (subst (λ j. Roots p xs j (take (suc j) out)) here r.roots)

@@ -1,17 +1,16 @@
 -- The start: how many points the polynomial through the first t + 1 goes through, and the pair of solutions for these.
 --   start-residues, start-through   the polynomial, in an array of four, and the first t + 1 points
---   Agreeing p xs ys f k n          the loop of `agreeing`: f goes through the first n points, which are no fewer than k
 --   solving-start                   the pair that `solve_from` starts with
 --   solved-at-once                  where that is for all points
 --   solving-end                     what the loop of `solve_from` ends with
 use mathlib.Core.Path.{◌≡◌, refl, sym, ap, subst, ◌∙◌}
-use mathlib.Core.List.{List, [], ◌∷◌, ◌++◌, map, tail, append_assoc}
-use Prim.Native.Nat.{ℕ, zero, suc, ◌+◌, ◌-◌, ◌<◌, ◌≤◌}
-use native.Mathlib.Decide.{ℕ_discrete}
+use mathlib.Core.List.{List, [], ◌∷◌, ◌++◌, append_assoc}
+use Prim.Native.Nat.{ℕ, suc, ◌+◌, ◌-◌, ◌<◌, ◌≤◌}
 use native.Mathlib.Nat.{mod-eq_of_lt}
 use native.Mathlib.Omega.{arith}
-use lib.ListN.{length, get_or, take, drop, replicate, length-append, length-drop, length-replicate}
+use lib.ListN.{length, get_or, take, drop, replicate, length-append, length-replicate}
 use lib.Seq.{length-take-le, take_at, get_or-take}
+use Rattle.std.proofs.lemmas.List.{take-replicate, get_or-map}
 use Rattle.lists.specs.Tabulate.{pad}
 use Rattle.lists.proofs.Padded.{four}
 use Rattle.lists.proofs.All.{all-get_or, all_take, all_append, distinct-take}
@@ -22,42 +21,13 @@ use Rattle.polynomial.proofs.Below.{zeros-residues}
 use Rattle.polynomial.proofs.Division.{value-alone, value-zeros}
 use Rattle.interpolation.specs.Interpolation.{interpolate}
 use Rattle.interpolation.proofs.Interpolation.{interpolate-poly, interpolate-values}
-use Rattle.key_equation.specs.Solving.{Through, Solution, Solutions, Solving, Roots}
+use Rattle.key_equation.specs.Solving.{Through, Solution, Solutions, Roots}
+use Rattle.key_equation.specs.Partial.{numerator_of, locator_of, Solving}
+use Rattle.key_equation.specs.declared.Partial.{Partial}
 use Rattle.key_equation.specs.Solved.{Solved}
-use Rattle.key_equation.proofs.Mixing.{get_or-tail}
 use Rattle.key_equation.proofs.Rooting.{roots_of, roots-of}
 
--- ---- how many points it goes through
--- f goes through the first n points, which are no fewer than k.
-pub record Agreeing (p : ℕ) (xs ys f : List ℕ) (k n : ℕ) : Type 0 where
-  pub least : k ≤ n
-  pub within : n ≤ length xs
-  pub through : Through p xs ys n f
-
-pub agreeing-next : (p : ℕ) (xs ys f : List ℕ) (k n : ℕ) → Agreeing p xs ys f k n → n < length xs
-    → value p f (get_or xs n 0) ≡ get_or ys n 0 → Agreeing p xs ys f k (n + 1)
-agreeing-next p xs ys f k n a more e = record {
-  least = omega (arith, a.least);
-  within = omega arith;
-  through = λ j h.
-      elim (ℕ_discrete j n) [
-        | yes i ↦ subst (λ i. value p f (get_or xs i 0) ≡ get_or ys i 0) (sym i) e
-        | no i ↦ a.through j (omega arith)
-      ];
-}
-
 -- ---- the polynomial through the first t + 1 points
--- Zeros in front of zeros.
-take-zeros : (n m : ℕ) → n ≤ m → take n (replicate {A = ℕ} m 0) ≡ replicate n 0
-take-zeros zero m h = refl
-take-zeros (suc n) zero h = absurd (omega arith)
-take-zeros (suc n) (suc m) h = ap (λ l. 0 ∷ l) (take-zeros n m (omega arith))
-
-mapped : (g : ℕ → ℕ) (xs ys : List ℕ) → map g xs ≡ ys → (j : ℕ) → j < length xs → g (get_or xs j 0) ≡ get_or ys j 0
-mapped g [] ys e j h = absurd (omega arith)
-mapped g (x ∷ xs) ys e zero h = ap (λ l. get_or l 0 0) e
-mapped g (x ∷ xs) ys e (suc j) h = mapped g xs (tail ys) (ap tail e) j (omega arith) ∙ get_or-tail ys j
-
 module _ (p : ℕ) (P : Prime p) (t : ℕ) (low : t ≤ 3) (xs ys : List ℕ) (points : Points p xs) (values : Residues p ys)
     (l : length xs ≡ length ys) (enough : t + 1 ≤ length xs) where
   abbrev px : List ℕ
@@ -84,10 +54,10 @@ module _ (p : ℕ) (P : Prime p) (t : ℕ) (low : t ≤ 3) (xs ys : List ℕ) (p
   first-value : (j : ℕ) → j < suc t → value p first (get_or xs j 0) ≡ get_or ys j 0
   first-value j h =
       ap (value p first) (sym (get_or-take (suc t) xs j 0 h))
-      ∙ mapped (value p first) px py
+      ∙ sym (get_or-map (value p first) px j 0 0 (omega (arith, size-x)))
+      ∙ ap (λ l. get_or l j 0)
       (interpolate-values p P px py (all_take (λ c. c < p) (suc t) xs points.0, distinct-take (suc t) xs points.1)
       (all_take (λ c. c < p) (suc t) ys values) (size-x ∙ sym size-y))
-      j (omega (arith, size-x))
       ∙ get_or-take (suc t) ys j 0 h
 
   -- In an array of four.
@@ -158,7 +128,7 @@ module _ (p : ℕ) (P : Prime p) (t : ℕ) (low : t ≤ 3) (xs ys : List ℕ) (p
       array = get_or f 0 0 ∷ get_or f 1 0 ∷ get_or f 2 0 ∷ get_or f 3 0 ∷ replicate 8 0
 
       -- In front of an array of twelve.
-      front-first : take (suc t) (get_or f 0 0 ∷ get_or f 1 0 ∷ get_or f 2 0 ∷ get_or f 3 0 ∷ replicate 8 0) ≡ first
+      front-first : take (suc t) array ≡ first
       front-first =
           ap (λ z. take (suc t) (z ++ replicate 8 0)) (four f start-size ∙ padded)
           ∙ ap (take (suc t)) (append_assoc first (replicate (4 - length first) 0) (replicate 8 0))
@@ -172,30 +142,34 @@ module _ (p : ℕ) (P : Prime p) (t : ℕ) (low : t ≤ 3) (xs ys : List ℕ) (p
         top = r.top;
       }
 
-      -- In front of the four lists.
+      -- In front of their arrays.
       pub solving-start : (part : List ℕ) → length xs ≤ t + 7 → Roots p (take k xs) (length (take k xs)) part
-          → Solving p t xs ys k k (part ++ drop (k + 1) (replicate 12 0)) (replicate 8 0)
-          (get_or f 0 0 ∷ get_or f 1 0 ∷ get_or f 2 0 ∷ get_or f 3 0 ∷ replicate 8 0) (1 ∷ replicate 7 0)
+          → Solving p t xs ys k (record {
+            numerator = part ++ drop (k + 1) (replicate 12 0);
+            locator = replicate 8 0;
+            numerator_len = k + 1;
+            locator_len = k - t;
+          }) (record { numerator = array; locator = 1 ∷ replicate 7 0; numerator_len = t + 1; locator_len = 1 })
       solving-start part most r =
-          let left : k - k ≡ 0 = omega arith in
           let one : k + 1 ≡ suc k = omega arith in
-          let none : 0 + t ≡ t = omega arith in
+          let two : t + 1 ≡ suc t = omega arith in
           let roots : Roots p xs k part = roots-within part (subst (λ n. Roots p (take k xs) n part) (length-take-le k xs within) r) in
           record {
-            room_q1 =
-                length-append part (drop (k + 1) (replicate 12 0))
-                ∙ omega (arith, roots.poly.size, length-drop (k + 1) (replicate {A = ℕ} 12 0));
-            room_e1 = refl;
-            room_q2 = refl;
-            room_e2 = refl;
+            a = k;
+            b = 0;
+            first_numerator = one;
+            first_locator = refl;
+            second_numerator = omega arith;
+            second_locator = refl;
             pair =
-                rw (left, none)
-                (subst (λ z. Solutions p t xs ys k k 0 z (take (k - t) (replicate 8 0)) (take (suc t) array) (1 ∷ []))
-                (sym (take_at part (drop (k + 1) (replicate 12 0)) (suc k) roots.poly.size))
-                (subst (λ z. Solutions p t xs ys k k 0 part z (take (suc t) array) (1 ∷ []))
-                (sym (take-zeros (k - t) 8 (omega arith)))
-                (subst (λ z. Solutions p t xs ys k k 0 part (replicate (k - t) 0) z (1 ∷ []))
-                (sym front-first) (pair-start part roots))));
+                rw (
+                  one,
+                  two,
+                  take_at part (drop (suc k) (replicate 12 0)) (suc k) roots.poly.size,
+                  take-replicate {X = ℕ} (k - t) 8 0 (omega arith),
+                  front-first,
+                )
+                (pair-start part roots);
           }
 
       -- Where these are all points, there is nothing to solve.
@@ -217,17 +191,13 @@ module _ (p : ℕ) (P : Prime p) (t : ℕ) (low : t ≤ 3) (xs ys : List ℕ) (p
       }
 
 -- ---- the end
-pub solving-end : (p t : ℕ) (xs ys : List ℕ) (k a : ℕ) (q1 e1 q2 e2 : List ℕ) → k ≤ length xs → length xs ≤ k
-    → Solving p t xs ys k a q1 e1 q2 e2
-    → Solved p t xs ys (record { numerator = q2; locator = e2; degree = k - a })
-solving-end p t xs ys k a q1 e1 q2 e2 within done s =
-    let all : k ≡ length xs = omega arith in
+pub solving-end : (p t : ℕ) (xs ys : List ℕ) (n : ℕ) (s r : Partial) → n ≡ length xs → Solving p t xs ys n s r
+    → Solved p t xs ys (record { numerator = r.numerator; locator = r.locator; degree = r.locator_len - 1 })
+solving-end p t xs ys n s r all h =
+    let b : r.locator_len - 1 ≡ h.b = omega (arith, h.second_locator) in
     record {
-      a = a;
-      first_numerator = take (suc a) q1;
-      first_locator = take (a - t) e1;
-      pair =
-          subst (λ n.
-          Solutions p t xs ys n a (k - a) (take (suc a) q1) (take (a - t) e1) (take (suc (k - a + t)) q2) (take (suc (k - a)) e2))
-          all s.pair;
+      a = h.a;
+      first_numerator = numerator_of s;
+      first_locator = locator_of s;
+      pair = rw (b, ← all, ← h.second_numerator, ← h.second_locator) h.pair;
     }

@@ -6,16 +6,14 @@
 --   Solves p xs ys k Q E           that is 0 at the first k points
 --   Through p xs ys k f            f takes the values at the first k points
 --   front l, raised p x l          a list without its last place, which is room; X − x times what stands before the room
---   Short p l, Roomy p l           at most 11 residues; these, and a last place that is room
+--   Short p l                      at most 11 residues
 --   mixed p d R g Q                d R − g Q, coefficient by coefficient
---   Held, Mixed, Met ..            what two solutions become with one point more
 --   Solution p n m xs ys k Q E     one solution: Q of n coefficients, E of m
 --   Solutions p t xs ys k a b ..   both
---   Solving p t xs ys k a ..       both in front of four lists
 --   Roots p xs k l                 l is a multiple of X − x for the first k points
--- Laws: proofs/Mixing, proofs/Solving, locator/proofs/Locating.
-use Rattle.std.specs.Prelude.{◌≡◌, Bool, true, false, ℕ, suc, ◌+◌, ◌-◌, ◌<◌, ◌≤◌, length, get_or, take, drop}
-use mathlib.Core.List.{List, [], ◌∷◌, ◌++◌, tail}
+-- What two solutions become with one point more: specs/Partial. Laws: proofs/Mixing, proofs/Solving, locator/proofs/Locating.
+use Rattle.std.specs.Prelude.{◌≡◌, ℕ, suc, ◌+◌, ◌-◌, ◌<◌, ◌≤◌, length, get_or, take}
+use mathlib.Core.List.{List, [], ◌∷◌, tail}
 use Rattle.field.specs.Arithmetic.{sub, mul}
 use Rattle.polynomial.specs.Polynomial.{Poly, Residues, value, raise}
 
@@ -27,12 +25,6 @@ front l = take (length l - 1) l
 pub record Short (p : ℕ) (l : List ℕ) : Type 0 where
   pub residues : Residues p l
   pub most : length l ≤ 11
-
--- These, and a last place that is room.
-pub record Roomy (p : ℕ) (l : List ℕ) : Type 0 where
-  pub residues : Residues p (front l)
-  pub nonempty : 0 < length l
-  pub most : length l ≤ 12
 
 module _ (p : ℕ) where
   -- Q(x) − y E(x).
@@ -56,28 +48,6 @@ module _ (p : ℕ) where
   mixed d [] g Q = []
   mixed d (r ∷ R) g Q = sub p (mul p d r) (mul p g (get_or Q 0 0)) ∷ mixed d R g (tail Q)
 
-  -- The first solution (q, e) and the second (r, f), each with a place of room, at one point more. Where the first holds there, it stays,
-  -- and the second is raised.
-  pub record Held (x y : ℕ) (q e r f q' e' r' f' : List ℕ) : Type 0 where
-    pub holds : off x y (front q) (front e) ≡ 0
-    pub first_q : q' ≡ q
-    pub first_e : e' ≡ e
-    pub second_q : r' ≡ raised x r
-    pub second_e : f' ≡ raised x f
-
-  -- Where it does not, as much of the first is taken from the second that this holds, and the first is raised.
-  pub record Mixed (x y : ℕ) (q e r f q' e' r' f' : List ℕ) : Type 0 where
-    pub differs : off x y (front q) (front e) ≡ 0 → ⊥
-    pub first_q : q' ≡ raised x q
-    pub first_e : e' ≡ raised x e
-    pub second_q : r' ≡ mixed (off x y (front q) (front e)) (front r) (off x y (front r) (front f)) (front q) ++ drop (length r - 1) r
-    pub second_e : f' ≡ mixed (off x y (front q) (front e)) (front f) (off x y (front r) (front f)) (front e) ++ drop (length f - 1) f
-
-  -- Whether the first was raised, and what became of both.
-  abbrev pub Met : ℕ → ℕ → (q e r f : List ℕ) → Bool → (q' e' r' f' : List ℕ) → Type 0
-  Met x y q e r f true q' e' r' f' = Mixed x y q e r f q' e' r' f'
-  Met x y q e r f false q' e' r' f' = Held x y q e r f q' e' r' f'
-
   -- One solution at the first k points.
   pub record Solution (n m : ℕ) (xs ys : List ℕ) (k : ℕ) (Q E : List ℕ) : Type 0 where
     pub numerator : Poly p n Q
@@ -92,14 +62,6 @@ module _ (p : ℕ) where
     pub two : Solution (suc (b + t)) (suc b) xs ys k Q2 E2
     pub top_one : get_or Q1 a 0 ≡ 0 → ⊥
     pub top_two : get_or E2 b 0 ≡ 0 → ⊥
-
-  -- The same in front of four lists, two of 12 numbers for the numerators and two of 8 for the locators.
-  pub record Solving (t : ℕ) (xs ys : List ℕ) (k a : ℕ) (q1 e1 q2 e2 : List ℕ) : Type 0 where
-    pub room_q1 : length q1 ≡ 12
-    pub room_e1 : length e1 ≡ 8
-    pub room_q2 : length q2 ≡ 12
-    pub room_e2 : length e2 ≡ 8
-    pub pair : Solutions t xs ys k a (k - a) (take (suc a) q1) (take (a - t) e1) (take (suc (k - a + t)) q2) (take (suc (k - a)) e2)
 
   -- k + 1 coefficients, a top that is not 0, and 0 at each of the first k points.
   pub record Roots (xs : List ℕ) (k : ℕ) (l : List ℕ) : Type 0 where

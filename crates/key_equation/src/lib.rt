@@ -7,8 +7,9 @@ ghost use Rattle.lists.specs.Tabulate.{pad};
 ghost use Rattle.field.specs.Modulus.{prime_of};
 ghost use Rattle.polynomial.specs.Polynomial.{Residues, Points, value};
 ghost use Rattle.interpolation.specs.Interpolation.{interpolate};
-ghost use Rattle.key_equation.specs.Solving.{off, mixed, raised, Short, Roomy, Met, Solving, Roots, Through};
+ghost use Rattle.key_equation.specs.Solving.{off, mixed, raised, Short, Roots, Through};
 ghost use Rattle.key_equation.specs.Solved.{Solved};
+ghost use Rattle.key_equation.specs.Partial.{numerator_of, locator_of, Ready, Raised, Taken, Met};
 
 use field::Width;
 
@@ -20,6 +21,24 @@ pub struct Located {
     pub degree: usize,
 }
 
+// A point that both solutions are brought up to.
+#[derive(Clone, Copy)]
+struct Point {
+    w: Width,
+    x: u32,
+    y: u32,
+    ghost residues: { (x < prime_of w) × (y < prime_of w) },
+}
+
+// A solution for the first points: in front of its arrays a numerator Q and a locator E of so many coefficients, with a place of room.
+#[derive(Clone, Copy)]
+struct Partial {
+    numerator: [u32; 12],
+    locator: [u32; 8],
+    numerator_len: usize,
+    locator_len: usize,
+}
+
 // (X − x) f, in the place of f, whose last place is room.
 fn raise(w: Width, x: u32, f: &mut [u32])
     requires { Residues (prime_of w) (take (length f.old - 1) f.old) × (x < prime_of w) × (0 < length f.old) }
@@ -27,12 +46,10 @@ fn raise(w: Width, x: u32, f: &mut [u32])
 {
     let last = f.len() - 1;
     let mut carried: u32 = 0;
-    let mut i = 0;
-    while i < last {
-        let c = f[i];
-        f[i] = field::mul_sub(w, x, c, carried);
+    for place in f[..last].iter_mut() {
+        let c = *place;
+        *place = field::mul_sub(w, x, c, carried);
         carried = c;
-        i += 1;
     }
     f[last] = carried;
 }
@@ -42,11 +59,9 @@ fn mix(w: Width, d: u32, r: &mut [u32], g: u32, q: &[u32])
     requires { Residues (prime_of w) r.old × Residues (prime_of w) q.now × (d < prime_of w) × (g < prime_of w) }
     ensures { r.new ≡ mixed (prime_of w) d r.old g q.now }
 {
-    let mut i = 0;
-    while i < r.len() {
+    for (i, place) in r.iter_mut().enumerate() {
         let c = polynomial::coefficient(q, i);
-        r[i] = field::determinant(w, d, r[i], g, c);
-        i += 1;
+        *place = field::determinant(w, d, *place, g, c);
     }
 }
 
@@ -60,120 +75,74 @@ fn remainder(w: Width, f: &[u32], x: u32) -> u32
     scheme.value
 }
 
-// Q(x) − y E(x).
-fn off(w: Width, x: u32, y: u32, q: &[u32], e: &[u32]) -> u32
-    requires { Short (prime_of w) q.now × Short (prime_of w) e.now × (x < prime_of w) × (y < prime_of w) }
-    ensures { (result ≡ off (prime_of w) x y q.now e.now) × (result < prime_of w) }
-{
-    let numerator = remainder(w, q, x);
-    let locator = remainder(w, e, x);
-    field::mul_sub(w, y, locator, numerator)
+impl Partial {
+    // Q(x) − y E(x).
+    fn off(&self, at: Point) -> u32
+        requires { Ready (prime_of at.w) self.now }
+        ensures { (result ≡ off (prime_of at.w) at.x at.y (numerator_of self.now) (locator_of self.now)) × (result < prime_of at.w) }
+    {
+        let numerator = remainder(at.w, &self.numerator[..self.numerator_len], at.x);
+        let locator = remainder(at.w, &self.locator[..self.locator_len], at.x);
+        field::mul_sub(at.w, at.y, locator, numerator)
+    }
+
+    // X − x times both polynomials.
+    fn raise(&mut self, at: Point)
+        requires { Ready (prime_of at.w) self.old }
+        ensures { Raised (prime_of at.w) at.x self.old self.new }
+    {
+        let n = self.numerator_len + 1;
+        let m = self.locator_len + 1;
+        raise(at.w, at.x, &mut self.numerator[..n]);
+        raise(at.w, at.x, &mut self.locator[..m]);
+        self.numerator_len = n;
+        self.locator_len = m;
+    }
+
+    // As much of another solution, which is off by d at the point, is taken from this one that it holds there. No inverse is taken: this
+    // one is multiplied by d first.
+    fn take_away(&mut self, at: Point, d: u32, other: &Partial)
+        requires { Ready (prime_of at.w) self.old × Ready (prime_of at.w) other.now × (d < prime_of at.w) }
+        ensures { Taken (prime_of at.w) at.x at.y d other.now self.old self.new }
+    {
+        let g = self.off(at);
+        let n = self.numerator_len;
+        let m = self.locator_len;
+        let q = &other.numerator[..other.numerator_len];
+        let e = &other.locator[..other.locator_len];
+        mix(at.w, d, &mut self.numerator[..n], g, q);
+        mix(at.w, d, &mut self.locator[..m], g, e);
+    }
 }
 
-// X − x times both polynomials of a solution, each with a place of room.
-fn raise_both(w: Width, x: u32, q: &mut [u32], e: &mut [u32])
-    requires { Roomy (prime_of w) q.old × Roomy (prime_of w) e.old × (x < prime_of w) }
-    ensures { (q.new ≡ raised (prime_of w) x q.old) × (e.new ≡ raised (prime_of w) x e.old) }
+// Two solutions brought up to one more point. Where the first holds there, the second times X − x does too; otherwise the second does less
+// as much of the first, and the first times X − x.
+fn meet(at: Point, first: &mut Partial, second: &mut Partial)
+    requires { Ready (prime_of at.w) first.old × Ready (prime_of at.w) second.old }
+    ensures { Met (prime_of at.w) at.x at.y first.old second.old first.new second.new }
 {
-    raise(w, x, q);
-    raise(w, x, e);
-}
-
-// As much of the solution (q, e), which is off by d at the point, is taken from (r, f) that this holds there. No inverse is taken: (r, f)
-// is multiplied by d first.
-fn take_away(w: Width, x: u32, y: u32, d: u32, q: &[u32], e: &[u32], r: &mut [u32], f: &mut [u32])
-    requires short { Short (prime_of w) q.now × Short (prime_of w) e.now × Short (prime_of w) r.old × Short (prime_of w) f.old }
-    requires x_bound { (x < prime_of w) × (y < prime_of w) × (d < prime_of w) }
-    ensures r_after { r.new
-        ≡ mixed (prime_of w) d r.old (off (prime_of w) x y r.old f.old) q.now }
-    ensures f_after { f.new
-        ≡ mixed (prime_of w) d f.old (off (prime_of w) x y r.old f.old) e.now }
-{
-    let g = off(w, x, y, r, f);
-    mix(w, d, r, g, q);
-    mix(w, d, f, g, e);
-}
-
-// Two solutions, (q, e) and (r, f), each with a place of room, brought up to one more point. Where the first holds there, the second times
-// X − x does too; otherwise the second does less as much of the first, and the first times X − x. Answers whether the first was
-// multiplied by X − x.
-fn meet(
-    w: Width,
-    x: u32,
-    y: u32,
-    q: &mut [u32],
-    e: &mut [u32],
-    r: &mut [u32],
-    f: &mut [u32],
-) -> bool
-    requires roomy { Roomy (prime_of w) q.old × Roomy (prime_of w) e.old × Roomy (prime_of w) r.old × Roomy (prime_of w) f.old }
-    requires x_bound { (x < prime_of w) × (y < prime_of w) }
-    ensures { Met (prime_of w) x y q.old e.old r.old f.old result
-        q.new e.new r.new f.new }
-{
-    let nq = q.len() - 1;
-    let ne = e.len() - 1;
-    let d = off(w, x, y, &q[..nq], &e[..ne]);
+    let d = first.off(at);
     if d == 0 {
-        raise_both(w, x, r, f);
-        return false;
+        second.raise(at);
+        return;
     }
-    let nr = r.len() - 1;
-    let nf = f.len() - 1;
-    take_away(w, x, y, d, &q[..nq], &e[..ne], &mut r[..nr], &mut f[..nf]);
-    raise_both(w, x, q, e);
-    true
+    second.take_away(at, d, first);
+    first.raise(at);
 }
 
-// Both solutions, the first of degree a, brought up to the point at place k: the one with the lower degree is taken from the other, which
-// so keeps its own. Answers the first solution's degree.
-fn step(
-    w: Width,
-    t: usize,
-    k: usize,
-    a: usize,
-    xs: &[u32],
-    ys: &[u32],
-    q1: &mut [u32],
-    e1: &mut [u32],
-    q2: &mut [u32],
-    e2: &mut [u32],
-) -> usize
-    requires t_bound { (t ≤ 3) × (k ≤ t + 6) × (k < length xs.now) × (k < length ys.now)
-        × Residues (prime_of w) xs.now × Residues (prime_of w) ys.now }
-    requires solving { Solving (prime_of w) t xs.now ys.now k a q1.old e1.old q2.old e2.old }
-    ensures { Solving (prime_of w) t xs.now ys.now (k + 1) result
-        q1.new e1.new q2.new e2.new }
+// Two solutions brought up to one more point: the one with the shorter numerator is taken from the other, which so keeps its degree.
+fn step(at: Point, first: &mut Partial, second: &mut Partial)
+    requires { Ready (prime_of at.w) first.old × Ready (prime_of at.w) second.old }
+    ensures shorter { first.old.numerator_len ≤ second.old.numerator_len
+        → Met (prime_of at.w) at.x at.y first.old second.old first.new second.new }
+    ensures longer { second.old.numerator_len < first.old.numerator_len
+        → Met (prime_of at.w) at.x at.y second.old first.old second.new first.new }
 {
-    let b = k - a;
-    let x = xs[k];
-    let y = ys[k];
-    if a <= b + t {
-        if meet(
-            w,
-            x,
-            y,
-            &mut q1[..a + 2],
-            &mut e1[..a - t + 1],
-            &mut q2[..b + t + 2],
-            &mut e2[..b + 2],
-        ) {
-            return a + 1;
-        }
-        return a;
+    if first.numerator_len <= second.numerator_len {
+        meet(at, first, second);
+        return;
     }
-    if meet(
-        w,
-        x,
-        y,
-        &mut q2[..b + t + 2],
-        &mut e2[..b + 2],
-        &mut q1[..a + 2],
-        &mut e1[..a - t + 1],
-    ) {
-        return a;
-    }
-    a + 1
+    meet(at, second, first);
 }
 
 // The product of X − x for all points.
@@ -182,10 +151,8 @@ fn roots(w: Width, xs: &[u32], out: &mut [u32])
     ensures { Roots (prime_of w) xs.now (length xs.now) out.new }
 {
     out[0] = 1;
-    let mut k = 0;
-    while k < xs.len() {
-        raise(w, xs[k], &mut out[..k + 2]);
-        k += 1;
+    for (k, x) in xs.iter().enumerate() {
+        raise(w, *x, &mut out[..k + 2]);
     }
 }
 
@@ -195,14 +162,13 @@ fn agreeing(w: Width, k: usize, f: [u32; 4], xs: &[u32], ys: &[u32]) -> usize
     requires through { Through (prime_of w) xs.now ys.now k f }
     ensures { (k ≤ result) × (result ≤ length xs.now) × Through (prime_of w) xs.now ys.now result f }
 {
-    let mut n = k;
-    while n < xs.len() {
-        if !field::is_cubic_value(w, f[0], f[1], f[2], f[3], xs[n], ys[n]) {
-            return n;
+    let [f0, f1, f2, f3] = f;
+    for (n, (x, y)) in xs[k..].iter().zip(&ys[k..]).enumerate() {
+        if !field::is_cubic_value(w, f0, f1, f2, f3, *x, *y) {
+            return k + n;
         }
-        n += 1;
     }
-    n
+    xs.len()
 }
 
 // The second solution for all points. The start has the first k: f goes through them, so that the locator 1 holds there; and their product
@@ -214,21 +180,28 @@ fn solve_from(w: Width, t: usize, k: usize, f: [u32; 4], xs: &[u32], ys: &[u32])
     requires through { Through (prime_of w) xs.now ys.now k f }
     ensures { Solved (prime_of w) t xs.now ys.now result }
 {
-    let mut q1 = [0u32; 12];
-    let mut e1 = [0u32; 8];
-    let mut q2 = [f[0], f[1], f[2], f[3], 0, 0, 0, 0, 0, 0, 0, 0];
-    let mut e2 = [1, 0, 0, 0, 0, 0, 0, 0];
-    roots(w, &xs[..k], &mut q1[..k + 1]);
-    let mut a = k;
-    let mut n = k;
-    while n < xs.len() {
-        a = step(w, t, n, a, xs, ys, &mut q1, &mut e1, &mut q2, &mut e2);
-        n += 1;
+    let mut product = [0u32; 12];
+    roots(w, &xs[..k], &mut product[..k + 1]);
+    let mut first = Partial {
+        numerator: product,
+        locator: [0; 8],
+        numerator_len: k + 1,
+        locator_len: k - t,
+    };
+    let mut second = Partial {
+        numerator: [f[0], f[1], f[2], f[3], 0, 0, 0, 0, 0, 0, 0, 0],
+        locator: [1, 0, 0, 0, 0, 0, 0, 0],
+        numerator_len: t + 1,
+        locator_len: 1,
+    };
+    for (x, y) in xs[k..].iter().zip(&ys[k..]) {
+        let at = Point { w, x: *x, y: *y };
+        step(at, &mut first, &mut second);
     }
     Located {
-        numerator: q2,
-        locator: e2,
-        degree: n - a,
+        numerator: second.numerator,
+        locator: second.locator,
+        degree: second.locator_len - 1,
     }
 }
 

@@ -18,6 +18,7 @@ use Rattle.lamp.specs.declared.Lamp.{Lamp}
 use Rattle.lamp.specs.declared.Reply.{Reply}
 use Rattle.lamp.specs.Lamp.{report_from, with_report, with_pairs, reply}
 use Rattle.lamp.proofs.Outcomes.{every_second, bits, heard-apart}
+use Rattle.std.specs.Prelude.{Ok}
 
 -- ---- one list
 pub record Written (f : ℕ → ℕ) (out₀ out : List ℕ) (k : ℕ) : Type 0 where
@@ -125,8 +126,8 @@ module _ (l : Lamp) (hs p q : List ℕ) (h : l.party.n ≤ 16) where
   over part = part ++ drop l.party.n (zeros 16)
 
   pub heard-parted : (p ≡ every_second lent 0 hs) × (q ≡ every_second lent 1 hs) → (r : Reply) (b : ℕ)
-      → r ≡ reply (with_report l (over p) b) (Report b) → b ≡ bits l hs (over p) (over q)
-      → r ≡ reply (with_pairs l hs) (Report (report_from l hs))
+      → r ≡ reply (with_report l (over p) b) (Ok (Report b)) → b ≡ bits l hs (over p) (over q)
+      → r ≡ reply (with_pairs l hs) (Ok (Report (report_from l hs)))
   heard-parted e r b told same =
-      told ∙ ap (λ x. reply (with_report l (over p) x) (Report x)) same
+      told ∙ ap (λ x. reply (with_report l (over p) x) (Ok (Report x))) same
       ∙ heard-apart l hs (over p) (over q) (apart-padded l.party.n 0 hs p h e.0) (apart-padded l.party.n 1 hs q h e.1)

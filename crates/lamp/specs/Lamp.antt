@@ -27,19 +27,15 @@ use Rattle.answers.specs.declared.Stage.TheVariants.{Waiting, Dealt, Reported, H
 use Rattle.answers.specs.declared.Refusal.{Refusal}
 use Rattle.answers.specs.declared.Refusal.TheVariants.{WrongSize, WrongNumber, WrongLength, WrongStage, AlteredReport, DealerRejected}
 use Rattle.answers.specs.declared.Refusal.TheVariants.{NoColumn, NoOpening, WrongTable, WrongWidth}
-use Rattle.answers.specs.declared.Answer.{Answer}
-use Rattle.answers.specs.declared.Answer.TheVariants.{Done, Pair, Report, Accepted, Opened, Refused}
-use Rattle.answers.specs.declared.Admission.{Admission}
-use Rattle.answers.specs.declared.Admission.TheVariants.{Pass, Fail}
-use Rattle.answers.specs.declared.Decoding.{Decoding}
-use Rattle.answers.specs.declared.Decoding.TheVariants as decoding
-use Rattle.answers.specs.Refusals.{Test, lowest}
-use Rattle.answers.specs.Answers.{stage_number}
-use Rattle.answers.specs.Fits.{constant}
+use Rattle.answers.specs.declared.Answer.TheVariants.{Done, Pair, Report, Accepted, Opened}
+use Rattle.answers.specs.Refusals.{Test, lowest, Admission}
+use Rattle.answers.specs.Answers.{stage_number, Answered}
+use Rattle.answers.specs.Fits.{constant, Fitted}
 use Rattle.lamp.specs.declared.Party.{Party}
 use Rattle.lamp.specs.declared.Sharing.{Sharing}
 use Rattle.lamp.specs.declared.Lamp.{Lamp}
 use Rattle.lamp.specs.declared.Reply.{Reply}
+use Rattle.std.specs.Prelude.{Some, None, Ok, Err}
 
 -- A lamp that nothing was done with, with its table in an array.
 abbrev pub waiting : Width → ℕ → ℕ → ℕ → List ℕ → Lamp
@@ -80,17 +76,17 @@ pub record Valid (a : Party) : Type 0 where
 
 -- ---- replies
 
-abbrev pub reply : Lamp → Answer → Reply
+abbrev pub reply : Lamp → Answered → Reply
 reply l a = record { lamp = l; answer = a }
 
 -- A refusal that leaves the lamp as it is.
 abbrev pub refuse : Lamp → Refusal → Reply
-refuse l why = reply l (Refused why)
+refuse l why = reply l (Err why)
 
 -- The reply r, unless the call is refused.
 abbrev pub guard : Lamp → Admission → Reply → Reply
-guard l Pass r = r
-guard l (Fail why) r = refuse l why
+guard l (Ok tt) r = r
+guard l (Err why) r = refuse l why
 
 -- ---- the tests
 
@@ -202,14 +198,14 @@ at_end l s S v = record {
 
 -- A party outside the happy set holds the constant of its repaired column; where none fits it is closed with 9.
 abbrev pub repaired : Lamp → ℕ → Option (List ℕ) → Reply
-repaired l S none = reply (at_end l Closed S 0) (Refused NoColumn)
-repaired l S (some f) = reply (at_end l Holding S (constant f)) Accepted
+repaired l S none = reply (at_end l Closed S 0) (Err NoColumn)
+repaired l S (some f) = reply (at_end l Holding S (constant f)) (Ok Accepted)
 
 -- The same by what the repair answers; of legal sizes and a happy set it is not refused.
-abbrev pub repaired_by : Lamp → ℕ → Decoding → ℕ → Reply
-repaired_by l S decoding.Found v = reply (at_end l Holding S v) Accepted
-repaired_by l S decoding.Nothing v = reply (at_end l Closed S 0) (Refused NoColumn)
-repaired_by l S (decoding.Refused why) v = refuse l why
+abbrev pub repaired_by : Lamp → ℕ → Fitted → Reply
+repaired_by l S (Ok (Some f)) = reply (at_end l Holding S (constant f)) (Ok Accepted)
+repaired_by l S (Ok None) = reply (at_end l Closed S 0) (Err NoColumn)
+repaired_by l S (Err why) = refuse l why
 
 -- Below n − t ones the dealer is rejected; a happy party's share is its column's constant.
 unfoldable pub settled : Lamp → ℕ → Reply
@@ -217,8 +213,8 @@ settled l S =
     let column = repair (its_prime l.party) l.party.n l.party.t (table_of l.party) S l.sharing.heard in
     let mended = repaired l S column in
     cond (leb (l.party.n - l.party.t) (ones S))
-    (cond (member S l.party.number) (reply (at_end l Holding S (constant (column_of_lamp l))) Accepted) mended)
-    (reply (at_end l Closed 0 0) (Refused DealerRejected))
+    (cond (member S l.party.number) (reply (at_end l Holding S (constant (column_of_lamp l))) (Ok Accepted)) mended)
+    (reply (at_end l Closed 0 0) (Err DealerRejected))
 
 -- ---- 5. opening
 
@@ -230,13 +226,13 @@ opening l xs =
 
 abbrev pub opened : Lamp → Option (List ℕ) → Reply
 opened l none = refuse l NoOpening
-opened l (some f) = reply l (Opened (constant f))
+opened l (some f) = reply l (Ok (Opened (constant f)))
 
 -- The same by what the opening answers.
-abbrev pub opened_by : Lamp → Decoding → ℕ → Reply
-opened_by l decoding.Found v = reply l (Opened v)
-opened_by l decoding.Nothing v = refuse l NoOpening
-opened_by l (decoding.Refused why) v = refuse l why
+abbrev pub opened_by : Lamp → Fitted → Reply
+opened_by l (Ok (Some f)) = reply l (Ok (Opened (constant f)))
+opened_by l (Ok None) = refuse l NoOpening
+opened_by l (Err why) = refuse l why
 
 -- ---- the calls
 
@@ -269,9 +265,9 @@ tests l (open_shares w xs) =
 
 -- The reply where every test passes.
 abbrev pub outcome : Lamp → Call → Reply
-outcome l (take_deal w d) = reply (with_deal l d) Done
-outcome l (say_pair j) = reply l (Pair (said_pair l j).0 (said_pair l j).1)
-outcome l (hear_pairs w hs) = reply (with_pairs l hs) (Report (report_from l hs))
+outcome l (take_deal w d) = reply (with_deal l d) (Ok Done)
+outcome l (say_pair j) = reply l (Ok (Pair (said_pair l j).0 (said_pair l j).1))
+outcome l (hear_pairs w hs) = reply (with_pairs l hs) (Ok (Report (report_from l hs)))
 outcome l (settle rs) =
     let done = settled l (happy_set rs) in
     cond (eqb (entry rs l.party.number) l.sharing.report) done (refuse l AlteredReport)
@@ -283,7 +279,7 @@ step l c = let r = outcome l c in guard l (lowest (tests l c)) r
 
 -- The lamp as made, unless it is refused, with a state all the same.
 abbrev pub made_by : Lamp → Admission → Reply
-made_by l a = guard l a (reply l Done)
+made_by l a = guard l a (reply l (Ok Done))
 
 -- Making: 1 or 2 for a bad size or number, 3 or 14 for a bad table, with a state all the same.
 unfoldable pub make_with : Width → ℕ → ℕ → ℕ → List ℕ → Reply

@@ -8,19 +8,20 @@ mod opening;
 mod reporting;
 mod settling;
 
-ghost use Rattle.std.specs.Prelude.{◌≡◌};
+ghost use Rattle.std.specs.Prelude.{◌≡◌, map};
 ghost use Rattle.field.specs.declared.Width.TheVariants.{Narrow, Wide};
 ghost use Rattle.lamp.specs.Lamp.{make, make_with, refuse, step};
 ghost use Rattle.lamp.specs.Lamp.{take_deal, say_pair, hear_pairs, settle, open_shares};
 
-use admission::{hearing, is_stage, lent, revealing, saying, taking};
-use answers::{Admission, Answer, Refusal, Stage};
-use dealing::{dealt, dealt_wide, said_pair};
+use admission::{is_at, lent, lent_in, saying};
+use answers::{Answer, Refusal, Stage};
+use arrays::Number;
+use dealing::{dealt, said};
 use field::Width;
 use made::{made_plain, made_with};
-use opening::{opened, opened_wide};
+use opening::opened;
 use recovery::Decoder;
-use reporting::{heard, heard_wide};
+use reporting::heard;
 use settling::settled;
 
 // Who a lamp is: its numbers have 16 bits or 32, and the first n of the table are the parties' points.
@@ -52,148 +53,136 @@ pub struct Lamp {
     pub sharing: Sharing,
 }
 
+// A lamp after a call, and what the call gives, or why it is refused.
 #[derive(Clone, Copy)]
 pub struct Reply {
     pub lamp: Lamp,
-    pub answer: Answer,
+    pub answer: Result<Answer, Refusal>,
 }
 
 fn refuse(lamp: Lamp, why: Refusal) -> Reply
     ensures { result ≡ refuse lamp why }
 {
     Reply {
-        lamp: lamp,
-        answer: Answer::Refused(why),
+        lamp,
+        answer: Err(why),
     }
 }
 
+// What lends numbers of the field is written once, for numbers of 16 bits and of 32; the calls of these names alone lend the former, those
+// named wide the latter.
 impl Lamp {
     // A lamp for n, t and its number, waiting, with the parties' points in a table. A bad size, number or table is answered, and refused
     // again at every call.
+    pub fn make_in_with<N: Number>(n: u8, t: u8, number: u8, table: &[N]) -> Reply
+        ensures { result ≡ make_with N.WIDTH n t number (map N.value table.now) }
+    {
+        let kept = tables::in_array(n, table);
+        made_with(N::WIDTH, n, t, number, kept, table.len() == n as usize)
+    }
+
     pub fn make_with(n: u8, t: u8, number: u8, table: &[u16]) -> Reply
         ensures { result ≡ make_with Narrow n t number table.now }
     {
-        let kept = tables::in_array(n, table);
-        made_with(Width::Narrow, n, t, number, kept, table.len() == n as usize)
+        Lamp::make_in_with(n, t, number, table)
     }
 
-    // The same for numbers of 32 bits.
     pub fn make_wide_with(n: u8, t: u8, number: u8, table: &[u32]) -> Reply
         ensures { result ≡ make_with Wide n t number table.now }
     {
-        let kept = tables::in_array_wide(n, table);
-        made_with(Width::Wide, n, t, number, kept, table.len() == n as usize)
+        Lamp::make_in_with(n, t, number, table)
     }
 
     // The same at the points 1 to n.
+    pub fn make_in<N: Number>(n: u8, t: u8, number: u8) -> Reply
+        ensures { result ≡ make N.WIDTH n t number }
+    {
+        made_plain(N::WIDTH, n, t, number)
+    }
+
     pub fn make(n: u8, t: u8, number: u8) -> Reply
         ensures { result ≡ make Narrow n t number }
     {
-        made_plain(Width::Narrow, n, t, number)
+        Lamp::make_in::<u16>(n, t, number)
     }
 
-    // The same for numbers of 32 bits.
     pub fn make_wide(n: u8, t: u8, number: u8) -> Reply
         ensures { result ≡ make Wide n t number }
     {
-        made_plain(Width::Wide, n, t, number)
+        Lamp::make_in::<u32>(n, t, number)
     }
 
-    // Takes a deal of numbers of 16 bits.
+    // Takes a deal.
+    pub fn take_deal_in<N: Number>(self, deal: &[N]) -> Reply
+        ensures { result ≡ step self (take_deal N.WIDTH (map N.value deal.now)) }
+    {
+        let fits = deal.len() == 2 * (self.party.t as usize + 1);
+        let takes = is_at(self.sharing.stage, Stage::Waiting);
+        match lent_in(N::WIDTH, self.party, fits, takes) {
+            Err(why) => refuse(self, why),
+            Ok(()) => dealt(self, deal),
+        }
+    }
+
     pub fn take_deal(self, deal: &[u16]) -> Reply
         ensures { result ≡ step self (take_deal Narrow deal.now) }
     {
-        let party = self.party;
-        let sharing = self.sharing;
-        let stage = sharing.stage;
-        let admitted = taking(Width::Narrow, party, stage, deal.len());
-        match admitted {
-            Admission::Fail(why) => refuse(self, why),
-            Admission::Pass => dealt(self, deal),
-        }
+        self.take_deal_in(deal)
     }
 
-    // The same of numbers of 32 bits.
     pub fn take_deal_wide(self, deal: &[u32]) -> Reply
         ensures { result ≡ step self (take_deal Wide deal.now) }
     {
-        let party = self.party;
-        let sharing = self.sharing;
-        let stage = sharing.stage;
-        let admitted = taking(Width::Wide, party, stage, deal.len());
-        match admitted {
-            Admission::Fail(why) => refuse(self, why),
-            Admission::Pass => dealt_wide(self, deal),
-        }
+        self.take_deal_in(deal)
     }
 
     // The lamp's pair for party j, from the deal on at every stage; the lamp is not changed.
     pub fn say_pair(self, j: u8) -> Reply
         ensures { result ≡ step self (say_pair j) }
     {
-        let party = self.party;
-        let sharing = self.sharing;
-        let stage = sharing.stage;
-        let named = parties::is_party(party.n, j);
-        let admitted = saying(party, named, !is_stage(stage, Stage::Waiting));
-        match admitted {
-            Admission::Fail(why) => refuse(self, why),
-            Admission::Pass => {
-                let row = sharing.row;
-                let column = sharing.column;
-                let table = party.table;
-                let width = party.width;
-                let pair = said_pair(width, party.n, party.t, table, party.number, row, column, j);
-                Reply {
-                    lamp: self,
-                    answer: pair,
-                }
-            }
+        let named = parties::is_party(self.party.n, j);
+        let takes = !is_at(self.sharing.stage, Stage::Waiting);
+        match saying(self.party, named, takes) {
+            Err(why) => refuse(self, why),
+            Ok(()) => said(self, j),
         }
     }
 
     // Hears n pairs in party order and answers the report, which the lamp keeps.
-    pub fn hear_pairs(self, pairs: &[u16]) -> Reply
-        ensures { result ≡ step self (hear_pairs Narrow pairs.now) }
+    pub fn hear_pairs_in<N: Number>(self, pairs: &[N]) -> Reply
+        ensures { result ≡ step self (hear_pairs N.WIDTH (map N.value pairs.now)) }
     {
-        let party = self.party;
-        let sharing = self.sharing;
-        let stage = sharing.stage;
-        let admitted = hearing(Width::Narrow, party, stage, pairs.len());
-        match admitted {
-            Admission::Fail(why) => refuse(self, why),
-            Admission::Pass => heard(self, pairs),
+        let fits = pairs.len() == 2 * self.party.n as usize;
+        let takes = is_at(self.sharing.stage, Stage::Dealt);
+        match lent_in(N::WIDTH, self.party, fits, takes) {
+            Err(why) => refuse(self, why),
+            Ok(()) => heard(self, pairs),
         }
     }
 
-    // The same of numbers of 32 bits.
+    pub fn hear_pairs(self, pairs: &[u16]) -> Reply
+        ensures { result ≡ step self (hear_pairs Narrow pairs.now) }
+    {
+        self.hear_pairs_in(pairs)
+    }
+
     pub fn hear_pairs_wide(self, pairs: &[u32]) -> Reply
         ensures { result ≡ step self (hear_pairs Wide pairs.now) }
     {
-        let party = self.party;
-        let sharing = self.sharing;
-        let stage = sharing.stage;
-        let admitted = hearing(Width::Wide, party, stage, pairs.len());
-        match admitted {
-            Admission::Fail(why) => refuse(self, why),
-            Admission::Pass => heard_wide(self, pairs),
-        }
+        self.hear_pairs_in(pairs)
     }
 
     // Settles on n reports: rejects the dealer, or holds a share.
     pub fn settle(self, reports: &[u16]) -> Reply
         ensures { result ≡ step self (settle reports.now) }
     {
-        let party = self.party;
-        let sharing = self.sharing;
-        let stage = sharing.stage;
-        let fits = reports.len() == party.n as usize;
-        let admitted = lent(party, fits, is_stage(stage, Stage::Reported));
-        match admitted {
-            Admission::Fail(why) => refuse(self, why),
-            Admission::Pass => {
-                let place = party.number as usize - 1;
-                if reports[place] != sharing.report {
+        let fits = reports.len() == self.party.n as usize;
+        let takes = is_at(self.sharing.stage, Stage::Reported);
+        match lent(self.party, fits, takes) {
+            Err(why) => refuse(self, why),
+            Ok(()) => {
+                let place = self.party.number as usize - 1;
+                if reports[place] != self.sharing.report {
                     return refuse(self, Refusal::AlteredReport);
                 }
                 settled(self, happy::happy_set(reports))
@@ -202,31 +191,27 @@ impl Lamp {
     }
 
     // Opens n published shares, by either decoder, which answer the same; the lamp is not changed.
-    pub fn open_by(self, by: Decoder, shares: &[u16]) -> Reply
-        ensures { result ≡ step self (open_shares Narrow shares.now) }
+    pub fn open_in_by<N: Number>(self, by: Decoder, shares: &[N]) -> Reply
+        ensures { result ≡ step self (open_shares N.WIDTH (map N.value shares.now)) }
     {
-        let party = self.party;
-        let sharing = self.sharing;
-        let stage = sharing.stage;
-        let admitted = revealing(Width::Narrow, party, stage, shares.len());
-        match admitted {
-            Admission::Fail(why) => refuse(self, why),
-            Admission::Pass => opened(by, self, shares),
+        let fits = shares.len() == self.party.n as usize;
+        let takes = is_at(self.sharing.stage, Stage::Holding);
+        match lent_in(N::WIDTH, self.party, fits, takes) {
+            Err(why) => refuse(self, why),
+            Ok(()) => opened(by, self, shares),
         }
     }
 
-    // The same of numbers of 32 bits.
+    pub fn open_by(self, by: Decoder, shares: &[u16]) -> Reply
+        ensures { result ≡ step self (open_shares Narrow shares.now) }
+    {
+        self.open_in_by(by, shares)
+    }
+
     pub fn open_wide_by(self, by: Decoder, shares: &[u32]) -> Reply
         ensures { result ≡ step self (open_shares Wide shares.now) }
     {
-        let party = self.party;
-        let sharing = self.sharing;
-        let stage = sharing.stage;
-        let admitted = revealing(Width::Wide, party, stage, shares.len());
-        match admitted {
-            Admission::Fail(why) => refuse(self, why),
-            Admission::Pass => opened_wide(by, self, shares),
-        }
+        self.open_in_by(by, shares)
     }
 
     // Opens n published shares by trial, which is quicker on most lists.
@@ -236,7 +221,6 @@ impl Lamp {
         self.open_by(Decoder::Trial, shares)
     }
 
-    // The same of numbers of 32 bits.
     pub fn open_wide(self, shares: &[u32]) -> Reply
         ensures { result ≡ step self (open_shares Wide shares.now) }
     {

@@ -5,7 +5,7 @@ ghost use Rattle.lamp.specs.Lamp.{waiting, kept_tests, make, made_by};
 
 use crate::admission::{legal, making};
 use crate::{Lamp, Party, Reply, Sharing, refuse};
-use answers::{Admission, Answer, Stage};
+use answers::{Answer, Refusal, Stage};
 use field::Width;
 
 // A lamp that nothing was done with.
@@ -13,11 +13,11 @@ fn waiting(w: Width, n: u8, t: u8, number: u8, table: [u32; 16]) -> Lamp
     ensures { result ≡ waiting w n t number table }
 {
     let party = Party {
-        n: n,
-        t: t,
-        number: number,
+        n,
+        t,
+        number,
         width: w,
-        table: table,
+        table,
     };
     let sharing = Sharing {
         stage: Stage::Waiting,
@@ -28,22 +28,16 @@ fn waiting(w: Width, n: u8, t: u8, number: u8, table: [u32; 16]) -> Lamp
         happy: 0,
         share: 0,
     };
-    Lamp {
-        party: party,
-        sharing: sharing,
-    }
+    Lamp { party, sharing }
 }
 
 // The lamp, unless it is refused, with a state all the same.
-fn made_by(lamp: Lamp, admitted: Admission) -> Reply
+fn made_by(lamp: Lamp, admitted: Result<(), Refusal>) -> Reply
     ensures { result ≡ made_by lamp admitted }
 {
-    match admitted {
-        Admission::Fail(why) => refuse(lamp, why),
-        Admission::Pass => Reply {
-            lamp: lamp,
-            answer: Answer::Done,
-        },
+    Reply {
+        lamp,
+        answer: admitted.and(Ok(Answer::Done)),
     }
 }
 

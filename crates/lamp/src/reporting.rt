@@ -1,75 +1,23 @@
 // Hearing pairs: they are taken apart once; the report goes over the first numbers and the second ones, and the first are kept.
-ghost use Rattle.std.specs.Prelude.{◌≡◌, suc, ◌+◌, ◌*◌, ◌≤◌, length, take, get_or};
+ghost use Rattle.std.specs.Prelude.{◌≡◌, Ok, map, ◌+◌, ◌*◌, length, get_or};
 ghost use Rattle.lists.specs.Tabulate.{tabulate};
-ghost use Rattle.field.specs.Modulus.{prime_of};
-ghost use Rattle.polynomial.specs.Polynomial.{Residues};
 ghost use Rattle.consistency.specs.Deal.{report_by};
 ghost use Rattle.lamp.specs.Lamp.{its_prime, table_of, row_of_lamp, column_of_lamp};
 ghost use Rattle.lamp.specs.Lamp.{reply, with_report, report_from, with_pairs, Valid};
 
 use crate::{Lamp, Reply, Sharing};
 use answers::{Answer, Stage};
-use field::Width;
-
-// The report on n pairs from arrays, whose first n numbers are the table, and whose first t + 1 the row and the column.
-fn given_report(
-    w: Width,
-    n: u8,
-    t: u8,
-    table: [u32; 16],
-    i: u8,
-    row: [u32; 4],
-    column: [u32; 4],
-    firsts: &[u32],
-    seconds: &[u32],
-) -> u16
-    requires n_bound { (n ≤ 16) × (1 ≤ i) × (i ≤ n) × (t ≤ 3) × Residues (prime_of w) (take n table) }
-    requires firsts_len { (length firsts.now ≡ n) × (length seconds.now ≡ n) }
-    ensures { result ≡ report_by (prime_of w) n (take n table) i (take (suc t) row) (take (suc t) column)
-        firsts.now seconds.now }
-{
-    let terms = t as usize + 1;
-    consistency::report(
-        w,
-        n,
-        &table[..n as usize],
-        i,
-        &row[..terms],
-        &column[..terms],
-        firsts,
-        seconds,
-    )
-}
+use arrays::Number;
 
 // Writes the first numbers of the pairs and the second ones over lent lists: an array that is returned would be copied as a whole.
-fn apart(pairs: &[u16], firsts: &mut [u32], seconds: &mut [u32])
+fn apart<N: Number>(pairs: &[N], firsts: &mut [u32], seconds: &mut [u32])
     requires { (length pairs.now ≡ 2 * length firsts.old) × (length firsts.old ≡ length seconds.old) }
-    ensures { (firsts.new ≡ tabulate (λ k. get_or pairs.now (0 + 2 * k) 0) (length firsts.old))
-        × (seconds.new ≡ tabulate (λ k. get_or pairs.now (1 + 2 * k) 0) (length firsts.old)) }
+    ensures { (firsts.new ≡ tabulate (λ k. get_or (map N.value pairs.now) (0 + 2 * k) 0) (length firsts.old))
+        × (seconds.new ≡ tabulate (λ k. get_or (map N.value pairs.now) (1 + 2 * k) 0) (length firsts.old)) }
 {
-    let mut at = 0;
-    let mut k = 0;
-    while k < firsts.len() {
-        firsts[k] = arrays::wide(pairs[at]);
-        seconds[k] = arrays::wide(pairs[at + 1]);
-        at += 2;
-        k += 1;
-    }
-}
-
-// The same of numbers of 32 bits.
-fn apart_wide(pairs: &[u32], firsts: &mut [u32], seconds: &mut [u32])
-    requires { (length pairs.now ≡ 2 * length firsts.old) × (length firsts.old ≡ length seconds.old) }
-    ensures { (firsts.new ≡ tabulate (λ k. get_or pairs.now (0 + 2 * k) 0) (length firsts.old))
-        × (seconds.new ≡ tabulate (λ k. get_or pairs.now (1 + 2 * k) 0) (length firsts.old)) }
-{
-    let mut at = 0;
-    let mut k = 0;
-    while k < firsts.len() {
-        firsts[k] = pairs[at];
-        seconds[k] = pairs[at + 1];
-        at += 2;
-        k += 1;
+    for k in 0..firsts.len() {
+        firsts[k] = pairs[2 * k].wide();
+        seconds[k] = pairs[2 * k + 1].wide();
     }
 }
 
@@ -79,19 +27,16 @@ fn own_report(lamp: Lamp, firsts: &[u32], seconds: &[u32]) -> u16
     ensures { result ≡ report_by (its_prime lamp.party) lamp.party.n (table_of lamp.party) lamp.party.number
         (row_of_lamp lamp) (column_of_lamp lamp) firsts.now seconds.now }
 {
-    let row = lamp.sharing.row;
-    let column = lamp.sharing.column;
     let party = lamp.party;
-    let table = party.table;
-    let width = party.width;
-    given_report(
-        width,
+    let sharing = lamp.sharing;
+    let terms = party.t as usize + 1;
+    consistency::report(
+        party.width,
         party.n,
-        party.t,
-        table,
+        &party.table[..party.n as usize],
         party.number,
-        row,
-        column,
+        &sharing.row[..terms],
+        &sharing.column[..terms],
         firsts,
         seconds,
     )
@@ -99,56 +44,30 @@ fn own_report(lamp: Lamp, firsts: &[u32], seconds: &[u32]) -> u16
 
 // The outcome of hearing n pairs: their first numbers and the report that is given out are kept.
 fn reported(lamp: Lamp, heard: [u32; 16], bits: u16) -> Reply
-    ensures { result ≡ reply (with_report lamp heard bits) (Answer.Report bits) }
+    ensures { result ≡ reply (with_report lamp heard bits) (Ok (Answer.Report bits)) }
 {
-    let row = lamp.sharing.row;
-    let column = lamp.sharing.column;
-    let party = lamp.party;
     let sharing = Sharing {
         stage: Stage::Reported,
-        row: row,
-        column: column,
-        heard: heard,
+        heard,
         report: bits,
-        happy: lamp.sharing.happy,
-        share: lamp.sharing.share,
-    };
-    let kept = Lamp {
-        party: party,
-        sharing: sharing,
+        ..lamp.sharing
     };
     Reply {
-        lamp: kept,
-        answer: Answer::Report(bits),
+        lamp: Lamp { sharing, ..lamp },
+        answer: Ok(Answer::Report(bits)),
     }
 }
 
-// The outcome of hearing n pairs of numbers of 16 bits.
-pub(crate) fn heard(lamp: Lamp, pairs: &[u16]) -> Reply
+// The outcome of hearing n pairs.
+pub(crate) fn heard<N: Number>(lamp: Lamp, pairs: &[N]) -> Reply
     requires { Valid lamp.party × (length pairs.now ≡ 2 * lamp.party.n) }
-    ensures { result ≡ reply (with_pairs lamp pairs.now)
-        (Answer.Report (report_from lamp pairs.now)) }
+    ensures { result ≡ reply (with_pairs lamp (map N.value pairs.now))
+        (Ok (Answer.Report (report_from lamp (map N.value pairs.now)))) }
 {
-    let n = lamp.party.n;
-    let count = n as usize;
+    let count = lamp.party.n as usize;
     let mut firsts = [0u32; 16];
     let mut seconds = [0u32; 16];
     apart(pairs, &mut firsts[..count], &mut seconds[..count]);
     let bits = own_report(lamp, &firsts[..count], &seconds[..count]);
     reported(lamp, firsts, bits)
-}
-
-// The same of numbers of 32 bits.
-pub(crate) fn heard_wide(lamp: Lamp, pairs: &[u32]) -> Reply
-    requires { Valid lamp.party × (length pairs.now ≡ 2 * lamp.party.n) }
-    ensures { result ≡ reply (with_pairs lamp pairs.now)
-        (Answer.Report (report_from lamp pairs.now)) }
-{
-    let n = lamp.party.n;
-    let count = n as usize;
-    let mut firsts = [0u32; 16];
-    let mut seconds = [0u32; 16];
-    apart_wide(pairs, &mut firsts[..count], &mut seconds[..count]);
-    let report = own_report(lamp, &firsts[..count], &seconds[..count]);
-    reported(lamp, firsts, report)
 }

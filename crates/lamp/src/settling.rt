@@ -4,28 +4,18 @@ ghost use Rattle.parties.specs.Parties.{member};
 ghost use Rattle.lamp.specs.Lamp.{at_end, settled, repaired_by, Valid};
 
 use crate::{Lamp, Reply, Sharing, refuse};
-use answers::{Answer, Decoding, Refusal, Stage};
+use answers::{Answer, Fitted, Refusal, Stage};
 
 pub(crate) fn at_end(lamp: Lamp, stage: Stage, happy: u16, share: u32) -> Lamp
     ensures { result ≡ at_end lamp stage happy share }
 {
-    let row = lamp.sharing.row;
-    let column = lamp.sharing.column;
-    let heard = lamp.sharing.heard;
-    let party = lamp.party;
     let sharing = Sharing {
-        stage: stage,
-        row: row,
-        column: column,
-        heard: heard,
-        report: lamp.sharing.report,
-        happy: happy,
-        share: share,
+        stage,
+        happy,
+        share,
+        ..lamp.sharing
     };
-    Lamp {
-        party: party,
-        sharing: sharing,
-    }
+    Lamp { sharing, ..lamp }
 }
 
 // Whether party i is in the set.
@@ -37,19 +27,19 @@ pub(crate) fn member(set: u16, i: u8) -> bool
 }
 
 // The constant of the repaired column is the share of a party outside the set; where no column fits it is closed.
-fn repaired_by(lamp: Lamp, set: u16, outcome: Decoding, constant: u32) -> Reply
-    ensures { result ≡ repaired_by lamp set outcome constant }
+fn repaired_by(lamp: Lamp, set: u16, fitted: Fitted) -> Reply
+    ensures { result ≡ repaired_by lamp set fitted }
 {
-    match outcome {
-        Decoding::Found => Reply {
-            lamp: at_end(lamp, Stage::Holding, set, constant),
-            answer: Answer::Accepted,
+    match fitted {
+        Ok(Some(f)) => Reply {
+            lamp: at_end(lamp, Stage::Holding, set, f[0]),
+            answer: Ok(Answer::Accepted),
         },
-        Decoding::Nothing => Reply {
+        Ok(None) => Reply {
             lamp: at_end(lamp, Stage::Closed, set, 0),
-            answer: Answer::Refused(Refusal::NoColumn),
+            answer: Err(Refusal::NoColumn),
         },
-        Decoding::Refused(why) => refuse(lamp, why),
+        Err(why) => refuse(lamp, why),
     }
 }
 
@@ -59,25 +49,27 @@ pub(crate) fn settled(lamp: Lamp, set: u16) -> Reply
     ensures { result ≡ settled lamp set }
 {
     let party = lamp.party;
+    let sharing = lamp.sharing;
     let enough = (party.n - party.t) as u32;
     if happy::count(set) < enough {
         return Reply {
             lamp: at_end(lamp, Stage::Closed, 0, 0),
-            answer: Answer::Refused(Refusal::DealerRejected),
+            answer: Err(Refusal::DealerRejected),
         };
     }
     if member(set, party.number) {
-        let column = lamp.sharing.column;
         return Reply {
-            lamp: at_end(lamp, Stage::Holding, set, column[0]),
-            answer: Answer::Accepted,
+            lamp: at_end(lamp, Stage::Holding, set, sharing.column[0]),
+            answer: Ok(Answer::Accepted),
         };
     }
-    let heard = lamp.sharing.heard;
-    let table = party.table;
-    let width = party.width;
-    let fitted = recovery::repair(width, party.n, party.t, table, set, heard);
-    let outcome = fitted.outcome;
-    let mended = fitted.coefficients;
-    repaired_by(lamp, set, outcome, mended[0])
+    let fitted = recovery::repair(
+        party.width,
+        party.n,
+        party.t,
+        party.table,
+        set,
+        sharing.heard,
+    );
+    repaired_by(lamp, set, fitted)
 }

@@ -1,6 +1,6 @@
--- Laws of the lines: each is what the code puts in the case that applies; and how long each is at most.
-use mathlib.Core.Path.{◌≡◌, refl}
-use mathlib.Core.Bool.{Bool, true, false, cond, true≢false, false≢true}
+-- Laws of the lines: the names of the happy lamps as the code puts them; and how long each line is at most.
+use mathlib.Core.Path.{◌≡◌}
+use mathlib.Core.Bool.{Bool, true, false, cond}
 use mathlib.Core.List.{List, [], ◌∷◌, ◌++◌}
 use Prim.Native.Nat.{ℕ, zero, suc, ◌+◌, ◌*◌, ◌/◌, ◌%◌, ◌^◌, ◌≤◌, ◌<◌}
 use native.Mathlib.Nat.{pow-le-pow_right}
@@ -14,7 +14,7 @@ use Rattle.lists.proofs.Masks.{bit-none}
 use Rattle.text.specs.Letters.{letters, decimal, joined}
 use Rattle.text.proofs.Letters.{joined-append}
 use Rattle.text.proofs.Spelling.{spell-within, decimal-short, decimal-two}
-use Rattle.lines.specs.Lines.{name, names, happy_words, verdict_words, outcome_words}
+use Rattle.lines.specs.Lines.{name, names, verdict_words, outcome_words}
 use Rattle.lines.specs.Lines.{size_line, verdict_lines, lamp_line, opened_line, refused_line}
 
 -- ---- the happy lamps
@@ -35,24 +35,6 @@ module _ (set k : ℕ) where
   pub names_more : names set k ++ name set k ≡ names set (k + 1)
   unfolding names
   names_more = rw (add-one k)
-
--- ---- the verdict; the code asks whether the dealer is not accepted
-pub verdict-accepted : (b : Bool) (set n : ℕ) → b ≡ true → letters "dealer accepted\n" ∷ happy_words set n ≡ verdict_words b set n
-unfolding verdict_words
-verdict-accepted true set n e = refl
-verdict-accepted false set n e = absurd (false≢true e)
-
-pub verdict-rejected : (b : Bool) (set n : ℕ) → b ≡ false → letters "dealer rejected\n" ∷ [] ≡ verdict_words b set n
-unfolding verdict_words
-verdict-rejected true set n e = absurd (true≢false e)
-verdict-rejected false set n e = refl
-
--- ---- a value or a refusal
-pub outcome-value : (word : List ℕ) (k v : ℕ) → k ≡ 0 → word ∷ decimal v ∷ letters "\n" ∷ [] ≡ outcome_words word k v
-outcome-value word k v e = rw (eq-eqb k 0 e)
-
-pub outcome-refused : (word : List ℕ) (k v : ℕ) → (k ≡ 0 → ⊥) → letters " refused " ∷ decimal k ∷ letters "\n" ∷ [] ≡ outcome_words word k v
-outcome-refused word k v d = rw (ne_eqb k 0 d)
 
 -- ---- lengths; a number below ten has one digit, a lamp's number or a refusal at most two, any other at most ten
 

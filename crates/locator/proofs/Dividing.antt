@@ -1,14 +1,14 @@
 -- Dividing in place, from the top coefficient down.
 --   Divided p i E n Q f q s, divided-..   the loop of `divide`: f has the coefficients of the quotient from place s on, and in q, from
 --                                         there on, stands what remains
-use mathlib.Core.Path.{◌≡◌, refl, sym, ap, ap₂, subst, ◌∙◌}
-use mathlib.Core.List.{List, [], ◌∷◌}
+use mathlib.Core.Path.{◌≡◌, sym, ap, ap₂, subst, ◌∙◌}
+use mathlib.Core.List.{List, ◌∷◌}
 use Prim.Native.Nat.{ℕ, suc, ◌+◌, ◌-◌, ◌≤◌, ◌<◌}
 use native.Mathlib.Decide.{ℕ_discrete}
 use native.Mathlib.Omega.{arith}
 use borrow.Rule.Slice.PartMut.{put_mid, same_len_mid, take_put}
 use lib.ListN.{length, get_or, take, drop, set, replicate, length-append, length-drop, length-replicate, length-set}
-use lib.Seq.{ext_get_or, get_or-set_same, get_or-set_other, get_or-take, take-take, take_all, take-append-le, drop_at, length-take-le}
+use lib.Seq.{ext_get_or, get_or-set_same, get_or-set_other, get_or-take, take-take, take-append-le, drop_at, length-take-le}
 use Rattle.lists.specs.Tabulate.{pad}
 use Rattle.lists.proofs.All.{all_append, all_take, all_drop}
 use Rattle.lists.proofs.InPlace.{drop-back, length-zip_with}
@@ -32,19 +32,6 @@ module _ (p i : ℕ) (E : List ℕ) (n : ℕ) (Q : List ℕ) where
     pub remains : take b (drop s q) ≡ (long_division p i E (n - s) (drop s Q)).1
 
   module _ (nonempty : 0 < length E) (sizes : length Q + 1 ≡ n + length E) (few : n ≤ 4) where
-    pub divided-start : Residues p Q → Divided (replicate 4 0) Q n
-    divided-start r =
-        let none : n - n ≡ 0 = omega arith in
-        record {
-          within = omega arith;
-          room = refl;
-          kept = refl;
-          residues = r;
-          before = refl;
-          written = λ j h. get_or-zeros [] 4 j ∙ ap (λ m. get_or (long_division p i E m (drop n Q)).0 (j - n) 0) (sym none);
-          remains = take_all b (drop n Q) (omega (arith, length-drop n Q)) ∙ ap (λ m. (long_division p i E m (drop n Q)).1) (sym none);
-        }
-
     -- One coefficient more, at the place before s.
     module _ (f q : List ℕ) (s : ℕ) (d : Divided f q s) (more : 0 < s) where
       abbrev lent : List ℕ

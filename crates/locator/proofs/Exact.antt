@@ -8,7 +8,8 @@
 --   answered-exactly               of an answer: times the locator it is the numerator, the locator's degree is at most `spare`, and at
 --                                  least `need` of all points agree
 use mathlib.Core.Path.{◌≡◌, refl, sym, ap, ap₂, subst, ◌∙◌}
-use mathlib.Core.Bool.{Bool, true, false, cond, and-eq-true_iff}
+use mathlib.Core.Bool.{Bool, true, false, cond, ◌&&◌, and-eq-true_iff}
+use Rattle.std.specs.List.{list_all}
 use mathlib.Core.Option.{Option, none, some, none-ne-some}
 use mathlib.Core.List.Memᴰ
 use mathlib.Core.List.{List, [], ◌∷◌}
@@ -44,6 +45,11 @@ all-zero-is [] e = refl
 all-zero-is (c ∷ r) e =
     let (first, rest) = (and-eq-true_iff (eqb c 0) (all_zero r)).0 e in
     ap₂ ◌∷◌ (eqb-true c 0 first) (all-zero-is r rest)
+
+-- As a chain of iterators asks it.
+pub all-zero-listed : (r : List ℕ) → list_all (λ c. eqb c 0) r ≡ all_zero r
+all-zero-listed [] = refl
+all-zero-listed (c ∷ r) = ap (λ b. eqb c 0 && b) (all-zero-listed r)
 
 -- What is given under a test passed it.
 pub test-passed : (c : Bool) (o : Option (List ℕ)) (f : List ℕ) → cond c o none ≡ some f → (c ≡ true) × (o ≡ some f)

@@ -1,74 +1,70 @@
 -- What is answered for a solution, answer by answer.
---   exact-..     the quotient, if nothing remains
---   judged-..    a locator of too high a degree, something that remains, too few that agree, and f
-use mathlib.Core.Path.{◌≡◌, refl, sym, ap, subst, ◌∙◌}
+--   exact-given  the quotient, if nothing remains
+--   judged-..    a locator of too high a degree, something that remains, and the quotient, if enough points agree
+use mathlib.Core.Path.{◌≡◌, refl, sym, ap, ap₂, subst, ◌∙◌}
 use mathlib.Core.Bool.{Bool, true, false, cond}
 use mathlib.Core.Option.{Option, none, some}
-use mathlib.Core.List.{List, [], ◌∷◌}
+use mathlib.Core.List.{List}
 use Prim.Native.Nat.{ℕ, ◌+◌, ◌-◌, ◌≤◌, ◌<◌}
 use native.Mathlib.Omega.{arith}
 use borrow.Author.Tests.{le-leb, lt-leb}
 use lib.Dec.{leb}
-use lib.ListN.{length, get_or, take, replicate, length-append, length-replicate}
+use lib.ListN.{length, get_or, take, replicate}
 use lib.Seq.{length-take-le}
 use Rattle.lists.specs.Tabulate.{pad}
 use Rattle.lists.proofs.All.{all_append}
-use Rattle.lists.proofs.Padded.{four}
 use Rattle.field.specs.Arithmetic.{inv}
 use Rattle.polynomial.specs.Polynomial.{Residues}
 use Rattle.polynomial.proofs.Below.{zeros-residues}
-use Rattle.answers.specs.declared.Decoding.TheVariants.{Found}
-use Rattle.answers.specs.declared.Fitted.{Fitted}
-use Rattle.answers.specs.Fits.{decoded}
-use Rattle.trial.specs.declared.Tried.{Tried}
+use Rattle.std.specs.Prelude.{Some, None}
+use Rattle.std.specs.Bool.{then_some}
 use Rattle.trial.specs.Trial.{hits}
 use Rattle.trial.specs.Results.{result_of}
 use Rattle.trial.proofs.Counting.{hits-zeros}
-use Rattle.trial.proofs.Results.{result-found, result-not-found}
 use Rattle.locator.specs.Quotient.{long_division, all_zero, exact_quotient}
 use Rattle.locator.specs.Answer.{if_enough, quotient_of, located_by}
-use Rattle.locator.proofs.Products.{division-size, division-residues}
+use Rattle.locator.proofs.Products.{division-residues}
 use Rattle.locator.proofs.Exact.{exact-sound}
 
-module _ (p i : ℕ) (E : List ℕ) (n : ℕ) (Q : List ℕ) (l : List ℕ) (rest : l ≡ (long_division p i E n Q).1) where
-  pub exact-not : all_zero l ≡ false → result_of none ≡ result_of (exact_quotient p i E n Q)
-  unfolding exact_quotient
-  exact-not e = ap (λ c. result_of (cond c (some (long_division p i E n Q).0) none)) (sym e ∙ ap all_zero rest)
-
-  pub exact-found : all_zero l ≡ true → (f : List ℕ) → f ≡ pad 4 (long_division p i E n Q).0
-      → ◌≡◌ {A = Tried} (record { found = true; coefficients = f }) (result_of (exact_quotient p i E n Q))
-  unfolding exact_quotient
-  exact-found e f is =
-      let struct : List ℕ → Tried = λ g. record { found = true; coefficients = g } in
-      ap struct is ∙ ap (λ c. result_of (cond c (some (long_division p i E n Q).0) none)) (sym e ∙ ap all_zero rest)
+-- What is answered under the test whether nothing remains.
+pub exact-given : (p i : ℕ) (E : List ℕ) (n : ℕ) (Q l : List ℕ) → l ≡ (long_division p i E n Q).1 → (f : List ℕ)
+    → f ≡ pad 4 (long_division p i E n Q).0 → then_some (all_zero l) f ≡ result_of (exact_quotient p i E n Q)
+unfolding exact_quotient
+exact-given p i E n Q l rest f is = ap₂ then_some (ap all_zero rest) is ∙ by (all_zero (long_division p i E n Q).1)
+  where
+    by : (c : Bool) → then_some c (pad 4 (long_division p i E n Q).0) ≡ result_of (cond c (some (long_division p i E n Q).0) none)
+    by true = refl
+    by false = refl
 
 module _ (p t need spare : ℕ) (xs ys : List ℕ) (b : ℕ) (q e : List ℕ) where
-  pub judged-high : spare < b → decoded none ≡ decoded (located_by p t need spare xs ys b q e)
+  pub judged-high : spare < b → None ≡ result_of (located_by p t need spare xs ys b q e)
   unfolding located_by
   judged-high h = rw (lt-leb b spare h) refl
 
-  module _ (low : b ≤ spare) (r : Tried) (is : r ≡ result_of (quotient_of p t b q e)) where
+  module _ (low : b ≤ spare) where
     opened : (o : Option (List ℕ)) → quotient_of p t b q e ≡ o → located_by p t need spare xs ys b q e ≡ if_enough p need xs ys o
     unfolding located_by
     opened o same = rw (le-leb b spare low) (ap (if_enough p need xs ys) same)
 
-    pub judged-rest : r.found ≡ false → decoded none ≡ decoded (located_by p t need spare xs ys b q e)
-    judged-rest told = sym (ap decoded (opened none (result-not-found (quotient_of p t b q e) (sym (ap (λ w. w.found) is) ∙ told))))
+    answered-none : (o : Option (List ℕ)) → None ≡ result_of o → o ≡ none
+    answered-none none h = refl
+    answered-none (some g) h = absurd (cc)
 
-    -- A quotient was found: t + 1 residues, with 0 behind them.
-    module _ (found : r.found ≡ true) (degree : t ≤ 3) (few : b ≤ 3) (room-q : length q ≡ 12) (room-e : length e ≡ 8)
-        (positive : 0 < p) where
-      abbrev f : List ℕ
-      f = r.coefficients
+    answered-some : (o : Option (List ℕ)) (f : List ℕ) → Some f ≡ result_of o → (g : List ℕ) × (o ≡ some g) × (f ≡ pad 4 g)
+    answered-some none f h = absurd (cc)
+    answered-some (some g) f h = (g, refl, cc)
 
-      quotient : (g : List ℕ) × (quotient_of p t b q e ≡ some g)
-      quotient = result-found (quotient_of p t b q e) (sym (ap (λ w. w.found) is) ∙ found)
+    pub judged-rest : None ≡ result_of (quotient_of p t b q e) → None ≡ result_of (located_by p t need spare xs ys b q e)
+    judged-rest told = sym (ap result_of (opened none (answered-none (quotient_of p t b q e) told)))
+
+    -- A quotient f was found: t + 1 residues, with 0 behind them.
+    module _ (f : List ℕ) (found : Some f ≡ result_of (quotient_of p t b q e)) (degree : t ≤ 3) (few : b ≤ 3) (room-q : length q ≡ 12)
+        (room-e : length e ≡ 8) (positive : 0 < p) where
+      quotient : (g : List ℕ) × (quotient_of p t b q e ≡ some g) × (f ≡ pad 4 g)
+      quotient = answered-some (quotient_of p t b q e) f found
 
       abbrev g : List ℕ
       g = quotient.0
-
-      coefficients-are : f ≡ pad 4 g
-      coefficients-are = ap (λ w. w.coefficients) (is ∙ ap result_of quotient.1)
 
       divided : g ≡ (long_division p (inv p (get_or e b 0)) (take (b + 1) e) (t + 1) (take (b + t + 1) q)).0
       divided = exact-sound p (inv p (get_or e b 0)) (take (b + 1) e) (t + 1) (take (b + t + 1) q) g quotient.1
@@ -76,40 +72,23 @@ module _ (p t need spare : ℕ) (xs ys : List ℕ) (b : ℕ) (q e : List ℕ) wh
       some-e : 0 < length (take (b + 1) e)
       some-e = omega (arith, length-take-le (b + 1) e (omega (arith, room-e)))
 
-      size : length g ≡ t + 1
-      size =
-          ap length divided
-          ∙ division-size p (inv p (get_or e b 0)) (take (b + 1) e) some-e (t + 1) (take (b + t + 1) q)
-          (omega (arith, length-take-le (b + t + 1) q (omega (arith, room-q))))
+      pub quotient-fine : Residues p f
+      quotient-fine =
+          subst (Residues p) (sym quotient.2)
+          (all_append (λ c. c < p) g (replicate (4 - length g) 0)
+          (subst (Residues p) (sym divided)
+          (division-residues p (inv p (get_or e b 0)) (take (b + 1) e) some-e (t + 1) (take (b + t + 1) q) positive))
+          (zeros-residues p (4 - length g) positive))
 
-      pub quotient-fine : Residues p f × (length f ≡ 4)
-      quotient-fine = (
-        subst (Residues p) (sym coefficients-are)
-            (all_append (λ c. c < p) g (replicate (4 - length g) 0)
-            (subst (Residues p) (sym divided)
-            (division-residues p (inv p (get_or e b 0)) (take (b + 1) e) some-e (t + 1) (take (b + t + 1) q) positive))
-            (zeros-residues p (4 - length g) positive)),
-        ap length coefficients-are
-            ∙ length-append g (replicate (4 - length g) 0)
-            ∙ omega (arith, length-replicate {A = ℕ} (4 - length g) 0, size),
-      )
+      same-hits : hits p f xs ys ≡ hits p g xs ys
+      same-hits = ap (λ h. hits p h xs ys) quotient.2 ∙ hits-zeros p g (4 - length g) xs ys
 
-      abbrev Told : Bool → Type 0
-      Told c = c ≡ leb need (hits p (get_or f 0 0 ∷ get_or f 1 0 ∷ get_or f 2 0 ∷ get_or f 3 0 ∷ []) xs ys)
-
-      same-hits : hits p (get_or f 0 0 ∷ get_or f 1 0 ∷ get_or f 2 0 ∷ get_or f 3 0 ∷ []) xs ys ≡ hits p g xs ys
-      same-hits = ap (λ h. hits p h xs ys) (four f quotient-fine.1 ∙ coefficients-are) ∙ hits-zeros p g (4 - length g) xs ys
-
-      pub judged-few : Told false → decoded none ≡ decoded (located_by p t need spare xs ys b q e)
-      judged-few told =
-          let few-agree : leb need (hits p g xs ys) ≡ false = sym (told ∙ ap (leb need) same-hits) in
-          let none_is : if_enough p need xs ys (some g) ≡ none = rw few-agree refl in
-          sym (ap decoded (opened (some g) quotient.1 ∙ none_is))
-
-      pub judged-right : Told true
-          → ◌≡◌ {A = Fitted} (record { outcome = Found; coefficients = f }) (decoded (located_by p t need spare xs ys b q e))
-      judged-right told =
-          let enough-agree : leb need (hits p g xs ys) ≡ true = sym (told ∙ ap (leb need) same-hits) in
-          let some_is : if_enough p need xs ys (some g) ≡ some g = rw enough-agree refl in
-          let struct : List ℕ → Fitted = λ h. record { outcome = Found; coefficients = h } in
-          ap struct coefficients-are ∙ sym (ap decoded (opened (some g) quotient.1 ∙ some_is))
+      -- It is the answer if enough points agree.
+      pub judged-given : (passed : Bool) → passed ≡ leb need (hits p f xs ys)
+          → then_some passed f ≡ result_of (located_by p t need spare xs ys b q e)
+      judged-given passed told =
+          by passed (told ∙ ap (leb need) same-hits) ∙ sym (ap result_of (opened (some g) quotient.1))
+        where
+          by : (passed : Bool) → passed ≡ leb need (hits p g xs ys) → then_some passed f ≡ result_of (if_enough p need xs ys (some g))
+          by true h = rw (sym h) (ap Some quotient.2)
+          by false h = rw (sym h) refl

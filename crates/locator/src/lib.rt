@@ -8,7 +8,6 @@ ghost use Rattle.std.specs.Prelude.{◌≡◌, ◌+◌, ◌*◌, ◌-◌, ◌≤
 ghost use Rattle.lists.specs.Tabulate.{pad};
 ghost use Rattle.field.specs.Modulus.{prime_of};
 ghost use Rattle.polynomial.specs.Polynomial.{Residues, Points};
-ghost use Rattle.answers.specs.Fits.{decoded};
 ghost use Rattle.trial.specs.Results.{Bounded, result_of};
 ghost use Rattle.fit.specs.Fit.{sent, fit};
 ghost use Rattle.fit.specs.Opening.{needed};
@@ -16,19 +15,17 @@ ghost use Rattle.fit.specs.Admitted.{Admitted, fit_in};
 ghost use Rattle.locator.specs.Quotient.{less_times, leading, long_division, all_zero, exact_quotient};
 ghost use Rattle.locator.specs.Answer.{quotient_of, located_by};
 
-use answers::{Admission, Decoding, Fitted};
+use answers::Fitted;
 use field::Width;
-use trial::Tried;
+use key_equation::Located;
 
 // r − h e, in the place of r.
 fn less_times(w: Width, h: u32, e: &[u32], r: &mut [u32])
     requires { (length e.now ≡ length r.old) × Residues (prime_of w) e.now × Residues (prime_of w) r.old × (h < prime_of w) }
     ensures { (r.new ≡ less_times (prime_of w) r.old h e.now) × Residues (prime_of w) r.new }
 {
-    let mut i = 0;
-    while i < e.len() {
-        r[i] = field::mul_sub(w, h, e[i], r[i]);
-        i += 1;
+    for (i, c) in e.iter().enumerate() {
+        r[i] = field::mul_sub(w, h, *c, r[i]);
     }
 }
 
@@ -56,9 +53,7 @@ fn divide(w: Width, n: usize, inverse: u32, e: &[u32], q: &mut [u32]) -> [u32; 4
 {
     let size = e.len();
     let mut f = [0u32; 4];
-    let mut s = n;
-    while 0 < s {
-        s -= 1;
+    for s in (0..n).rev() {
         f[s] = next_coefficient(w, inverse, e, &mut q[s..s + size]);
     }
     f
@@ -68,47 +63,39 @@ fn divide(w: Width, n: usize, inverse: u32, e: &[u32], q: &mut [u32]) -> [u32; 4
 fn all_zero(list: &[u32]) -> bool
     ensures { result ≡ all_zero list.now }
 {
-    let mut i = list.len();
-    while 0 < i {
-        i -= 1;
-        if list[i] != 0 {
-            return false;
-        }
-    }
-    true
+    list.iter().all(|c| *c == 0)
 }
 
 // The n coefficients of q divided by e, if nothing remains.
-fn exact_quotient(w: Width, n: usize, inverse: u32, e: &[u32], q: &mut [u32]) -> Tried
+fn exact_quotient(w: Width, n: usize, inverse: u32, e: &[u32], q: &mut [u32]) -> Option<[u32; 4]>
     requires n_bound { (n ≤ 4) × (0 < length e.now) × (length q.old + 1 ≡ n + length e.now) }
     requires residues { Residues (prime_of w) e.now × Residues (prime_of w) q.old × (inverse < prime_of w) }
     ensures { result ≡ result_of (exact_quotient (prime_of w) inverse e.now n q.old) }
 {
     let f = divide(w, n, inverse, e, q);
     let degree = e.len() - 1;
-    if all_zero(&q[..degree]) {
-        return Tried {
-            found: true,
-            coefficients: f,
-        };
-    }
-    trial::nothing()
+    all_zero(&q[..degree]).then_some(f)
 }
 
 // The numerator divided by the locator, of such a degree, if nothing remains.
-fn quotient(w: Width, t: usize, degree: usize, numerator: [u32; 12], locator: [u32; 8]) -> Tried
-    requires t_bound { (t ≤ 3) × (degree ≤ 3) }
-    requires residues { Residues (prime_of w) (take (degree + t + 1) numerator) × Residues (prime_of w) (take (degree + 1) locator) }
-    ensures { result ≡ result_of (quotient_of (prime_of w) t degree numerator locator) }
+fn quotient(w: Width, t: usize, solved: Located) -> Option<[u32; 4]>
+    requires t_bound { (t ≤ 3) × (solved.degree ≤ 3) }
+    requires residues { Residues (prime_of w) (take (solved.degree + t + 1) solved.numerator)
+        × Residues (prime_of w) (take (solved.degree + 1) solved.locator) }
+    ensures { result ≡ result_of (quotient_of (prime_of w) t solved.degree solved.numerator solved.locator) }
 {
+    let Located {
+        mut numerator,
+        locator,
+        degree,
+    } = solved;
     let inverse = field::inverse_of(w, locator[degree]);
-    let mut rest = numerator;
     exact_quotient(
         w,
         t + 1,
         inverse,
         &locator[..degree + 1],
-        &mut rest[..degree + t + 1],
+        &mut numerator[..degree + t + 1],
     )
 }
 
@@ -121,61 +108,55 @@ fn judged(
     spare: usize,
     xs: &[u32],
     ys: &[u32],
-    degree: usize,
-    numerator: [u32; 12],
-    locator: [u32; 8],
-) -> Fitted
+    solved: Located,
+) -> Option<[u32; 4]>
     requires t_bound { (t ≤ 3) × (spare ≤ 3) × (length xs.now ≡ length ys.now) × Residues (prime_of w) xs.now }
-    requires residues { Residues (prime_of w) (take (degree + t + 1) numerator) × Residues (prime_of w) (take (degree + 1) locator) }
-    ensures { result ≡ decoded (located_by (prime_of w) t need spare xs.now ys.now degree numerator locator) }
+    requires residues { Residues (prime_of w) (take (solved.degree + t + 1) solved.numerator)
+        × Residues (prime_of w) (take (solved.degree + 1) solved.locator) }
+    ensures { result
+        ≡ result_of (located_by (prime_of w) t need spare xs.now ys.now solved.degree solved.numerator solved.locator) }
 {
-    if spare < degree {
-        return fit::nothing();
+    if spare < solved.degree {
+        return None;
     }
-    let divided = quotient(w, t, degree, numerator, locator);
-    if !divided.found {
-        return fit::nothing();
-    }
-    let f = divided.coefficients;
-    if !trial::enough(w, f[0], f[1], f[2], f[3], xs, ys, need) {
-        return fit::nothing();
-    }
-    Fitted {
-        outcome: Decoding::Found,
-        coefficients: f,
-    }
+    let f = quotient(w, t, solved)?;
+    trial::enough(w, f, xs, ys, need).then_some(f)
 }
 
 // The search where at most `spare` of the points sent are wrong. The first t + 1 + 2 spare of them are solved for: of these so many are
 // right that the locator is of no higher degree than points are wrong.
-fn by_locator(w: Width, t: usize, need: usize, spare: usize, xs: &[u32], ys: &[u32]) -> Fitted
+fn by_locator(
+    w: Width,
+    t: usize,
+    need: usize,
+    spare: usize,
+    xs: &[u32],
+    ys: &[u32],
+) -> Option<[u32; 4]>
     requires t_bound { (t ≤ 3) × Bounded xs.now ys.now × Points (prime_of w) xs.now }
     requires ys_value { (sent (prime_of w) ys.now ≡ need + spare) × (2 * t + 1 ≤ need) × (spare ≤ t) }
-    ensures { result ≡ decoded (fit (prime_of w) t need xs.now ys.now) }
+    ensures { result ≡ result_of (fit (prime_of w) t need xs.now ys.now) }
 {
     let m = t + 1 + 2 * spare;
     let mut px = [0u32; 10];
     let mut py = [0u32; 10];
     fit::first_sent(field::modulus(w), xs, ys, &mut px[..m], &mut py[..m]);
-    // Of no more points than it goes through, none need agree: this is interpolation.
-    let first = trial::next(w, &px[..t + 1], &py[..t + 1], 0, 0, t + 1);
-    let f = first.coefficients;
+    // Of no more points than it goes through, none need agree: this is interpolation, and always finds.
+    let f = trial::next(w, &px[..t + 1], &py[..t + 1], 0, 0, t + 1)?;
     let solved = key_equation::solve(w, t, &px[..m], &py[..m], f);
-    let q = solved.numerator;
-    let e = solved.locator;
-    judged(w, t, need, spare, xs, ys, solved.degree, q, e)
+    judged(w, t, need, spare, xs, ys, solved)
 }
 
 // The search where the arguments are admitted.
-fn admitted(w: Width, t: usize, least: usize, xs: &[u32], ys: &[u32]) -> Fitted
+fn admitted(w: Width, t: usize, least: usize, xs: &[u32], ys: &[u32]) -> Option<[u32; 4]>
     requires { Admitted t least xs.now ys.now × Points (prime_of w) xs.now }
-    ensures { result ≡ decoded (fit (prime_of w) t (needed t least (sent (prime_of w) ys.now))
+    ensures { result ≡ result_of (fit (prime_of w) t (needed t least (sent (prime_of w) ys.now))
         xs.now ys.now) }
 {
     let s = fit::sent(field::modulus(w), ys);
     let need = fit::needed(t, least, s);
     if s < need {
-        return fit::nothing();
+        return None;
     }
     by_locator(w, t, need, s - need, xs, ys)
 }
@@ -185,8 +166,6 @@ pub fn located(w: Width, t: usize, least: usize, xs: &[u32], ys: &[u32]) -> Fitt
     requires { Points (prime_of w) xs.now }
     ensures { result ≡ fit_in (prime_of w) t least xs.now ys.now }
 {
-    match fit::admission(t, least, xs, ys) {
-        Admission::Fail(why) => answers::refused_fit(why),
-        Admission::Pass => admitted(w, t, least, xs, ys),
-    }
+    fit::admission(t, least, xs, ys)?;
+    Ok(admitted(w, t, least, xs, ys))
 }

@@ -1,2 +1,4 @@
 pub mod Agreement
 pub mod Octets
+pub mod Places
+pub mod Rows

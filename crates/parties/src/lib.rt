@@ -8,6 +8,7 @@ ghost use Rattle.parties.specs.Parties.{sizes, is_party, not_sent};
 use field::Width;
 
 // What a sender writes for a number that it does not send.
+#[tactic(auto, unfolding(crate::specs::Parties::not_sent))]
 pub fn not_sent(w: Width) -> u32
     ensures { result ≡ not_sent (prime_of w) }
 {
@@ -18,27 +19,17 @@ pub fn not_sent(w: Width) -> u32
 }
 
 // Whether t faulty ones among n parties are within the sizes.
+#[tactic(auto, unfolding(crate::specs::Parties::sizes))]
 pub fn sizes(n: u8, t: u8) -> bool
     ensures { result ≡ sizes n t }
 {
-    if t < 1 {
-        return false;
-    }
-    if 3 < t {
-        return false;
-    }
-    if n < 4 * t + 1 {
-        return false;
-    }
-    n <= 16
+    1 <= t && t <= 3 && 4 * t + 1 <= n && n <= 16
 }
 
 // Whether i is the number of one of n parties.
+#[tactic(auto, unfolding(crate::specs::Parties::is_party))]
 pub fn is_party(n: u8, i: u8) -> bool
     ensures { result ≡ is_party n i }
 {
-    if i < 1 {
-        return false;
-    }
-    i <= n
+    1 <= i && i <= n
 }

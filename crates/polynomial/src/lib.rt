@@ -22,35 +22,25 @@ pub struct SchemePair {
     pub second: Scheme,
 }
 
-// Whether every number of the list is below p.
-fn all_below(p: u32, list: &[u32]) -> bool
-    ensures { result ≡ residues p list.now }
+// Whether every number of the list is a residue.
+pub fn residues(w: Width, list: &[u32]) -> bool
+    ensures { result ≡ residues (prime_of w) list.now }
 {
-    let mut i = list.len();
-    while 0 < i {
-        i -= 1;
-        if p <= list[i] {
+    let p = field::modulus(w);
+    // A loop: `all` was tried, and takes a third longer.
+    for c in list {
+        if p <= *c {
             return false;
         }
     }
     true
 }
 
-// Whether every number of the list is a residue.
-pub fn residues(w: Width, list: &[u32]) -> bool
-    ensures { result ≡ residues (prime_of w) list.now }
-{
-    all_below(field::modulus(w), list)
-}
-
 // The coefficient at a place, 0 behind the last.
 pub fn coefficient(f: &[u32], k: usize) -> u32
     ensures { result ≡ get_or f.now k 0 }
 {
-    if f.len() <= k {
-        return 0;
-    }
-    f[k]
+    f.get(k).copied().unwrap_or(0)
 }
 
 // f divided by X − x: the value at x, which is the remainder, and the quotient. At most four coefficients, as rows and columns have, need
@@ -66,14 +56,13 @@ pub fn divided_at_once(w: Width, f: &[u32], x: u32) -> Scheme
             quotient: [f[1], 0, 0, 0, 0, 0, 0, 0, 0, 0, 0],
         };
     }
-    let g = field::cubic_divided(
-        w,
+    let four = [
         coefficient(f, 0),
         coefficient(f, 1),
         coefficient(f, 2),
         coefficient(f, 3),
-        x,
-    );
+    ];
+    let g = field::cubic_divided(w, four, x);
     Scheme {
         value: g[0],
         quotient: [g[1], g[2], g[3], 0, 0, 0, 0, 0, 0, 0, 0],
@@ -86,10 +75,9 @@ fn divided_by_turns(w: Width, f: &[u32], x: u32) -> Scheme
     ensures { (result ≡ scheme_of (prime_of w) f.now x) × (result.value < prime_of w) }
 {
     let mut quotient = [0u32; 11];
-    let mut i = f.len() - 1;
-    let mut value = f[i];
-    while 0 < i {
-        i -= 1;
+    let last = f.len() - 1;
+    let mut value = f[last];
+    for i in (0..last).rev() {
         quotient[i] = value;
         value = field::mul_add(w, x, value, f[i]);
     }
@@ -123,16 +111,6 @@ pub fn four_coefficients(list: &[u32]) -> [u32; 4]
     ]
 }
 
-// The larger of two lengths.
-fn longer(a: usize, b: usize) -> usize
-    ensures { (a ≤ result) × (b ≤ result) × ((k : ℕ) → a ≤ k → b ≤ k → result ≤ k) }
-{
-    if a <= b {
-        return b;
-    }
-    a
-}
-
 // f and g divided by X − x in one pass, the shorter with zeros behind it: Horner's rule for both from the last place on, with a sum for
 // each that is carried on unreduced. A quotient's coefficient is the residue of the sum so far: where a caller asks for the values alone,
 // a compiler drops these.
@@ -143,7 +121,7 @@ pub fn both(w: Width, f: &[u32], g: &[u32], x: u32) -> SchemePair
 {
     let mut f_quotient = [0u32; 11];
     let mut g_quotient = [0u32; 11];
-    let count = longer(f.len(), g.len());
+    let count = f.len().max(g.len());
     if count == 0 {
         let none = Scheme {
             value: 0,
@@ -154,11 +132,10 @@ pub fn both(w: Width, f: &[u32], g: &[u32], x: u32) -> SchemePair
             second: none,
         };
     }
-    let mut i = count - 1;
-    let mut u = coefficient(f, i) as u64;
-    let mut v = coefficient(g, i) as u64;
-    while 0 < i {
-        i -= 1;
+    let last = count - 1;
+    let mut u = coefficient(f, last) as u64;
+    let mut v = coefficient(g, last) as u64;
+    for i in (0..last).rev() {
         f_quotient[i] = field::reduced(w, u);
         g_quotient[i] = field::reduced(w, v);
         u = field::next_sum(w, x, u, coefficient(f, i));

@@ -11,6 +11,7 @@ use lib.Dec.{eqb, leb}
 use lib.ListN.{length, drop, replicate, length-drop}
 use lib.Seq.{take_at, take_all, length-take-le}
 use borrow.Author.Tests.{eq-eqb}
+use Rattle.std.specs.Prelude.{Ok}
 use Rattle.lists.specs.Masks.{bit}
 use Rattle.lists.specs.Options.{or_zero}
 use Rattle.lists.specs.Tabulate.{tabulate, pad}
@@ -26,14 +27,13 @@ use Rattle.answers.specs.declared.Refusal.TheVariants.{AlteredReport, DealerReje
 use Rattle.answers.specs.declared.Answer.TheVariants.{Done}
 use Rattle.lamp.specs.declared.Lamp.{Lamp}
 use Rattle.lamp.specs.declared.Reply.{Reply}
-use Rattle.answers.specs.Refusals.{refusal_number}
-use Rattle.answers.specs.Answers.{number_of}
+use Rattle.answers.specs.Refusals.{refusal_number, number_of}
 use Rattle.answers.specs.Fits.{constant}
 use Rattle.consistency.specs.Deal.{row_of, column_of, first_from, report_of}
 use Rattle.recovery.specs.Recovery.{repair}
 use Rattle.lamp.specs.Lamp.{Valid, made, its_prime, table_of, reply, row_of_lamp, column_of_lamp, with_deal, firsts, with_pairs, report_from}
 use Rattle.lamp.specs.Lamp.{repaired, refuse, at_end, settled, take_deal, hear_pairs, settle, step}
-use Rattle.record.specs.declared.Reading.TheVariants.{Fine}
+use Rattle.record.specs.declared.Head.{Head}
 use Rattle.record.specs.Record.{width_of, n_of, t_of, reading, IsRecord, numbers_of}
 use Rattle.record.proofs.Answers.{record-fine}
 use Rattle.text.specs.Letters.{letters, field, line, joined}
@@ -97,8 +97,12 @@ module _ (bytes : List ℕ) (is : IsRecord bytes) where
   abbrev t : ℕ
   t = t_of bytes
 
-  fine : reading bytes ≡ Fine w n t
-  fine = record-fine bytes is
+  -- What the reader finds.
+  abbrev head : Head
+  head = record { width = w; n = n; t = t }
+
+  read : reading bytes ≡ Ok head
+  read = record-fine bytes is
 
   -- ---- one lamp
   module _ (i : ℕ) (first : 1 ≤ i) (last : i ≤ n) where
@@ -123,9 +127,9 @@ module _ (bytes : List ℕ) (is : IsRecord bytes) where
     -- It is made with the points 1 to n.
     ready : Ready (plain w n t) i
     ready = record {
-      size = fine-legal bytes w n t fine;
+      size = fine-legal bytes head read;
       party = party-true n i first last;
-      table = plain-table w n (fine-facts bytes w n t fine).3;
+      table = plain-table w n (fine-facts bytes head read).3;
     }
 
     start-valid : Valid start.party
@@ -133,13 +137,13 @@ module _ (bytes : List ℕ) (is : IsRecord bytes) where
 
     pub deal-long : length d ≡ 2 * suc t
     deal-long =
-        let f = fine-facts bytes w n t fine in
-        own-part (numbers_of bytes 0) n (t + 1) i (deals-count bytes w n t fine) f.3 (omega arith) first last ∙ omega arith
+        let f = fine-facts bytes head read in
+        own-part (numbers_of bytes 0) n (t + 1) i (deals-count bytes head read) f.3 (omega arith) first last ∙ omega arith
 
     pub pairs_long : length hs ≡ 2 * n
     pairs_long =
-        let f = fine-facts bytes w n t fine in
-        own-part (numbers_of bytes 1) n n i (pairs-count bytes w n t fine) f.3 f.3 first last
+        let f = fine-facts bytes head read in
+        own-part (numbers_of bytes 1) n n i (pairs-count bytes head read) f.3 f.3 first last
 
     dealt-valid : Valid dealt.party
     unfolding with_deal
@@ -153,7 +157,7 @@ module _ (bytes : List ℕ) (is : IsRecord bytes) where
     unfolding with_pairs with_deal
     table_is = made_table (plain w n t) i ready
 
-    taken : step start (take_deal w d) ≡ reply dealt Done
+    taken : step start (take_deal w d) ≡ reply dealt (Ok Done)
     taken = takes start start-valid w d (ap (λ z. z && true) (fits w w refl (length d) (2 * suc t) deal-long))
 
     heard : (step dealt (hear_pairs w hs)).lamp ≡ reported
@@ -178,7 +182,7 @@ module _ (bytes : List ℕ) (is : IsRecord bytes) where
     answered =
         ap (λ (r : Reply). step (step r.lamp (hear_pairs w hs)).lamp (settle rs)) taken
         ∙ ap (λ l. step l (settle rs)) heard
-        ∙ looks reported reported-valid rs (ap (λ z. z && true) (eq-eqb (length rs) n (reports-count bytes w n t fine)))
+        ∙ looks reported reported-valid rs (ap (λ z. z && true) (eq-eqb (length rs) n (reports-count bytes head read)))
         ∙ ap (λ r. cond (eqb (entry rs i) r) (settled reported (happy bytes)) (refuse reported AlteredReport)) report-is
 
     -- The lamp says so exactly if the printed verdict is against the dealer, its own report being in the record.
@@ -230,4 +234,5 @@ module _ (bytes : List ℕ) (is : IsRecord bytes) where
   unfolding text text_by text_of direct
   text-direct =
       let last : List ℕ = last_line (is_accepted_in bytes) w n t (numbers_of bytes 3) in
-      rw fine (ap (λ ls. ((size_line n t ++ verdict_lines (is_accepted_in bytes) (happy bytes) n) ++ ls) ++ last) (lines-said n (omega arith)))
+      rw read
+      (ap (λ ls. ((size_line n t ++ verdict_lines (is_accepted_in bytes) (happy bytes) n) ++ ls) ++ last) (lines-said n (omega arith)))

@@ -8,6 +8,7 @@ use mathlib.Core.List.{List, [], ◌∷◌, ◌++◌, append_assoc}
 use Prim.Native.Nat.{ℕ, zero, suc, ◌+◌, ◌*◌, ◌-◌, ◌/◌, ◌^◌, ◌≤◌, ◌<◌}
 use native.Mathlib.Omega.{arith}
 use lib.ListN.{length, get_or}
+use Rattle.std.specs.Prelude.{Ok, Err}
 use Rattle.lists.specs.All.{All}
 use Rattle.lists.specs.Masks.{bit}
 use Rattle.lists.specs.Tabulate.{tabulate}
@@ -24,11 +25,9 @@ use Rattle.text.specs.Letters.{letters, digit, spell, decimal, field, line, join
 use Rattle.text.proofs.Letters.{joined-append}
 use Rattle.text.proofs.Spelling.{spell_last, spell-more}
 use Rattle.answers.specs.declared.Refusal.TheVariants.{NoOpening}
-use Rattle.answers.specs.Refusals.{refusal_number}
+use Rattle.answers.specs.Refusals.{refusal_number, number_of}
 use Rattle.answers.specs.Fits.{constant}
-use Rattle.record.specs.declared.Reading.{Reading}
-use Rattle.record.specs.declared.Reading.TheVariants.{Fine, Refused}
-use Rattle.record.specs.Record.{reading, reading_number}
+use Rattle.record.specs.Record.{Reading, reading}
 use Rattle.lines.specs.Lines.{name, names, refused_line}
 use Rattle.transcript.specs.Outcomes.{opening_line, last_line}
 use Rattle.transcript.specs.Transcript.{text_of, text_by, text}
@@ -158,8 +157,8 @@ module _ (w : Width) (n t : ℕ) (size : sizes n t ≡ true) (shares : List ℕ)
 -- ---- No text is empty.
 some-text : (r : Reading) (bytes : List ℕ) → 1 ≤ length (text_by r bytes)
 unfolding text_by text_of
-some-text (Fine w n t) bytes = omega arith
-some-text (Refused why) bytes = omega arith
+some-text (Ok head) bytes = omega arith
+some-text (Err why) bytes = omega arith
 
 pub text-some : (bytes : List ℕ) → 1 ≤ length (text bytes)
 unfolding text
@@ -167,10 +166,10 @@ text-some bytes = some-text (reading bytes) bytes
 
 -- ---- a refused record
 -- One line alone, with the number of the refusal.
-pub text-refused : (bytes : List ℕ) (k : ℕ) → reading_number (reading bytes) ≡ some k → text bytes ≡ refused_line k
+pub text-refused : (bytes : List ℕ) (k : ℕ) → number_of (reading bytes) ≡ some k → text bytes ≡ refused_line k
 unfolding text text_by
 text-refused bytes k e = by (reading bytes) e
   where
-    by : (r : Reading) → reading_number r ≡ some k → text_by r bytes ≡ refused_line k
-    by (Fine w n t) e = absurd (let z : ◌≡◌ {A = ℕ} 0 1 = cc in omega arith)
-    by (Refused why) e = ap refused_line (let same : some (refusal_number why) ≡ some k = e in cc)
+    by : (r : Reading) → number_of r ≡ some k → text_by r bytes ≡ refused_line k
+    by (Ok head) e = absurd (let z : ◌≡◌ {A = ℕ} 0 1 = cc in omega arith)
+    by (Err why) e = ap refused_line (let same : some (refusal_number why) ≡ some k = e in cc)

@@ -10,6 +10,7 @@ use Prim.Native.Nat.{ℕ, suc, ◌+◌, ◌*◌, ◌≤◌, ◌<◌}
 use native.Mathlib.Omega.{arith}
 use borrow.Author.Tests.{lt-ltb}
 use lib.Dec.{ltb}
+use Rattle.std.specs.Prelude.{Ok}
 use Rattle.lists.specs.Options.{or_zero}
 use Rattle.lists.proofs.Cases.{true-or-false}
 use Rattle.field.specs.declared.Width.{Width}
@@ -25,9 +26,8 @@ use Rattle.parties.proofs.Parties.{party-facts, sizes-facts}
 use Rattle.tables.specs.Tables.{one_to}
 use Rattle.tables.proofs.Tables.{one-to-point}
 use Rattle.answers.specs.declared.Refusal.TheVariants.{DealerRejected, NoOpening}
-use Rattle.answers.specs.Refusals.{refusal_number}
-use Rattle.answers.specs.Answers.{number_of}
-use Rattle.record.specs.declared.Reading.TheVariants.{Fine}
+use Rattle.answers.specs.Refusals.{refusal_number, number_of}
+use Rattle.record.specs.declared.Head.{Head}
 use Rattle.record.specs.Record.{width_of, n_of, t_of, reading, IsRecord, numbers_of}
 use Rattle.record.proofs.Answers.{record-fine}
 use Rattle.text.specs.Letters.{letters, field, line}
@@ -60,8 +60,12 @@ module _ (honest : ℕ → Bool) (bytes : List ℕ) (is : IsRecord bytes) (f : F
   abbrev s : Setting
   s = setting_of bytes
 
-  fine : reading bytes ≡ Fine w n t
-  fine = record-fine bytes is
+  -- What the reader finds.
+  abbrev head : Head
+  head = record { width = w; n = n; t = t }
+
+  read : reading bytes ≡ Ok head
+  read = record-fine bytes is
 
   legal : Legal s
   legal = record {
@@ -88,7 +92,7 @@ module _ (honest : ℕ → Bool) (bytes : List ℕ) (is : IsRecord bytes) (f : F
           deal_first = tt;
           pairs_length = pairs_long bytes is i range.0 range.1;
           pairs_first = tt;
-          reports_length = reports-count bytes w n t fine;
+          reports_length = reports-count bytes head read;
           reports_own = f.own i h;
           reports_first = tt;
         };
@@ -135,7 +139,8 @@ module _ (honest : ℕ → Bool) (bytes : List ℕ) (is : IsRecord bytes) (f : F
   printed-by : (v : Bool) → is_accepted_in bytes ≡ v
       → text bytes ≡ text_with honest bytes (verdict_lines v (happy bytes) n) (last_line v w n t (numbers_of bytes 3))
   unfolding text text_by text_of
-  printed-by v e = rw fine (ap (λ b. text_with honest bytes (verdict_lines b (happy bytes) n) (last_line b w n t (numbers_of bytes 3))) e)
+  printed-by v e =
+      rw read (ap (λ b. text_with honest bytes (verdict_lines b (happy bytes) n) (last_line b w n t (numbers_of bytes 3))) e)
 
   rejected : AllReject s (story honest bytes) → Rejected honest bytes
   unfolding run last_line verdict_words
@@ -177,7 +182,7 @@ module _ (honest : ℕ → Bool) (bytes : List ℕ) (is : IsRecord bytes) (f : F
 
       prints-enough : 2 * t + 1 ≤ honest_published honest bytes → last_line true w n t shares ≡ secret_line
       prints-enough many =
-          found (opens_enough s legal honest f.few (zero_row s F) shares row_fine (shares-count bytes w n t fine) on-f many)
+          found (opens_enough s legal honest f.few (zero_row s F) shares row_fine (shares-count bytes head read) on-f many)
 
       prints-no-other : (last_line true w n t shares ≡ secret_line)
           ⊎ (last_line true w n t shares ≡ line (letters "opened refused ") (refusal_number NoOpening))
@@ -189,7 +194,7 @@ module _ (honest : ℕ → Bool) (bytes : List ℕ) (is : IsRecord bytes) (f : F
               ⊎ (last_line true w n t shares ≡ line (letters "opened refused ") (refusal_number NoOpening))
           go none e = inr (ap opening_line e)
           go (some g) e =
-              let only = opens_no_other s legal honest f.few (zero_row s F) shares row_fine (shares-count bytes w n t fine) on-f g e in
+              let only = opens_no_other s legal honest f.few (zero_row s F) shares row_fine (shares-count bytes head read) on-f g e in
               inl (found (e ∙ ap some only))
 
     -- With all honest shares published all but t are there.

@@ -4,7 +4,7 @@ use mathlib.Core.Logic.{⊎_elim}
 use mathlib.Core.Bool.{true, false, and-eq-true_iff}
 use mathlib.Core.Option.{none, some}
 use mathlib.Core.List.{List, []}
-use Prim.Native.Nat.{ℕ, zero, suc, ◌+◌, ◌*◌, ◌-◌, ◌≤◌, ◌<◌}
+use Prim.Native.Nat.{ℕ, zero, suc, ◌+◌, ◌*◌, ◌-◌, ◌≤◌, ◌<◌, min}
 use native.Mathlib.Omega.{arith}
 use lib.Dec.{eqb}
 use lib.ListN.{length, get_or, take, drop, length-drop}
@@ -13,80 +13,80 @@ use borrow.Author.Tests.{leb-true, le-leb, lt-leb, eqb-true, eq-eqb, ne_eqb}
 use Rattle.lists.proofs.Cases.{le-or-lt}
 use Rattle.lists.proofs.InPlace.{drop-end}
 use Rattle.answers.specs.declared.Refusal.TheVariants.{WrongSize, WrongDirectory}
-use Rattle.answers.specs.declared.Admission.{Admission}
-use Rattle.answers.specs.declared.Admission.TheVariants.{Pass, Fail}
-use Rattle.answers.specs.Refusals.{refusal_number, lowest}
+use Rattle.answers.specs.Refusals.{refusal_number, lowest, Admission, number_of}
 use Rattle.answers.proofs.Tests.{lowest-pass}
 use Rattle.field.specs.declared.Width.{Width}
 use Rattle.field.specs.declared.Width.TheVariants.{Narrow}
 use Rattle.parties.specs.Parties.{sizes}
-use Rattle.record.specs.declared.Reading.TheVariants.{Fine, Refused}
 use Rattle.record.specs.Bytes.{number_at, stand_at}
-use Rattle.record.specs.Record.{section_length, section_start, directory, directory_right, width_of, n_of, t_of, IsRecord, section_of}
-use Rattle.record.specs.Record.{reading_tests, read_by, reading_as, reading, reading_number}
+use Rattle.record.specs.Record.{section_length, section_start, directory, directory_right, width_of, n_of, t_of, IsRecord, section_of, fine}
+use Rattle.record.specs.Record.{reading_tests, read_by, reading_as, reading}
+use Rattle.record.specs.declared.Head.{Head}
 use Rattle.record.proofs.Bytes.{stand-facts, stand-true}
 use Rattle.record.proofs.Sections.{record-small, narrow-small, length-directory, directory-offset, directory-count}
 use Rattle.record.proofs.Sections.{section-before-end}
+use Rattle.std.specs.Prelude.{Ok, Err}
 
 -- ---- Which answer when, in the protocol's order, by the width and the sizes that a reader takes
 module _ (bytes : List ℕ) (w : Width) (n t : ℕ) where
-  pub as_short : length bytes < 2 → reading_as bytes w n t ≡ Refused WrongDirectory
+  pub as_short : length bytes < 2 → reading_as bytes w n t ≡ Err WrongDirectory
   unfolding reading_as
   as_short h = simp (lt-leb _ _ h)
 
   module _ (two : 2 ≤ length bytes) where
-    pub as-size : sizes n t ≡ false → reading_as bytes w n t ≡ Refused WrongSize
+    pub as-size : sizes n t ≡ false → reading_as bytes w n t ≡ Err WrongSize
     unfolding reading_as
     as-size e = simp (le-leb _ _ two, e)
 
-    pub as-wrong : sizes n t ≡ true → directory_right bytes w n t ≡ false → reading_as bytes w n t ≡ Refused WrongDirectory
+    pub as-wrong : sizes n t ≡ true → directory_right bytes w n t ≡ false → reading_as bytes w n t ≡ Err WrongDirectory
     unfolding reading_as
     as-wrong e d = simp (le-leb _ _ two, e, d)
 
-    pub as-fine : sizes n t ≡ true → directory_right bytes w n t ≡ true → reading_as bytes w n t ≡ Fine w n t
+    pub as-fine : sizes n t ≡ true → directory_right bytes w n t ≡ true → reading_as bytes w n t ≡ fine w n t
     unfolding reading_as
     as-fine e d = simp (le-leb _ _ two, e, d)
 
 -- By what the bytes give.
 module _ (bytes : List ℕ) where
-  pub reading-short : length bytes < 2 → reading bytes ≡ Refused WrongDirectory
+  pub reading-short : length bytes < 2 → reading bytes ≡ Err WrongDirectory
   unfolding reading
   reading-short h = as_short bytes _ _ _ h
 
   module _ (two : 2 ≤ length bytes) where
-    pub reading-size : sizes (n_of bytes) (t_of bytes) ≡ false → reading bytes ≡ Refused WrongSize
+    pub reading-size : sizes (n_of bytes) (t_of bytes) ≡ false → reading bytes ≡ Err WrongSize
     unfolding reading
     reading-size e = as-size bytes _ _ _ two e
 
     pub reading-wrong : sizes (n_of bytes) (t_of bytes) ≡ true → directory_right bytes (width_of bytes) (n_of bytes) (t_of bytes) ≡ false
-        → reading bytes ≡ Refused WrongDirectory
+        → reading bytes ≡ Err WrongDirectory
     unfolding reading
     reading-wrong e d = as-wrong bytes _ _ _ two e d
 
     pub reading-fine : sizes (n_of bytes) (t_of bytes) ≡ true → directory_right bytes (width_of bytes) (n_of bytes) (t_of bytes) ≡ true
-        → reading bytes ≡ Fine (width_of bytes) (n_of bytes) (t_of bytes)
+        → reading bytes ≡ fine (width_of bytes) (n_of bytes) (t_of bytes)
     unfolding reading
     reading-fine e d = as-fine bytes _ _ _ two e d
 
 -- The same in the protocol's numbers.
 module _ (bytes : List ℕ) where
-  pub number_short : length bytes < 2 → reading_number (reading bytes) ≡ some (refusal_number WrongDirectory)
-  number_short h = ap reading_number (reading-short bytes h)
+  pub number_short : length bytes < 2 → number_of (reading bytes) ≡ some (refusal_number WrongDirectory)
+  number_short h = ap number_of (reading-short bytes h)
 
   pub number_size : 2 ≤ length bytes → sizes (n_of bytes) (t_of bytes) ≡ false
-      → reading_number (reading bytes) ≡ some (refusal_number WrongSize)
-  number_size two e = ap reading_number (reading-size bytes two e)
+      → number_of (reading bytes) ≡ some (refusal_number WrongSize)
+  number_size two e = ap number_of (reading-size bytes two e)
 
   pub number-directory : 2 ≤ length bytes → sizes (n_of bytes) (t_of bytes) ≡ true
       → directory_right bytes (width_of bytes) (n_of bytes) (t_of bytes) ≡ false
-      → reading_number (reading bytes) ≡ some (refusal_number WrongDirectory)
-  number-directory two e d = ap reading_number (reading-wrong bytes two e d)
+      → number_of (reading bytes) ≡ some (refusal_number WrongDirectory)
+  number-directory two e d = ap number_of (reading-wrong bytes two e d)
 
 -- As the code tests the directory: first where the record ends.
 module _ (bytes : List ℕ) (w : Width) (n t : ℕ) where
-  pub directory-no : (length bytes ≡ section_start w n t 4 → ⊥) → false ≡ directory_right bytes w n t
+  pub directory-no : (end : ℕ) → end ≡ section_start w n t 4 → (length bytes ≡ end → ⊥)
+      → eqb (length bytes) end ≡ directory_right bytes w n t
   unfolding directory_right
-  directory-no d = simp (ne_eqb _ _ d)
+  directory-no end e d = simp (← e, ne_eqb _ _ d)
 
   pub directory-by : (list : List ℕ) → list ≡ directory w n t → length bytes ≡ section_start w n t 4
       → stand_at bytes 2 list ≡ directory_right bytes w n t
@@ -96,13 +96,15 @@ module _ (bytes : List ℕ) (w : Width) (n t : ℕ) where
 -- ---- A fine record is a record, and a record is fine
 
 -- Nothing is found fine but where every test passes, and the width and the sizes are handed on.
-passed : (a : Admission) (v : Width) (m s : ℕ) (w : Width) (n t : ℕ) → read_by a v m s ≡ Fine w n t
-    → (a ≡ Pass) × (w ≡ v) × (n ≡ m) × (t ≡ s)
-passed Pass v m s w n t e = (refl, cc, cc, cc)
-passed (Fail why) v m s w n t e = absurd (let z : ◌≡◌ {A = ℕ} 0 1 = cc in omega arith)
+passed : (a : Admission) (v : Width) (m s : ℕ) (w : Width) (n t : ℕ) → read_by a v m s ≡ fine w n t
+    → (a ≡ Ok tt) × (w ≡ v) × (n ≡ m) × (t ≡ s)
+passed (Ok u) v m s w n t e =
+    let h : ◌≡◌ {A = Head} (record { width = w; n = n; t = t }) (record { width = v; n = m; t = s }) = cc in
+    (refl, ap (λ (x : Head). x.width) h, ap (λ (x : Head). x.n) h, ap (λ (x : Head). x.t) h)
+passed (Err why) v m s w n t e = absurd (cc)
 
 module _ (bytes : List ℕ) where
-  pub fine-sizes : (w : Width) (n t : ℕ) → reading bytes ≡ Fine w n t → (w ≡ width_of bytes) × (n ≡ n_of bytes) × (t ≡ t_of bytes)
+  pub fine-sizes : (w : Width) (n t : ℕ) → reading bytes ≡ fine w n t → (w ≡ width_of bytes) × (n ≡ n_of bytes) × (t ≡ t_of bytes)
   unfolding reading reading_as
   fine-sizes w n t e =
       let v = width_of bytes in
@@ -110,7 +112,7 @@ module _ (bytes : List ℕ) where
       let q = passed (lowest tests) v (n_of bytes) (t_of bytes) w n t e in
       (q.1, q.2, q.3)
 
-  pub fine-record : (w : Width) (n t : ℕ) → reading bytes ≡ Fine w n t → IsRecord bytes
+  pub fine-record : (w : Width) (n t : ℕ) → reading bytes ≡ fine w n t → IsRecord bytes
   unfolding reading reading_as directory_right
   fine-record v a b e =
       let w = width_of bytes in
@@ -161,18 +163,18 @@ module _ (bytes : List ℕ) (r : IsRecord bytes) where
   record-directory (suc (suc (suc (suc (suc (suc (suc zero))))))) h = r.count 3 (omega arith)
   record-directory (suc (suc (suc (suc (suc (suc (suc (suc k)))))))) h = absurd (omega arith)
 
-  pub record-fine : reading bytes ≡ Fine (width_of bytes) (n_of bytes) (t_of bytes)
+  pub record-fine : reading bytes ≡ fine (width_of bytes) (n_of bytes) (t_of bytes)
   unfolding directory_right
   record-fine =
       let stand : stand_at bytes 2 its ≡ true = stand-true bytes 2 its record-directory in
       reading-fine bytes r.two r.size (simp (eq-eqb _ _ r.end, stand))
 
-  pub number-none : reading_number (reading bytes) ≡ none
-  number-none = ap reading_number record-fine
+  pub number-none : number_of (reading bytes) ≡ none
+  number-none = ap number_of record-fine
 
 -- ---- A part from `offset` on of `count` bytes, as far as the bytes reach
-module _ (bytes : List ℕ) (from end offset count : ℕ) (f : from ≡ length bytes - (length bytes - offset))
-    (e : end ≡ length bytes - (length bytes - (offset + count))) where
+module _ (bytes : List ℕ) (from end offset count : ℕ) (f : from ≡ min offset (length bytes))
+    (e : end ≡ min (offset + count) (length bytes)) where
   -- The part is the same though it is cut.
   abbrev Reached : Type 0
   Reached = take (end - from) (drop from bytes) ≡ take count (drop offset bytes)
@@ -217,8 +219,8 @@ module _ (bytes : List ℕ) (k : ℕ) where
     section-named = simp (le-leb _ _ h)
 
     -- As the code takes it: from the offset to the end, as far as the bytes reach.
-    pub section-part : (from end offset count : ℕ) → from ≡ length bytes - (length bytes - offset)
-        → end ≡ length bytes - (length bytes - (offset + count)) → offset ≡ number_at bytes (2 + 4 * k) → count ≡ number_at bytes (4 + 4 * k)
+    pub section-part : (from end offset count : ℕ) → from ≡ min offset (length bytes)
+        → end ≡ min (offset + count) (length bytes) → offset ≡ number_at bytes (2 + 4 * k) → count ≡ number_at bytes (4 + 4 * k)
         → take (end - from) (drop from bytes) ≡ section_of bytes k
     section-part from end offset count f e o c =
         part-reached bytes from end offset count f e ∙ ap₂ (λ a b. take b (drop a bytes)) o c ∙ sym section-named

@@ -1,19 +1,19 @@
 -- Laws of numbers in bytes: lengths, places, bounds, for two bytes and for four, and what `stand_at` and `over` say.
-use mathlib.Core.Path.{◌≡◌, refl, ap, ap₂, ◌∙◌}
+use mathlib.Core.Path.{◌≡◌, refl, sym, ap, ap₂, ◌∙◌}
 use mathlib.Core.Bool.{true, and-eq-true_iff}
 use mathlib.Core.List.{List, [], ◌∷◌, ◌++◌}
 use Prim.Native.Nat.{ℕ, zero, suc, ◌+◌, ◌*◌, ◌/◌, ◌≤◌, ◌<◌}
 use native.Mathlib.Nat.{mul-le-mul}
 use native.Mathlib.Omega.{arith}
 use lib.Dec.{eqb}
-use lib.ListN.{length, get_or, take, drop}
+use lib.ListN.{length, get_or, get_or-eq_default, take, drop}
 use lib.Seq.{take_at, drop_at}
 use borrow.Author.Tests.{eqb-true, eq-eqb}
 use Rattle.lists.specs.All.{All}
 use Rattle.field.specs.declared.Width.{Width}
 use Rattle.field.specs.declared.Width.TheVariants.{Narrow, Wide}
 use Rattle.record.specs.Bytes.{paired, number_at, numbers, number_in, wide_number_at, wide_numbers, wide_number_in}
-use Rattle.record.specs.Bytes.{number_bytes, limit_of, numbers_by, stand_at, over}
+use Rattle.record.specs.Bytes.{number_bytes, limit_of, number_at_by, numbers_by, number_by, stand_at, over}
 
 -- ---- Two as one, for any weight b of the first
 module _ (b : ℕ) where
@@ -79,6 +79,21 @@ wide-number-place bytes k h =
     (number-place bytes (2 * k) (omega arith) ∙ ap (number_at bytes) here)
     (number-place bytes (2 * k + 1) (omega arith) ∙ ap (number_at bytes) there)
 
+-- As the code counts them and reads the k-th: where its bytes stand, or 0 behind the last.
+module _ (w : Width) (bytes : List ℕ) (each : ℕ) (e : each ≡ number_bytes w) where
+  pub length-by : length (numbers_by w bytes) ≡ length bytes / each
+  length-by = rw e (length-numbers w bytes)
+
+  pub place-by : (k : ℕ) → k < length bytes / each → number_at_by w bytes (each * k) ≡ number_by w bytes k
+  place-by k h = rw e (place-at w k (rw e at h))
+    where
+      place-at : (w : Width) (k : ℕ) → k < length bytes / number_bytes w → number_at_by w bytes (number_bytes w * k) ≡ number_by w bytes k
+      place-at Narrow k h = sym (number-place bytes k h)
+      place-at Wide k h = sym (wide-number-place bytes k h)
+
+  pub none-by : (k : ℕ) → length bytes / each ≤ k → 0 ≡ number_by w bytes k
+  none-by k h = sym (get_or-eq_default (numbers_by w bytes) 0 (omega (arith, length-by)))
+
 -- A part of the numbers is that of the part of the bytes.
 pub numbers-part : (w : Width) (from count : ℕ) (bytes : List ℕ)
     → numbers_by w (take (number_bytes w * count) (drop (number_bytes w * from) bytes)) ≡ take count (drop from (numbers_by w bytes))
@@ -96,7 +111,8 @@ numbers-below Wide bytes h = paired-below 65536 (numbers bytes) (paired-below 25
 
 -- ---- Numbers that stand from a place on
 
-pub stand-first : (bytes : List ℕ) (at x : ℕ) (xs : List ℕ) → number_at bytes at ≡ x → stand_at bytes at (x ∷ xs) ≡ stand_at bytes (at + 2) xs
+pub stand-first : (bytes : List ℕ) (at x : ℕ) (xs : List ℕ) → number_at bytes at ≡ x
+    → stand_at bytes at (x ∷ xs) ≡ stand_at bytes (at + 2) xs
 unfolding stand_at
 stand-first bytes at x xs e = rw (eq-eqb (number_at bytes at) x e)
 
@@ -137,11 +153,6 @@ over-full [] [] h = refl
 over-full [] (y ∷ ys) h = absurd (omega arith)
 over-full (x ∷ xs) [] h = refl
 over-full (x ∷ xs) (y ∷ ys) h = ap (λ z. x ∷ z) (over-full xs ys (omega arith))
-
-pub over-nil : (xs : List ℕ) → over xs [] ≡ []
-unfolding over
-over-nil [] = refl
-over-nil (x ∷ xs) = refl
 
 pub length_over : (xs ys : List ℕ) → length (over xs ys) ≡ length ys
 unfolding over

@@ -1,79 +1,68 @@
 -- One turn of each loop of the code, as a law over plain lists.
---   Standing bytes at list i place   the first i numbers of the list stand where they should
---   Overing xs old new i             the first i numbers of xs are written over the front
-use mathlib.Core.Path.{◌≡◌, refl, sym, ap, ap₂, ◌∙◌}
+--   stand-next, stand-no, stand-end   the number at place i of a list is found, or not; the list ends
+--   written-next, over-written        one more number of xs is written; all are that both lists reach, over the front of the old ones
+use mathlib.Core.Path.{◌≡◌, sym, ap, ap₂, ◌∙◌}
+use mathlib.Core.Logic.{⊎_elim}
 use mathlib.Core.Bool.{true, false}
-use mathlib.Core.List.{List, ◌∷◌, ◌++◌}
-use Prim.Native.Nat.{ℕ, ◌+◌, ◌*◌, ◌≤◌, ◌<◌}
+use mathlib.Core.List.{List, [], ◌∷◌, ◌++◌, map, append-nil}
+use Prim.Native.Nat.{ℕ, ◌+◌, ◌*◌, ◌≤◌, ◌<◌, min}
+use native.Mathlib.Numerals.{add-one}
 use native.Mathlib.Omega.{arith}
-use lib.ListN.{length, get_or, take, drop, set, length-set, take-append-drop}
+use lib.ListN.{length, get_or, take, drop, set}
+use lib.Seq.{take_all, take-suc, take-suc-set}
 use borrow.Author.Tests.{ne_eqb}
-use Rattle.lists.proofs.InPlace.{drop-end, write-next, rest-kept, drop-next, write-end}
+use Rattle.std.proofs.lemmas.List.{map-append, drop-map, length-map}
+use Rattle.lists.proofs.Cases.{le-or-lt}
+use Rattle.lists.proofs.InPlace.{drop-end, drop-next}
 use Rattle.record.specs.Bytes.{number_at, stand_at, over}
-use Rattle.record.proofs.Bytes.{stand-first, over-nil}
+use Rattle.record.proofs.Bytes.{stand-first, over-room, over-full}
 
 -- ---- `stand_at`
-pub record Standing (bytes : List ℕ) (at : ℕ) (list : List ℕ) (i place : ℕ) : Type 0 where
-  pub within : i ≤ length list
-  pub here : place ≡ at + 2 * i
-  pub goal : stand_at bytes place (drop i list) ≡ stand_at bytes at list
+module _ (bytes : List ℕ) (at : ℕ) (list : List ℕ) (i : ℕ) where
+  module _ (h : i < length list) where
+    pub stand-next : number_at bytes (at + 2 * i) ≡ get_or list i 0
+        → stand_at bytes (at + 2 * (i + 1)) (drop (i + 1) list) ≡ stand_at bytes (at + 2 * i) (drop i list)
+    stand-next e =
+        let there : at + 2 * (i + 1) ≡ at + 2 * i + 2 = omega arith in
+        ap (λ p. stand_at bytes p (drop (i + 1) list)) there
+        ∙ sym (stand-first bytes (at + 2 * i) (get_or list i 0) (drop (i + 1) list) e)
+        ∙ ap (stand_at bytes (at + 2 * i)) (sym (drop-next list i 0 h))
 
-module _ (bytes : List ℕ) (at : ℕ) (list : List ℕ) where
-  pub stand-start : Standing bytes at list 0 at
-  stand-start = record { within = omega arith; here = omega arith; goal = refl }
-
-  module _ (i place : ℕ) (k : Standing bytes at list i place) where
-    pub stand-next : i < length list → number_at bytes place ≡ get_or list i 0 → Standing bytes at list (i + 1) (place + 2)
-    stand-next h e = record {
-      within = omega arith;
-      here = omega (arith, k.here);
-      goal =
-          sym (stand-first bytes place (get_or list i 0) (drop (i + 1) list) e)
-          ∙ ap (stand_at bytes place) (sym (drop-next list i 0 h))
-          ∙ k.goal;
-    }
-
-    pub stand-no : i < length list → (number_at bytes place ≡ get_or list i 0 → ⊥) → false ≡ stand_at bytes at list
+    pub stand-no : (number_at bytes (at + 2 * i) ≡ get_or list i 0 → ⊥) → stand_at bytes (at + 2 * i) (drop i list) ≡ false
     unfolding stand_at
-    stand-no h d =
-        let there : stand_at bytes place (get_or list i 0 ∷ drop (i + 1) list) ≡ false = rw (ne_eqb _ _ d) in
-        sym (ap (stand_at bytes place) (drop-next list i 0 h) ∙ there) ∙ k.goal
+    stand-no d = ap (stand_at bytes (at + 2 * i)) (drop-next list i 0 h) ∙ rw (ne_eqb _ _ d)
 
-    pub stand-end : length list ≤ i → true ≡ stand_at bytes at list
-    unfolding stand_at
-    stand-end h = ap (stand_at bytes place) (sym (drop-end list i h)) ∙ k.goal
+  pub stand-end : length list ≤ i → stand_at bytes (at + 2 * i) (drop i list) ≡ true
+  unfolding stand_at
+  stand-end h = ap (stand_at bytes (at + 2 * i)) (drop-end list i h)
 
--- ---- `numbers`
-pub record Overing (xs old new : List ℕ) (i : ℕ) : Type 0 where
-  pub kept : length new ≡ length old
-  pub goal : take i new ++ over (drop i xs) (drop i new) ≡ over xs old
+-- ---- `numbers_by`
+module _ {A : Type 0} (f : A → ℕ) (xs : List ℕ) where
+  pub written-next : (new : List A) (i : ℕ) (v : A) → map f (take i new) ≡ take i xs → i < length new → i < length xs → f v ≡ get_or xs i 0
+      → map f (take (i + 1) (set new i v)) ≡ take (i + 1) xs
+  written-next new i v e h l here =
+      rw (add-one i, take-suc-set new i v h, map-append f (take i new) (v ∷ []), e, here, take-suc xs i 0 l)
 
-module _ (xs old : List ℕ) where
-  pub over-start : Overing xs old old 0
-  over-start = record { kept = refl; goal = refl }
+  -- As many as both have.
+  over-taken : (old : List ℕ) (count : ℕ) → count ≡ min (length old) (length xs) → take count xs ++ drop count old ≡ over xs old
+  over-taken old count e =
+      ⊎_elim
+      (λ (h : length xs ≤ length old).
+      let all : count ≡ length xs = omega arith in
+      ap (λ k. take k xs ++ drop k old) all
+      ∙ ap (λ l. l ++ drop (length xs) old) (take_all (length xs) xs (omega arith))
+      ∙ sym (over-room xs old h))
+      (λ (h : length old < length xs).
+      let all : count ≡ length old = omega arith in
+      ap (λ k. take k xs ++ drop k old) all
+      ∙ ap (λ l. take (length old) xs ++ l) (drop-end old (length old) (omega arith))
+      ∙ append-nil (take (length old) xs)
+      ∙ sym (over-full xs old (omega arith)))
+      (le-or-lt (length xs) (length old))
 
-  module _ (new : List ℕ) (i : ℕ) (k : Overing xs old new i) where
-    pub over-next : (v : ℕ) → i < length xs → i < length new → v ≡ get_or xs i 0
-        → Overing xs old (set new i v) (i + 1)
-    unfolding over
-    over-next v more h e = record {
-      kept = length-set new i v ∙ k.kept;
-      goal =
-          ap (λ l. take (i + 1) (set new i v) ++ over (drop (i + 1) xs) l) (rest-kept new i v)
-          ∙ write-next new i v (over (drop (i + 1) xs) (drop (i + 1) new)) h
-          ∙ ap (λ z. take i new ++ z ∷ over (drop (i + 1) xs) (drop (i + 1) new)) e
-          ∙ ap₂ (λ l m. take i new ++ over l m) (sym (drop-next xs i 0 more)) (sym (drop-next new i 0 h))
-          ∙ k.goal;
-    }
-
-    -- No number is left.
-    pub over-end : length xs ≤ i → new ≡ over xs old
-    unfolding over
-    over-end h =
-        sym (take-append-drop i new) ∙ ap (λ l. take i new ++ over l (drop i new)) (sym (drop-end xs i h)) ∙ k.goal
-
-    -- No room is left.
-    pub over-stop : length new ≤ i → new ≡ over xs old
-    over-stop h =
-        sym (write-end new (over (drop i xs) (drop i new)) i h (ap (over (drop i xs)) (drop-end new i h) ∙ over-nil (drop i xs)))
-        ∙ k.goal
+  pub over-written : (old new : List A) (count i : ℕ) → count ≡ min (length old) (length xs) → length new ≡ count → i ≡ count
+      → map f (take i new) ≡ take i xs → map f (new ++ drop count old) ≡ over xs (map f old)
+  over-written old new count i c n k e =
+      map-append f new (drop count old)
+      ∙ ap₂ ◌++◌ (ap (map f) (sym (take_all i new (omega arith))) ∙ e ∙ ap (λ j. take j xs) k) (sym (drop-map f count old))
+      ∙ over-taken (map f old) count (omega (arith, length-map old f))

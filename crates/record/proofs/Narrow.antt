@@ -15,9 +15,10 @@ use Rattle.field.specs.declared.Width.TheVariants.{Narrow, Wide}
 use Rattle.answers.specs.declared.Refusal.TheVariants.{WrongSize}
 use Rattle.parties.specs.Parties.{sizes}
 use Rattle.parties.proofs.Parties.{sizes-facts}
-use Rattle.record.specs.declared.Reading.TheVariants.{Refused}
-use Rattle.record.specs.Record.{width_of, mark, n_of, t_of, IsRecord, reading_as, reading, reading_narrow, reading_number}
+use Rattle.record.specs.Record.{width_of, mark, n_of, t_of, IsRecord, reading_as, reading, reading_narrow}
 use Rattle.record.proofs.Answers.{as-size}
+use Rattle.std.specs.Prelude.{Err}
+use Rattle.answers.specs.Refusals.{number_of}
 
 -- ---- What byte 0 tells
 module _ (bytes : List ℕ) where
@@ -79,21 +80,14 @@ above-sizes n t h =
     ⊎_elim (λ (e : sizes n t ≡ true). let (low, high, four, most) = sizes-facts n t e in absurd (omega arith)) (λ e. e)
     (true-or-false (sizes n t))
 
-pub narrow-refuses : (bytes : List ℕ) → 2 ≤ length bytes → 128 ≤ get_or bytes 0 0 → reading_narrow bytes ≡ Refused WrongSize
+pub narrow-refuses : (bytes : List ℕ) → 2 ≤ length bytes → 128 ≤ get_or bytes 0 0 → reading_narrow bytes ≡ Err WrongSize
 unfolding reading_narrow
 narrow-refuses bytes two h = as-size bytes Narrow (get_or bytes 0 0) (t_of bytes) two (above-sizes _ _ h)
 
 -- So does every wide record.
-pub wide-refused : (bytes : List ℕ) → IsRecord bytes → width_of bytes ≡ Wide → reading_number (reading_narrow bytes) ≡ some 1
+pub wide-refused : (bytes : List ℕ) → IsRecord bytes → width_of bytes ≡ Wide → number_of (reading_narrow bytes) ≡ some 1
 wide-refused bytes r e =
     ⊎_elim
-    (λ h. ap reading_number (narrow-refuses bytes r.two h))
-    (λ h. absurd (apart (sym (width_narrow bytes h) ∙ e)))
+    (λ h. ap number_of (narrow-refuses bytes r.two h))
+    (λ h. let e₂ = width_narrow bytes h in absurd (cc))
     (le-or-lt 128 (get_or bytes 0 0))
-  where
-    told : Width → ℕ
-    told Narrow = 0
-    told Wide = 1
-
-    apart : ◌≡◌ {A = Width} Narrow Wide → ⊥
-    apart p = let z : ◌≡◌ {A = ℕ} 0 1 = ap told p in omega arith

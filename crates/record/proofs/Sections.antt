@@ -1,6 +1,6 @@
 -- Laws of the sections' sizes and of the directory: all is small, section k lies before the record's end, and the directory has its offset
 -- and length.
-use mathlib.Core.Path.{◌≡◌, refl, sym, ap, ◌∙◌}
+use mathlib.Core.Path.{◌≡◌, refl, sym, ap, ap₂, ◌∙◌}
 use mathlib.Core.Bool.{true, false}
 use mathlib.Core.List.{List, [], ◌∷◌}
 use Prim.Native.Nat.{ℕ, zero, suc, ◌+◌, ◌*◌, ◌≤◌, ◌<◌}
@@ -93,10 +93,13 @@ module _ (w : Width) (n t : ℕ) where
   unfolding directory
   directory-made each e = ap made e
 
-  -- The last offset and the last length give the record's end.
-  pub directory-end : (list : List ℕ) → list ≡ directory w n t → get_or list 6 0 + get_or list 7 0 ≡ section_start w n t 4
+  -- The last offset and the last length of legal sizes give the record's end.
+  pub directory-end : sizes n t ≡ true → (list : List ℕ) (last long : ℕ) → list ≡ directory_or_zeros w n t
+      → last ≡ get_or list 6 0 → long ≡ get_or list 7 0 → (list ≡ directory w n t) × (last + long ≡ section_start w n t 4)
   unfolding directory
-  directory-end list e = ap (λ z. get_or z 6 0 + get_or z 7 0) e
+  directory-end legal list last long e o c =
+      let whole = e ∙ directory-legal legal in
+      (whole, ap₂ ◌+◌ o c ∙ ap (λ z. get_or z 6 0 + get_or z 7 0) whole)
 
   pub record-head : 18 ≤ section_start w n t 4
   record-head = omega arith

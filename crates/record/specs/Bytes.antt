@@ -4,7 +4,8 @@
 --   numbers bytes              all numbers of two bytes each; wide_numbers of four
 --   number_in bytes k          the k-th of them, 0 behind the last; wide_number_in of four bytes
 --   number_bytes w, limit_of w   how many bytes a number of a width has, and what it is below
---   numbers_by w bytes         all numbers of a width
+--   number_at_by w bytes at    the number of a width at a place
+--   numbers_by w bytes         all numbers of a width; number_by w bytes k the k-th of them, 0 behind the last
 --   stand_at bytes at xs       the numbers xs stand in the bytes from a place on, two bytes for each
 --   over xs ys                 ys with xs written over its front, as far as both reach
 -- Laws: proofs/Bytes.
@@ -58,10 +59,19 @@ abbrev pub limit_of : Width → ℕ
 limit_of Narrow = 65536
 limit_of Wide = 4294967296
 
+-- The number at a place.
+abbrev pub number_at_by : Width → List ℕ → ℕ → ℕ
+number_at_by Narrow bytes at = number_at bytes at
+number_at_by Wide bytes at = wide_number_at bytes at
+
 -- All numbers.
 abbrev pub numbers_by : Width → List ℕ → List ℕ
 numbers_by Narrow bytes = numbers bytes
 numbers_by Wide bytes = wide_numbers bytes
+
+-- The k-th number, 0 behind the last.
+abbrev pub number_by : Width → List ℕ → ℕ → ℕ
+number_by w bytes k = get_or (numbers_by w bytes) k 0
 
 -- ---- Places
 

@@ -11,21 +11,19 @@
 --   IsRecord bytes                                 the bytes are a record
 --   reading_tests, reading_as                      a reader's tests in order, and what it answers, by the width and the sizes that it takes
 --   reading bytes, reading_narrow bytes            what the reader answers, and one that knows records of two-byte numbers alone
---   reading_number                                 the protocol's number of that answer
+--   Reading, fine w n t                            the head of a record, or why the bytes are none; that of a record that is fine
 --   section_of bytes k, numbers_of bytes k         the bytes that the directory's pair k names, of any bytes, and their numbers
 -- Laws: proofs/Sections, proofs/Answers, proofs/Narrow.
-use Rattle.std.specs.Prelude.{◌≡◌, Bool, true, cond, ◌&&◌, List, [], ◌∷◌, ℕ, zero, suc, ◌+◌, ◌*◌, ◌-◌, ◌≤◌, eqb, leb, ltb, length, get_or, take, drop, replicate}
-use Rattle.std.proofs.Math.Option.{Option, none, some}
+use Rattle.std.specs.Prelude.{◌≡◌, Bool, true, cond, ◌&&◌, List, [], ◌∷◌, length, get_or, take, drop, replicate}
+use Rattle.std.specs.Prelude.{ℕ, zero, suc, ◌+◌, ◌*◌, ◌-◌, ◌≤◌, eqb, leb, ltb, Result, Ok, Err}
 use Rattle.field.specs.declared.Width.{Width}
 use Rattle.field.specs.declared.Width.TheVariants.{Narrow, Wide}
+use Rattle.answers.specs.declared.Refusal.{Refusal}
 use Rattle.answers.specs.declared.Refusal.TheVariants.{WrongSize, WrongDirectory}
-use Rattle.answers.specs.declared.Admission.{Admission}
-use Rattle.answers.specs.declared.Admission.TheVariants.{Pass, Fail}
-use Rattle.answers.specs.Refusals.{Test, refusal_number, lowest}
+use Rattle.answers.specs.Refusals.{Test, lowest, Admission}
 use Rattle.parties.specs.Parties.{sizes}
 use Rattle.record.specs.Bytes.{number_at, number_bytes, numbers_by, stand_at}
-use Rattle.record.specs.declared.Reading.{Reading}
-use Rattle.record.specs.declared.Reading.TheVariants.{Fine, Refused}
+use Rattle.record.specs.declared.Head.{Head}
 
 -- ---- The sections: deals, round two, reports, published shares
 
@@ -101,10 +99,18 @@ reading_tests bytes w n t =
     ∷ (directory_right bytes w n t, WrongDirectory)
     ∷ []
 
+-- What a reader answers: the width and the sizes, or why the bytes are no record.
+abbrev pub Reading : Type 0
+Reading = Result Head Refusal
+
+-- A record of this width and these sizes.
+abbrev pub fine : Width → ℕ → ℕ → Reading
+fine w n t = Ok (record { width = w; n = n; t = t })
+
 -- The width and the sizes where every test passes.
 abbrev pub read_by : Admission → Width → ℕ → ℕ → Reading
-read_by Pass w n t = Fine w n t
-read_by (Fail why) w n t = Refused why
+read_by (Ok tt) w n t = fine w n t
+read_by (Err why) w n t = Err why
 
 -- The same, or the first test that fails.
 unfoldable pub reading_as : List ℕ → Width → ℕ → ℕ → Reading
@@ -117,11 +123,6 @@ reading bytes = reading_as bytes (width_of bytes) (n_of bytes) (t_of bytes)
 -- "a reader of old ones alone": to it byte 0 is n, whatever it is.
 unfoldable pub reading_narrow : List ℕ → Reading
 reading_narrow bytes = reading_as bytes Narrow (get_or bytes 0 0) (t_of bytes)
-
--- The protocol's number of a reader's answer; none where the record is fine.
-abbrev pub reading_number : Reading → Option ℕ
-reading_number (Fine w n t) = none
-reading_number (Refused why) = some (refusal_number why)
 
 -- ---- What stands in a section
 

@@ -21,8 +21,7 @@ use Rattle.lists.proofs.Selections.{length-select}
 use Rattle.lists.proofs.Tabulate.{length-tabulate}
 use Rattle.field.specs.Arithmetic.{Prime}
 use Rattle.polynomial.specs.Polynomial.{Points}
-use Rattle.answers.specs.declared.Fitted.{Fitted}
-use Rattle.answers.specs.Fits.{decoded}
+use Rattle.answers.specs.Fits.{decoded, Fitted}
 use Rattle.answers.proofs.Fits.{found-is, nothing_is}
 use Rattle.fit.specs.Fit.{sent, Near, fit}
 use Rattle.fit.specs.Opening.{Opening, needed, opening_of}
@@ -42,10 +41,9 @@ decides : (Fitting : List ℕ → Type 0) (o : Option (List ℕ)) → ((o ≡ no
     → ((f : List ℕ) → o ≡ some f → Fitting f) → ((f : List ℕ) → Fitting f → o ≡ some f)
     → (fitted : Fitted) → fitted ≡ decoded o → Decides Fitting fitted
 decides Fitting o iff sound complete fitted is =
-    let told = ap (λ w. w.outcome) is in
     record {
-      nothing = (λ e. iff.0 (nothing_is _ (sym told ∙ e)), λ h. told ∙ ap (λ o. (decoded o).outcome) (iff.1 h));
-      found = λ e. let f = found-is o (sym told ∙ e) in (f.found, sound f.found f.is);
+      nothing = (λ e. iff.0 (nothing_is _ (sym is ∙ e)), λ h. is ∙ ap decoded (iff.1 h));
+      found = λ c e. let f = found-is o c (sym is ∙ e) in (f.found, sound f.found f.is);
       fits = λ f h. is ∙ ap decoded (complete f h);
     }
 

@@ -2,8 +2,8 @@
 --   fit-lent, repair-hidden   what is lent to the fit
 --   repair-size, repair-number, repair-few; published-size, published-length; opening-size, opening-number, opening-length   refusals
 --   repair-admitted, published-admitted, opening-admitted   otherwise what is decoded
-use mathlib.Core.Path.{◌≡◌, sym, ap, ◌∙◌}
-use mathlib.Core.Bool.{true, false}
+use mathlib.Core.Path.{◌≡◌, refl, sym, ap, ◌∙◌}
+use mathlib.Core.Bool.{Bool, true, false, cond}
 use mathlib.Core.List.{List}
 use Prim.Native.Nat.{ℕ, ◌+◌, ◌*◌, ◌-◌, ◌^◌, ◌≤◌, ◌<◌}
 use native.Mathlib.Omega.{arith}
@@ -15,7 +15,11 @@ use Rattle.lists.specs.Choices.{hide}
 use Rattle.lists.specs.Masks.{bit}
 use Rattle.lists.specs.Tabulate.{tabulate}
 use Rattle.answers.specs.declared.Refusal.TheVariants.{WrongSize, WrongNumber, WrongLength}
-use Rattle.answers.specs.Fits.{decoded, refused_fit}
+use Rattle.answers.specs.Fits.{Fitted, decoded}
+use Rattle.std.specs.Prelude.{Ok, Err}
+use Rattle.answers.specs.declared.Refusal.{Refusal}
+use Rattle.answers.specs.Refusals.{Admission}
+use Rattle.answers.proofs.Tests.{fail-pass}
 use Rattle.fit.specs.Admitted.{fit_in}
 use Rattle.fit.specs.Fit.{sent, fit}
 use Rattle.fit.proofs.Admitted.{fit-admitted}
@@ -41,18 +45,23 @@ repair-hidden p n t T S heard positive =
     fit-hide p (not_sent p) (not-sent-above p) positive (tabulate (bit S) n) T (take n heard) t (ones S - t)
 
 -- ---- what the code answers
+-- A test that is not refused has passed.
+pub passed : (why : Refusal) (pass : Bool) (r : Admission) → r ≡ cond pass (Ok tt) (Err why) → r ≡ Ok tt → pass ≡ true
+passed why true r e same = refl
+passed why false r e same = fail-pass {why = why} (sym e ∙ same)
+
 module _ (p n t : ℕ) (T : List ℕ) where
   module _ (S : ℕ) (heard : List ℕ) where
-    pub repair-size : sizes n t ≡ false → refused_fit WrongSize ≡ repair_in p n t T S heard
+    pub repair-size : sizes n t ≡ false → ◌≡◌ {A = Fitted} (Err WrongSize) (repair_in p n t T S heard)
     unfolding repair_in
     repair-size h = rw h
 
     module _ (sized : sizes n t ≡ true) where
-      pub repair-number : ltb S (2 ^ n) ≡ false → refused_fit WrongNumber ≡ repair_in p n t T S heard
+      pub repair-number : ltb S (2 ^ n) ≡ false → ◌≡◌ {A = Fitted} (Err WrongNumber) (repair_in p n t T S heard)
       unfolding repair_in
       repair-number h = rw (sized, h)
 
-      pub repair-few : ltb S (2 ^ n) ≡ true → ones S < 3 * t + 1 → refused_fit WrongLength ≡ repair_in p n t T S heard
+      pub repair-few : ltb S (2 ^ n) ≡ true → ones S < 3 * t + 1 → ◌≡◌ {A = Fitted} (Err WrongLength) (repair_in p n t T S heard)
       unfolding repair_in
       repair-few h few = rw (sized, h, lt-leb (3 * t + 1) (ones S) few)
 
@@ -61,12 +70,12 @@ module _ (p n t : ℕ) (T : List ℕ) where
       repair-admitted inside many = rw (sized, lt-ltb S (2 ^ n) inside, le-leb (3 * t + 1) (ones S) many)
 
   module _ (xs : List ℕ) where
-    pub published-size : sizes n t ≡ false → refused_fit WrongSize ≡ published_in p n t T xs
+    pub published-size : sizes n t ≡ false → ◌≡◌ {A = Fitted} (Err WrongSize) (published_in p n t T xs)
     unfolding published_in
     published-size h = rw h
 
     module _ (sized : sizes n t ≡ true) where
-      pub published-length : (length xs ≡ n → ⊥) → refused_fit WrongLength ≡ published_in p n t T xs
+      pub published-length : (length xs ≡ n → ⊥) → ◌≡◌ {A = Fitted} (Err WrongLength) (published_in p n t T xs)
       unfolding published_in
       published-length d = rw (sized, ne_eqb (length xs) n d)
 
@@ -75,16 +84,16 @@ module _ (p n t : ℕ) (T : List ℕ) where
       published-admitted e = rw (sized, eq-eqb (length xs) n e)
 
   module _ (i v : ℕ) (xs : List ℕ) where
-    pub opening-size : sizes n t ≡ false → refused_fit WrongSize ≡ opening_in p n t T i v xs
+    pub opening-size : sizes n t ≡ false → ◌≡◌ {A = Fitted} (Err WrongSize) (opening_in p n t T i v xs)
     unfolding opening_in
     opening-size h = rw h
 
     module _ (sized : sizes n t ≡ true) where
-      pub opening-number : is_party n i ≡ false → refused_fit WrongNumber ≡ opening_in p n t T i v xs
+      pub opening-number : is_party n i ≡ false → ◌≡◌ {A = Fitted} (Err WrongNumber) (opening_in p n t T i v xs)
       unfolding opening_in
       opening-number k = rw (sized, k)
 
-      pub opening-length : is_party n i ≡ true → (length xs ≡ n → ⊥) → refused_fit WrongLength ≡ opening_in p n t T i v xs
+      pub opening-length : is_party n i ≡ true → (length xs ≡ n → ⊥) → ◌≡◌ {A = Fitted} (Err WrongLength) (opening_in p n t T i v xs)
       unfolding opening_in
       opening-length k d = rw (sized, k, ne_eqb (length xs) n d)
 

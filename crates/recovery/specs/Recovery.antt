@@ -12,12 +12,12 @@ use Rattle.lists.specs.Choices.{select}
 use Rattle.lists.specs.Masks.{bit}
 use Rattle.lists.specs.Tabulate.{tabulate}
 use Rattle.answers.specs.declared.Refusal.TheVariants.{WrongSize, WrongNumber, WrongLength}
-use Rattle.answers.specs.declared.Fitted.{Fitted}
 use Rattle.answers.specs.Refusals.{Test, lowest}
 use Rattle.fit.specs.Fit.{fit}
 use Rattle.fit.specs.Opening.{opening_of}
 use Rattle.fit.specs.Admitted.{decoded_if}
 use Rattle.parties.specs.Parties.{sizes, is_party}
+use Rattle.answers.specs.Fits.{Fitted}
 
 -- The column that fits the points (j, first number heard from j) for j in S, a set of the n parties: at most t of them differ. The j in
 -- a point is j's entry of the table.

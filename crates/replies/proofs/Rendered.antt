@@ -4,8 +4,8 @@ use Rattle.std.specs.Io.KnownBytes.{Appends, Consumes}
 use Rattle.std.proofs.lemmas.Bool.{le-leb}
 use Rattle.std.proofs.lemmas.Result.{on_ok_weaker}
 use Rattle.std.proofs.Math.Seq.{take-append_seam}
-use Rattle.answers.specs.declared.Writing.{Writing}
 use Rattle.transcript.specs.Transcript.{text, rendering, bytes_written}
+use Rattle.answers.specs.Answers.{Writing}
 
 front : (bytes out : List ℕ) → 512 ≤ length out → take (bytes_written (rendering bytes out).1) (rendering bytes out).0 ≡ text bytes
 unfolding rendering

@@ -5,12 +5,10 @@
 --   state_words lamp                 what a lamp holds
 use Rattle.std.proofs.Math.Option.{Option, none, some}
 use Rattle.std.specs.Prelude.{List, [], ◌∷◌, ◌++◌, ℕ, codes, decimal, flat_map}
-use Rattle.answers.specs.declared.Answer.{Answer}
-use Rattle.answers.specs.Answers.{number_of, values_of, stage_number}
-use Rattle.answers.specs.Refusals.{refusal_number}
-use Rattle.dealer.specs.declared.Dealing.{Dealing}
-use Rattle.dealer.specs.declared.Dealing.TheVariants.{Written, Refused}
+use Rattle.answers.specs.Answers.{values_of, stage_number, Answered}
+use Rattle.answers.specs.Refusals.{refusal_number, Admission, number_of}
 use Rattle.lamp.specs.declared.Lamp.{Lamp}
+use Rattle.std.specs.Prelude.{Ok, Err}
 
 -- A space, and the number in decimal.
 abbrev pub number_word : ℕ → List ℕ
@@ -26,13 +24,13 @@ result_words none values = codes "ok" ++ number_words values
 result_words (some k) values = codes "refused" ++ number_word k
 
 -- Its refusal's number, or its values.
-abbrev pub answer_words : Answer → List ℕ
+abbrev pub answer_words : Answered → List ℕ
 answer_words a = result_words (number_of a) (values_of a)
 
 -- No values: what is dealt stands in the list.
-abbrev pub dealing_words : Dealing → List ℕ
-dealing_words Written = result_words none []
-dealing_words (Refused why) = result_words (some (refusal_number why)) []
+abbrev pub dealing_words : Admission → List ℕ
+dealing_words (Ok tt) = result_words none []
+dealing_words (Err why) = result_words (some (refusal_number why)) []
 
 -- Its stage, share, happy set and report.
 abbrev pub state_words : Lamp → List ℕ

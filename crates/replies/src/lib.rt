@@ -5,13 +5,13 @@
 mod streams;
 mod texts;
 
-ghost use Rattle.std.specs.Prelude.{[], ◌∷◌, ◌++◌, codes, OnOk};
+ghost use Rattle.std.specs.Prelude.{[], ◌∷◌, ◌++◌, codes, map, OnOk};
 ghost use Rattle.std.specs.Io.KnownBytes.{Appends};
 ghost use Rattle.std.proofs.Math.Option.{none, some};
 ghost use Rattle.replies.specs.Words.{number_word, number_words, result_words, answer_words, dealing_words, state_words};
 
-use answers::Answer;
-use dealer::Dealing;
+use answers::{Answer, Refusal};
+use arrays::Number;
 use lamp::Lamp;
 use std::io;
 use std::io::Write;
@@ -32,21 +32,11 @@ pub fn number<W: Write>(out: &mut W, x: u32) -> io::Result<()>
 }
 
 // The numbers of a list.
-pub fn numbers<W: Write>(out: &mut W, list: &[u16]) -> io::Result<()>
-    ensures { OnOk result (Appends (W.contents out.old) (W.contents out.new) (number_words list.now)) }
+pub fn numbers<W: Write, N: Number>(out: &mut W, list: &[N]) -> io::Result<()>
+    ensures { OnOk result (Appends (W.contents out.old) (W.contents out.new) (number_words (map N.value list.now))) }
 {
     for x in list {
-        number(out, arrays::wide(*x))?;
-    }
-    Ok(())
-}
-
-// The same of numbers of 32 bits.
-pub fn wide_numbers<W: Write>(out: &mut W, list: &[u32]) -> io::Result<()>
-    ensures { OnOk result (Appends (W.contents out.old) (W.contents out.new) (number_words list.now)) }
-{
-    for x in list {
-        number(out, *x)?;
+        number(out, x.wide())?;
     }
     Ok(())
 }
@@ -79,26 +69,26 @@ fn pair<W: Write>(out: &mut W, first: u32, second: u32) -> io::Result<()>
 }
 
 // What the lamp answered: "ok" with the values, or the number of the refusal.
-pub fn answer<W: Write>(out: &mut W, answer: Answer) -> io::Result<()>
+pub fn answer<W: Write>(out: &mut W, answer: Result<Answer, Refusal>) -> io::Result<()>
     ensures { OnOk result (Appends (W.contents out.old) (W.contents out.new) (answer_words answer)) }
 {
     match answer {
-        Answer::Done => done(out),
-        Answer::Pair(first, second) => pair(out, first, second),
-        Answer::Report(bits) => ok(out, bits as u32),
-        Answer::Accepted => done(out),
-        Answer::Opened(secret) => ok(out, secret),
-        Answer::Refused(why) => refused(out, answers::refusal_number(why)),
+        Ok(Answer::Done) => done(out),
+        Ok(Answer::Pair(first, second)) => pair(out, first, second),
+        Ok(Answer::Report(bits)) => ok(out, bits as u32),
+        Ok(Answer::Accepted) => done(out),
+        Ok(Answer::Opened(secret)) => ok(out, secret),
+        Err(why) => refused(out, u8::from(why)),
     }
 }
 
 // What the desk answered.
-pub fn dealing<W: Write>(out: &mut W, answer: Dealing) -> io::Result<()>
+pub fn dealing<W: Write>(out: &mut W, answer: Result<(), Refusal>) -> io::Result<()>
     ensures { OnOk result (Appends (W.contents out.old) (W.contents out.new) (dealing_words answer)) }
 {
     match answer {
-        Dealing::Written => done(out),
-        Dealing::Refused(why) => refused(out, answers::refusal_number(why)),
+        Ok(()) => done(out),
+        Err(why) => refused(out, u8::from(why)),
     }
 }
 
@@ -107,8 +97,7 @@ pub fn state<W: Write>(out: &mut W, lamp: Lamp) -> io::Result<()>
     ensures { OnOk result (Appends (W.contents out.old) (W.contents out.new) (state_words lamp)) }
 {
     let sharing = lamp.sharing;
-    let stage = sharing.stage;
-    number(out, answers::stage_number(stage) as u32)?;
+    number(out, u8::from(sharing.stage) as u32)?;
     number(out, sharing.share)?;
     number(out, sharing.happy as u32)?;
     number(out, sharing.report as u32)

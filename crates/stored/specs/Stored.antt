@@ -6,24 +6,21 @@
 --   residue_tests w v          the test that every share passes
 --   write_tests w v room, read_tests bs, old_tests bs   the tests of a writing, of a reading, and of that of an old share, in order
 --   write_share w v out        what a lent buffer has after the writing, and what the writing answers
+--   Stored, share w v          what stored bytes say: a share with its prime, or why they are none; such a share
 --   stored_by a w v            the share where every test passes; share_of w v: where its number is a residue
 --   read_share bs, old_share bs what six bytes, and the two of an old share, say
---   stored_number              the protocol's number of that
 -- Laws: proofs/Answers, proofs/Shares, proofs/Computed.
-use Rattle.std.proofs.Math.Option.{Option, none, some}
-use Rattle.std.specs.Prelude.{List, [], ◌∷◌, ℕ, zero, suc, eqb, leb, ltb, length, get_or, drop}
+use Rattle.std.specs.Prelude.{List, [], ◌∷◌, ℕ, zero, suc, eqb, leb, ltb, length, get_or, drop, Result, Ok, Err}
 use Rattle.field.specs.declared.Width.{Width}
 use Rattle.field.specs.declared.Width.TheVariants.{Narrow, Wide}
 use Rattle.field.specs.Modulus.{prime_of, width_number}
+use Rattle.answers.specs.declared.Refusal.{Refusal}
 use Rattle.answers.specs.declared.Refusal.TheVariants.{WrongLength, NotResidue, WrongDirectory}
-use Rattle.answers.specs.declared.Admission.{Admission}
-use Rattle.answers.specs.declared.Admission.TheVariants.{Pass, Fail}
-use Rattle.answers.specs.declared.Writing.{Writing}
-use Rattle.answers.specs.Refusals.{Test, refusal_number, lowest}
+use Rattle.answers.specs.Refusals.{Test, lowest, Admission}
+use Rattle.answers.specs.Answers.{Writing}
 use Rattle.record.specs.Bytes.{number_in, wide_number_in}
 use Rattle.writer.specs.Writer.{wide_bytes_of, written_by}
-use Rattle.stored.specs.declared.Stored.{Stored}
-use Rattle.stored.specs.declared.Stored.TheVariants.{Share, Refused}
+use Rattle.stored.specs.declared.Share.{Share}
 
 -- ---- The bytes
 
@@ -72,10 +69,18 @@ old_tests bs = (eqb (length bs) 2, WrongLength) ∷ residue_tests Narrow (old_nu
 unfoldable pub write_share : Width → ℕ → List ℕ → List ℕ × Writing
 write_share w v out = written_by (lowest (write_tests w v (length out))) (share_bytes w v) 6 out
 
+-- What stored bytes say.
+abbrev pub Stored : Type 0
+Stored = Result Share Refusal
+
+-- A share with its prime.
+abbrev pub share : Width → ℕ → Stored
+share w v = Ok (record { width = w; number = v })
+
 -- The share where every test passes.
 abbrev pub stored_by : Admission → Width → ℕ → Stored
-stored_by Pass w v = Share w v
-stored_by (Fail why) w v = Refused why
+stored_by (Ok tt) w v = share w v
+stored_by (Err why) w v = Err why
 
 -- A number that was stored for a prime.
 abbrev pub share_of : Width → ℕ → Stored
@@ -88,8 +93,3 @@ read_share bs = stored_by (lowest (read_tests bs)) (width_named (get_or bs 0 0))
 -- An old share is narrow.
 unfoldable pub old_share : List ℕ → Stored
 old_share bs = stored_by (lowest (old_tests bs)) Narrow (old_number bs)
-
--- The protocol's number of what bytes say; none where they are a share.
-abbrev pub stored_number : Stored → Option ℕ
-stored_number (Share w v) = none
-stored_number (Refused why) = some (refusal_number why)

@@ -8,13 +8,15 @@
 --   sixteen-front, one-to-padded            1 to n as the front of 1 to 16, and with zeros behind it
 --   kept-front, kept_whole                  the array that holds a table
 --   kept-many, kept-not                     zeros, where there are more than sixteen parties or the length is another
+--   absent-any                              none of a list, by the library's test
 use mathlib.Core.Path.{◌≡◌, refl, sym, ap, ap₂, subst, ◌∙◌}
-use mathlib.Core.Bool.{true, false, cond, not, ◌&&◌, and-eq-true_iff}
+use mathlib.Core.Bool.{Bool, true, false, cond, not, ◌&&◌, ◌||◌, and-eq-true_iff}
 use mathlib.Core.List.{List, [], ◌∷◌, map}
 use Prim.Native.Nat.{ℕ, suc, ◌+◌, ◌-◌, ◌<◌, ◌≤◌}
 use native.Mathlib.Decide.{dec_lt}
 use native.Mathlib.Omega.{arith}
 use lib.Dec.{ltb, eqb}
+use Rattle.std.specs.List.{list_any}
 use lib.ListN.{length, get_or, take, replicate, length-append, length-replicate, get_or-eq_default}
 use lib.Seq.{ext_get_or, take_at, take_all, get_or-take, length-take-le}
 use borrow.Author.Tests.{lt-ltb, le-ltb, ltb-true, ne_eqb, eqb-false, eqb-true, eq-eqb, le-leb, lt-leb, not-true}
@@ -24,14 +26,18 @@ use Rattle.lists.proofs.All.{all-get_or, distinct-get_or}
 use Rattle.lists.proofs.Padded.{get_or-zeros}
 use Rattle.lists.proofs.Tabulate.{length-tabulate, get_or-tabulate, all-tabulate, map-tabulate, distinct-tabulate}
 use Rattle.answers.specs.declared.Refusal.TheVariants.{WrongLength}
-use Rattle.answers.specs.declared.Admission.TheVariants.{Pass, Fail}
 use Rattle.answers.specs.Refusals.{lowest}
 use Rattle.polynomial.specs.Polynomial.{Residues, Points}
 use Rattle.parties.specs.Parties.{is_party, parties}
 use Rattle.parties.proofs.Parties.{party-facts}
 use Rattle.tables.specs.Tables.{point_at, one_to, IsTable, absent, distinct_residues, is_table, table_tests, in_array}
+use Rattle.std.specs.Prelude.{Ok, Err}
 
 -- ---- a number that is none of a list
+not-or : (a b : Bool) → not (a || b) ≡ not a && not b
+not-or true b = refl
+not-or false b = refl
+
 pub absent-true : (x : ℕ) (xs : List ℕ) → All (λ z. z ≡ x → ⊥) xs → absent x xs ≡ true
 absent-true x [] h = refl
 absent-true x (z ∷ xs) h = ap₂ ◌&&◌ (ap not (ne_eqb z x h.0)) (absent-true x xs h.1)
@@ -41,6 +47,11 @@ absent-facts x [] e = tt
 absent-facts x (z ∷ xs) e =
     let (here, rest) = (and-eq-true_iff (not (eqb z x)) (absent x xs)).0 e in
     (eqb-false z x (not-true (eqb z x) here), absent-facts x xs rest)
+
+-- The same by the library's test whether one of them is x.
+pub absent-any : (x : ℕ) (xs : List ℕ) → not (list_any (λ y. eqb y x) xs) ≡ absent x xs
+absent-any x [] = refl
+absent-any x (a ∷ xs) = not-or (eqb a x) (list_any (λ y. eqb y x) xs) ∙ ap (λ b. not (eqb a x) && b) (absent-any x xs)
 
 -- ---- distinct residues
 module _ (p : ℕ) where
@@ -86,11 +97,11 @@ module _ (p n : ℕ) (T : List ℕ) where
   table-points h = (h.below, h.once)
 
   -- All tests of a table that is lent pass.
-  pub tests-pass : IsTable p n T → lowest (table_tests p n T) ≡ Pass
+  pub tests-pass : IsTable p n T → lowest (table_tests p n T) ≡ Ok tt
   tests-pass h = rw (eq-eqb (length T) n h.size, table-true h)
 
   -- One of another length is 3, whatever its entries are.
-  pub tests-length : (length T ≡ n → ⊥) → lowest (table_tests p n T) ≡ Fail WrongLength
+  pub tests-length : (length T ≡ n → ⊥) → lowest (table_tests p n T) ≡ Err WrongLength
   tests-length h = rw (ne_eqb (length T) n h)
 
 -- ---- the points

@@ -1,24 +1,18 @@
 // The parties' points: the table that is loaded, or 1 to n.
 #![tactic(auto)]
 
-ghost use Rattle.std.specs.Prelude.{◌≡◌, cond, suc, ◌<◌, ltb, length, get_or};
+ghost use Rattle.std.specs.Prelude.{◌≡◌, cond, map, suc, ◌<◌, ltb, length, get_or};
 ghost use Rattle.field.specs.Modulus.{prime_of};
 ghost use Rattle.tables.specs.Tables.{point_at, one_to, absent, is_table, in_array};
 
+use arrays::Number;
 use field::Width;
 
 // Whether x is none of the numbers of the list.
 fn absent(x: u32, list: &[u32]) -> bool
     ensures { result ≡ absent x list.now }
 {
-    let mut i = list.len();
-    while 0 < i {
-        i -= 1;
-        if list[i] == x {
-            return false;
-        }
-    }
-    true
+    !list.contains(&x)
 }
 
 // Whether the numbers are a table's: none 0, none p or above, none twice. A number below all those behind it is none of them: in
@@ -28,10 +22,7 @@ fn good_entries(p: u32, table: &[u32]) -> bool
     ensures { result ≡ is_table p (length table.now) table.now }
 {
     let mut low = p;
-    let mut i = table.len();
-    while 0 < i {
-        let behind = i;
-        i -= 1;
+    for i in (0..table.len()).rev() {
         let x = table[i];
         if x < low {
             low = x;
@@ -39,7 +30,7 @@ fn good_entries(p: u32, table: &[u32]) -> bool
             if p <= x {
                 return false;
             }
-            if !absent(x, &table[behind..]) {
+            if !absent(x, &table[i + 1..]) {
                 return false;
             }
         }
@@ -51,56 +42,25 @@ fn good_entries(p: u32, table: &[u32]) -> bool
 pub fn is_table(w: Width, n: u8, table: &[u32]) -> bool
     ensures { result ≡ is_table (prime_of w) n table.now }
 {
-    if table.len() != n as usize {
-        return false;
-    }
-    good_entries(field::modulus(w), table)
-}
-
-// The number at the place, 0 where there is none.
-fn at(list: &[u32], place: usize) -> u32
-    ensures { result ≡ get_or list.now place 0 }
-{
-    if list.len() <= place {
-        return 0;
-    }
-    list[place]
+    table.len() == n as usize && good_entries(field::modulus(w), table)
 }
 
 // Party i's point; 0, which is no party's, behind the last.
 pub fn point_at(table: &[u32], i: u8) -> u32
     ensures { result ≡ point_at table.now i }
 {
-    if i == 0 {
-        return at(table, 0);
-    }
-    at(table, i as usize - 1)
+    let place = usize::from(i.saturating_sub(1));
+    table.get(place).copied().unwrap_or(0)
 }
 
 // The table as it is kept for n parties; zeros where it is of another length.
-pub fn in_array(n: u8, table: &[u16]) -> [u32; 16]
-    ensures { result ≡ in_array n table.now }
+pub fn in_array<N: Number>(n: u8, table: &[N]) -> [u32; 16]
+    ensures { result ≡ in_array n (map N.value table.now) }
 {
-    if 16 < n {
-        return [0; 16];
+    if n <= 16 && table.len() == n as usize {
+        return arrays::padded(table);
     }
-    if table.len() != n as usize {
-        return [0; 16];
-    }
-    arrays::sixteen_of(table)
-}
-
-// The same of numbers of 32 bits.
-pub fn in_array_wide(n: u8, table: &[u32]) -> [u32; 16]
-    ensures { result ≡ in_array n table.now }
-{
-    if 16 < n {
-        return [0; 16];
-    }
-    if table.len() != n as usize {
-        return [0; 16];
-    }
-    arrays::sixteen_of_wide(table)
+    [0; 16]
 }
 
 // 1 to 16: where a table is lent its first n are 1 to n.
@@ -115,10 +75,7 @@ fn number_or_zero(n: u8, k: u8) -> u32
     requires { k < 16 }
     ensures { result ≡ cond (ltb k n) (suc k) 0 }
 {
-    if k < n {
-        return k as u32 + 1;
-    }
-    0
+    if k < n { u32::from(k) + 1 } else { 0 }
 }
 
 // The table 1 to n as it is kept; zeros for more than sixteen parties. All sixteen places are written: a loop of known length is done at

@@ -14,12 +14,11 @@ pub fn put(out: &mut [u8], at: usize, word: &[u8]) -> usize
     if out.len() - at < word.len() {
         return at;
     }
-    let mut i = 0;
-    while i < word.len() {
-        out[at + i] = word[i];
-        i += 1;
+    // `copy_from_slice` was tried: the lines of a record took a third more instructions.
+    for (i, letter) in word.iter().enumerate() {
+        out[at + i] = *letter;
     }
-    at + i
+    at + word.len()
 }
 
 // Puts one letter.
@@ -37,12 +36,13 @@ fn put_letter(out: &mut [u8], at: usize, letter: u8) -> usize
 fn digits(x: u32) -> [u8; 5]
     ensures { result ≡ five x }
 {
+    // Written out: a closure on each unit was tried, and that no unit is 0 (`map-requires`) did not close.
     [
-        (48 + x / 10000 % 10) as u8,
-        (48 + x / 1000 % 10) as u8,
-        (48 + x / 100 % 10) as u8,
-        (48 + x / 10 % 10) as u8,
-        (48 + x % 10) as u8,
+        b'0' + (x / 10000 % 10) as u8,
+        b'0' + (x / 1000 % 10) as u8,
+        b'0' + (x / 100 % 10) as u8,
+        b'0' + (x / 10 % 10) as u8,
+        b'0' + (x % 10) as u8,
     ]
 }
 
@@ -52,29 +52,25 @@ fn ten_digits(x: u32) -> [u8; 10]
 {
     let high = digits(x / 100000);
     let low = digits(x);
-    [
-        high[0], high[1], high[2], high[3], high[4], low[0], low[1], low[2], low[3], low[4],
-    ]
+    let mut all = [0; 10];
+    all[..5].copy_from_slice(&high);
+    all[5..].copy_from_slice(&low);
+    all
 }
 
 // How many of the five digits of a number below 100,000 are zeros that stand in front.
+#[tactic(auto, unfolding(crate::specs::Letters::zeros))]
 fn zeros(x: u32) -> usize
     ensures value { result ≡ zeros x }
     ensures some { result ≤ 4 }
 {
-    if x < 10 {
-        return 4;
+    match x {
+        0..=9 => 4,
+        10..=99 => 3,
+        100..=999 => 2,
+        1000..=9999 => 1,
+        _ => 0,
     }
-    if x < 100 {
-        return 3;
-    }
-    if x < 1000 {
-        return 2;
-    }
-    if x < 10000 {
-        return 1;
-    }
-    0
 }
 
 // Puts the digits of a number from 100,000 on.
@@ -84,7 +80,7 @@ fn put_long(out: &mut [u8], at: usize, x: u32) -> usize
 {
     let all = ten_digits(x);
     let from = zeros(x / 100000);
-    put(out, at, &all[from..10])
+    put(out, at, &all[from..])
 }
 
 // Puts the decimal digits of x.
@@ -93,7 +89,7 @@ pub fn put_number(out: &mut [u8], at: usize, x: u32) -> usize
 {
     // Most numbers of a small record are a single digit.
     if x < 10 {
-        return put_letter(out, at, (48 + x % 10) as u8);
+        return put_letter(out, at, b'0' + (x % 10) as u8);
     }
     // And those of one that is not wide have at most five.
     if 100000 <= x {
@@ -101,7 +97,7 @@ pub fn put_number(out: &mut [u8], at: usize, x: u32) -> usize
     }
     let five = digits(x);
     let from = zeros(x);
-    put(out, at, &five[from..5])
+    put(out, at, &five[from..])
 }
 
 // Puts a word and a number.
@@ -117,5 +113,5 @@ pub fn put_line(out: &mut [u8], at: usize, word: &[u8], x: u32) -> usize
     ensures { (out.new, result) ≡ puts out.old at (word.now ∷ decimal x ∷ letters "\n" ∷ []) }
 {
     let next = put_field(out, at, word, x);
-    put_letter(out, next, 10)
+    put_letter(out, next, b'\n')
 }

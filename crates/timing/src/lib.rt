@@ -14,26 +14,23 @@ fn width_for(wide: u8) -> Width
     ensures { result ≡ width_for wide }
 {
     if wide == 0 {
-        return Width::Narrow;
+        Width::Narrow
+    } else {
+        Width::Wide
     }
-    Width::Wide
 }
 
 // Whether this is what `consistency` asks for: a table of residues, and row and column of at most four numbers.
+#[tactic(auto, unfolding(crate::specs::Timing::admitted))]
 fn admitted(w: Width, table: &[u32], row: &[u32], column: &[u32]) -> bool
     ensures { result ≡ admitted (prime_of w) table.now row.now column.now }
 {
-    if 4 < row.len() {
-        return false;
-    }
-    if 4 < column.len() {
-        return false;
-    }
-    polynomial::residues(w, table)
+    row.len() <= 4 && column.len() <= 4 && polynomial::residues(w, table)
 }
 
 // Writes party i's pair for party j over the lent one and answers 0; 1, and nothing is written, where the lists are others than asked for.
 #[unsafe(no_mangle)]
+#[tactic(auto, unfolding(crate::specs::Timing::pairing))]
 pub extern "C" fn timing_pair(
     wide: u8,
     table: &[u32],
@@ -46,21 +43,18 @@ pub extern "C" fn timing_pair(
     ensures { (pair.new, result) ≡ pairing (prime_of (width_for wide)) table.now i row.now
         column.now j pair.old }
 {
-    if pair.len() != 2 {
-        return 1;
-    }
     let w = width_for(wide);
-    if !admitted(w, table, row, column) {
+    if pair.len() != 2 || !admitted(w, table, row, column) {
         return 1;
     }
     let said = consistency::pair_for(w, table, i, row, column, j);
-    pair[0] = said.first;
-    pair[1] = said.second;
+    pair.copy_from_slice(&[said.first, said.second]);
     0
 }
 
 // Party i's report on n pairs; none, where the lists are others than asked for.
 #[unsafe(no_mangle)]
+#[tactic(auto, unfolding(crate::specs::Timing::reporting))]
 pub extern "C" fn timing_report(
     wide: u8,
     n: u8,

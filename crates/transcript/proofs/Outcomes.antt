@@ -15,20 +15,16 @@ use Rattle.field.specs.Modulus.{prime_of}
 use Rattle.answers.specs.declared.Refusal.{Refusal}
 use Rattle.answers.specs.declared.Refusal.TheVariants.{WrongSize, WrongNumber, WrongLength, WrongStage, NotResidue, WrongDirectory}
 use Rattle.answers.specs.declared.Refusal.TheVariants.{AlteredReport, DealerRejected, NoColumn, NoOpening, WrongTable, WrongWidth}
-use Rattle.answers.specs.declared.Answer.{Answer}
-use Rattle.answers.specs.declared.Answer.TheVariants as answer
-use Rattle.answers.specs.declared.Answer.TheVariants.{Done, Pair, Report, Accepted, Opened}
-use Rattle.answers.specs.declared.Decoding.TheVariants.{Found, Nothing, Refused}
-use Rattle.answers.specs.declared.Fitted.{Fitted}
-use Rattle.answers.specs.Refusals.{refusal_number}
-use Rattle.answers.specs.Answers.{number_of}
-use Rattle.answers.specs.Fits.{decoded}
-use Rattle.answers.proofs.Fits.{found-is, nothing_is, decoded-not-refused}
+use Rattle.answers.specs.Refusals.{refusal_number, number_of}
+use Rattle.answers.specs.Answers.{Answered}
+use Rattle.answers.specs.Fits.{decoded, Fitted}
+use Rattle.answers.proofs.Fits.{found-is, nothing_is}
 use Rattle.tables.specs.Tables.{one_to}
 use Rattle.fit.specs.Opening.{opening_of}
 use Rattle.lamp.specs.declared.Reply.{Reply}
 use Rattle.lines.specs.Lines.{lamp_line, opened_line}
 use Rattle.transcript.specs.Outcomes.{reply_line, opening_line, last_line}
+use Rattle.std.specs.Prelude.{Ok, Err, Some, None}
 
 -- ---- a refusal has at most two digits
 pub refusal-small : (why : Refusal) → refusal_number why < 100
@@ -45,13 +41,9 @@ refusal-small NoOpening = omega arith
 refusal-small WrongTable = omega arith
 refusal-small WrongWidth = omega arith
 
-pub answer-small : (a : Answer) → or_zero (number_of a) < 100
-answer-small Done = omega arith
-answer-small (Pair x y) = omega arith
-answer-small (Report r) = omega arith
-answer-small Accepted = omega arith
-answer-small (Opened v) = omega arith
-answer-small (answer.Refused why) = refusal-small why
+pub answer-small : (a : Answered) → or_zero (number_of a) < 100
+answer-small (Ok a) = omega arith
+answer-small (Err why) = refusal-small why
 
 -- ---- a lamp
 pub reply-by : (i k : ℕ) (r : Reply) → k ≡ or_zero (number_of r.answer) → lamp_line i k r.lamp.sharing.share ≡ reply_line i r
@@ -81,20 +73,10 @@ module _ (w : Width) (n t : ℕ) (shares : List ℕ) (b : Bool) where
     abbrev opened : Option (List ℕ)
     opened = opening_of (prime_of w) t (one_to n) shares
 
-    told : r.outcome ≡ (decoded opened).outcome
-    told = ap (λ (a : Fitted). a.outcome) is
+    pub last_found : (f : List ℕ) → r ≡ Ok (Some f) → opened_line 0 (get_or f 0 0) ≡ last_line b w n t shares
+    last_found f h =
+        let finds = found-is opened f (sym is ∙ h) in
+        ap (opened_line 0) finds.first ∙ ap opening_line (sym finds.is) ∙ accepted-line
 
-    pub last_found : r.outcome ≡ Found → opened_line 0 (get_or r.coefficients 0 0) ≡ last_line b w n t shares
-    last_found h =
-        let f = found-is opened (sym told ∙ h) in
-        ap (λ (a : Fitted). opened_line 0 (get_or a.coefficients 0 0)) is
-        ∙ ap (opened_line 0) f.first
-        ∙ ap opening_line (sym f.is)
-        ∙ accepted-line
-
-    pub last-nothing : r.outcome ≡ Nothing → (k : ℕ) → k ≡ refusal_number NoOpening → opened_line k 0 ≡ last_line b w n t shares
-    last-nothing h k e = ap (λ m. opened_line m 0) e ∙ ap opening_line (sym (nothing_is opened (sym told ∙ h))) ∙ accepted-line
-
-    -- What is decoded is no refusal.
-    pub last-never : {A : Type 0} (why : Refusal) → r.outcome ≡ Refused why → A
-    last-never why h = decoded-not-refused opened why (sym told ∙ h)
+    pub last-nothing : r ≡ Ok None → (k : ℕ) → k ≡ refusal_number NoOpening → opened_line k 0 ≡ last_line b w n t shares
+    last-nothing h k e = ap (λ m. opened_line m 0) e ∙ ap opening_line (sym (nothing_is opened (sym is ∙ h))) ∙ accepted-line

@@ -10,8 +10,7 @@ use Rattle.lists.specs.Options.{or_zero}
 use Rattle.field.specs.declared.Width.{Width}
 use Rattle.field.specs.Modulus.{prime_of}
 use Rattle.answers.specs.declared.Refusal.TheVariants.{DealerRejected, NoOpening}
-use Rattle.answers.specs.Refusals.{refusal_number}
-use Rattle.answers.specs.Answers.{number_of}
+use Rattle.answers.specs.Refusals.{refusal_number, number_of}
 use Rattle.answers.specs.Fits.{constant}
 use Rattle.tables.specs.Tables.{one_to}
 use Rattle.fit.specs.Opening.{opening_of}

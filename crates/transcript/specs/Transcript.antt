@@ -10,17 +10,14 @@ use Rattle.field.specs.declared.Width.{Width}
 use Rattle.happy.specs.Happy.{happy_set}
 use Rattle.dealer.specs.Desk.{stretch}
 use Rattle.answers.specs.declared.Refusal.TheVariants.{WrongLength}
-use Rattle.answers.specs.declared.Writing.{Writing}
-use Rattle.answers.specs.declared.Writing.TheVariants as writing
-use Rattle.answers.specs.declared.Writing.TheVariants.{Written}
 use Rattle.answers.specs.Refusals.{refusal_number}
 use Rattle.lamp.specs.declared.Reply.{Reply}
 use Rattle.lamp.specs.Lamp.{made, Call, take_deal, hear_pairs, settle, step, after}
-use Rattle.record.specs.declared.Reading.{Reading}
-use Rattle.record.specs.declared.Reading.TheVariants.{Fine, Refused}
-use Rattle.record.specs.Record.{reading, numbers_of}
+use Rattle.record.specs.Record.{reading, numbers_of, Reading}
 use Rattle.lines.specs.Lines.{size_line, verdict_lines, refused_line}
 use Rattle.transcript.specs.Outcomes.{is_accepted, reply_line, last_line}
+use Rattle.std.specs.Prelude.{Ok, Err}
+use Rattle.answers.specs.Answers.{Writing}
 
 -- ---- the lamps
 
@@ -56,8 +53,8 @@ text_of bytes w n t =
 
 -- By the reader's answer: a refused record gives one line alone.
 unfoldable pub text_by : Reading → List ℕ → List ℕ
-text_by (Fine w n t) bytes = text_of bytes w n t
-text_by (Refused why) bytes = refused_line (refusal_number why)
+text_by (Ok head) bytes = text_of bytes head.width head.n head.t
+text_by (Err why) bytes = refused_line (refusal_number why)
 
 -- The whole text.
 unfoldable pub text : List ℕ → List ℕ
@@ -67,10 +64,10 @@ text bytes = text_by (reading bytes) bytes
 unfoldable pub rendering : List ℕ → List ℕ → List ℕ × Writing
 rendering bytes out =
     cond (leb 512 (length out))
-    (text bytes ++ drop (length (text bytes)) out, Written (length (text bytes)))
-    (out, writing.Refused WrongLength)
+    (text bytes ++ drop (length (text bytes)) out, Ok (length (text bytes)))
+    (out, Err WrongLength)
 
 -- How many bytes are written; none by a refusal.
 abbrev pub bytes_written : Writing → ℕ
-bytes_written (Written count) = count
-bytes_written (writing.Refused why) = 0
+bytes_written (Ok count) = count
+bytes_written (Err why) = 0

@@ -1,15 +1,16 @@
--- Something is found where the result says so, and only there.
-use mathlib.Core.Path.{◌≡◌, refl}
-use mathlib.Core.Bool.{true, false, true≢false, false≢true}
+-- Something is found where an answer says so, and only there.
+use mathlib.Core.Path.{◌≡◌, refl, sym, ap, ◌∙◌}
+use mathlib.Core.Bool.{true, false}
 use mathlib.Core.Option.{Option, none, some}
 use mathlib.Core.List.{List}
 use Prim.Native.Nat.{ℕ}
+use Rattle.std.specs.Prelude.{Option as Answer, is_some}
 use Rattle.trial.specs.Results.{result_of}
 
-pub result-found : (o : Option (List ℕ)) → (result_of o).found ≡ true → (f : List ℕ) × (o ≡ some f)
-result-found none h = absurd (false≢true h)
-result-found (some f) h = (f, refl)
+pub result-some : (o : Option (List ℕ)) (r : Answer (List ℕ)) → r ≡ result_of o → is_some r ≡ true → (f : List ℕ) × (o ≡ some f)
+result-some none r e h = let told : is_some (result_of none) ≡ true = ap (λ a. is_some a) (sym e) ∙ h in absurd (cc)
+result-some (some f) r e h = (f, refl)
 
-pub result-not-found : (o : Option (List ℕ)) → (result_of o).found ≡ false → o ≡ none
-result-not-found none h = refl
-result-not-found (some f) h = absurd (true≢false h)
+pub result-none : (o : Option (List ℕ)) (r : Answer (List ℕ)) → r ≡ result_of o → is_some r ≡ false → o ≡ none
+result-none none r e h = refl
+result-none (some f) r e h = let told : is_some (result_of (some f)) ≡ false = ap (λ a. is_some a) (sym e) ∙ h in absurd (cc)

@@ -2,73 +2,65 @@
 // Points, and what is tried, are residues; a value may be any number, and one that is no residue was not sent.
 #![tactic(auto)]
 
-ghost use Rattle.std.specs.Prelude.{◌≡◌, [], ◌∷◌, ◌≤◌, ◌<◌, leb, length, take};
-ghost use Rattle.std.proofs.Math.Option.{none};
+ghost use Rattle.std.specs.Prelude.{◌≡◌, [], ◌∷◌, ◌+◌, ◌≤◌, ◌<◌, leb, length, take, set, replicate};
+ghost use Rattle.std.specs.Bool.{then_some};
 ghost use Rattle.field.specs.Modulus.{prime_of};
 ghost use Rattle.polynomial.specs.Polynomial.{Residues};
 ghost use Rattle.trial.specs.Trial.{hits, fitting_through, tried};
-ghost use Rattle.trial.specs.Results.{Bounded, result_of, given};
+ghost use Rattle.trial.specs.Results.{Bounded, result_of};
 ghost use Rattle.trial.specs.Search.{found, Searching};
 
 use field::Width;
 
-// Whether a polynomial was found, and its coefficients, the constant first, with 0 behind them; they stand in front, as in `Fitted`.
+// The points that a search has taken so far: the first `count` places of two arrays.
 #[derive(Clone, Copy)]
-pub struct Tried {
-    pub coefficients: [u32; 4],
-    pub found: bool,
+struct Taken {
+    count: usize,
+    xs: [u32; 4],
+    ys: [u32; 4],
 }
 
-// The answer where no polynomial is found.
-pub fn nothing() -> Tried
-    ensures { result ≡ result_of none }
-{
-    Tried {
-        found: false,
-        coefficients: [0; 4],
+impl Taken {
+    // None yet.
+    fn none() -> Taken
+        ensures { (result.count ≡ 0) × (result.xs ≡ replicate 4 0) × (result.ys ≡ replicate 4 0) }
+    {
+        Taken {
+            count: 0,
+            xs: [0; 4],
+            ys: [0; 4],
+        }
+    }
+
+    // One more.
+    fn push(&mut self, x: u32, y: u32)
+        requires { self.old.count < 4 }
+        ensures { (self.new.count ≡ self.old.count + 1)
+            × (self.new.xs ≡ set self.old.xs self.old.count x)
+            × (self.new.ys ≡ set self.old.ys self.old.count y) }
+    {
+        let place = self.count;
+        self.xs[place] = x;
+        self.ys[place] = y;
+        self.count = place + 1;
     }
 }
 
-// What is found where the coefficients have passed.
-fn given(passed: bool, f: [u32; 4]) -> Tried
-    ensures { result ≡ given passed f }
+// Whether at least `need` of the points agree with the cubic f. The loop goes from the end, and stops as soon as too many have differed:
+// with a wrong polynomial that is soon.
+#[inline(always)]
+pub fn enough(w: Width, f: [u32; 4], xs: &[u32], ys: &[u32], need: usize) -> bool
+    requires lengths { length xs.now ≡ length ys.now }
+    requires residues { Residues (prime_of w) f × Residues (prime_of w) xs.now }
+    ensures { result ≡ leb need (hits (prime_of w) f xs.now ys.now) }
 {
-    if passed {
-        return Tried {
-            found: true,
-            coefficients: f,
-        };
-    }
-    nothing()
-}
-
-// The same, written anew. A call's answer that is returned as it is would be copied as a block that cuts across its two parts, and the
-// processor waits until both are in memory.
-fn copied(f: Tried) -> Tried
-    ensures { result ≡ f }
-{
-    let g = f.coefficients;
-    Tried {
-        found: f.found,
-        coefficients: g,
-    }
-}
-
-// Whether at least `need` of the points agree with a + b X + c X² + d X³. The loop goes from the end, and stops as soon as too many
-// have differed: with a wrong polynomial that is soon.
-pub fn enough(w: Width, a: u32, b: u32, c: u32, d: u32, xs: &[u32], ys: &[u32], need: usize) -> bool
-    requires xs_len { length xs.now ≡ length ys.now }
-    requires a_bound { (a < prime_of w) × (b < prime_of w) × (c < prime_of w) × (d < prime_of w) × Residues (prime_of w) xs.now }
-    ensures { result ≡ leb need (hits (prime_of w) (a ∷ b ∷ c ∷ d ∷ []) xs.now ys.now) }
-{
-    let mut i = xs.len();
-    if i < need {
+    if xs.len() < need {
         return false;
     }
-    let mut slack = i - need;
-    while 0 < i {
-        i -= 1;
-        if !field::is_cubic_value(w, a, b, c, d, xs[i], ys[i]) {
+    let mut slack = xs.len() - need;
+    let [a, b, c, d] = f;
+    for (x, y) in xs.iter().rev().zip(ys.iter().rev()) {
+        if !field::is_cubic_value(w, a, b, c, d, *x, *y) {
             if slack == 0 {
                 return false;
             }
@@ -78,36 +70,46 @@ pub fn enough(w: Width, a: u32, b: u32, c: u32, d: u32, xs: &[u32], ys: &[u32], 
     true
 }
 
-// Puts the polynomial through the c points taken in the place of their values, and says whether it agrees with enough of all points.
+// Puts the polynomial through the points taken in the place of their values, and says whether it agrees with enough of all points. So it
+// is written before the points are counted: of an answer that is written right before it is copied the processor would have to wait.
 // Nothing else calls `through`: a compiler writes a long function out where it has one caller, and calls it, which is slower, for two.
-fn test(w: Width, xs: &[u32], ys: &[u32], need: usize, c: usize, cx: &[u32], f: &mut [u32]) -> bool
-    requires xs_len { length xs.now ≡ length ys.now }
-    requires c_bound { (c ≤ 4) × (length cx.now ≡ 4) × (length f.old ≡ 4) }
-    requires residues { Residues (prime_of w) xs.now × Residues (prime_of w) cx.now × Residues (prime_of w) f.old }
-    ensures { given result f.new ≡ result_of (fitting_through (prime_of w) need xs.now ys.now
-        (take c cx.now) (take c f.old)) }
+fn test(w: Width, xs: &[u32], ys: &[u32], need: usize, taken: &mut Taken) -> bool
+    requires lengths { length xs.now ≡ length ys.now }
+    requires room { taken.old.count ≤ 4 }
+    requires residues { Residues (prime_of w) xs.now × Residues (prime_of w) taken.old.xs × Residues (prime_of w) taken.old.ys }
+    ensures { then_some result taken.new.ys
+        ≡ result_of (fitting_through (prime_of w) need xs.now ys.now
+        (take taken.old.count taken.old.xs) (take taken.old.count taken.old.ys)) }
 {
-    let g = interpolation::through(w, c, cx, f);
-    f[0] = g[0];
-    f[1] = g[1];
-    f[2] = g[2];
-    f[3] = g[3];
-    enough(w, g[0], g[1], g[2], g[3], xs, ys, need)
+    let f = interpolation::through(w, taken.count, &taken.xs, &taken.ys);
+    taken.ys = f;
+    enough(w, f, xs, ys, need)
 }
 
 // The polynomial through the four points (cx[j], cy[j]), if it agrees with at least `need` of the points (xs[i], ys[i]).
-pub fn four(w: Width, xs: &[u32], ys: &[u32], need: usize, cx: [u32; 4], cy: [u32; 4]) -> Tried
+pub fn four(
+    w: Width,
+    xs: &[u32],
+    ys: &[u32],
+    need: usize,
+    cx: [u32; 4],
+    cy: [u32; 4],
+) -> Option<[u32; 4]>
     requires bounded { Bounded xs.now ys.now }
     requires residues { Residues (prime_of w) xs.now × Residues (prime_of w) cx × Residues (prime_of w) cy }
     ensures { result ≡ result_of (fitting_through (prime_of w) need xs.now ys.now cx cy) }
 {
-    let mut f = cy;
-    let passed = test(w, xs, ys, need, 4, &cx, &mut f);
-    given(passed, f)
+    let mut given = Taken {
+        count: 4,
+        xs: cx,
+        ys: cy,
+    };
+    test(w, xs, ys, need, &mut given).then_some(given.ys)
 }
 
-// The search from place i on where no point may be passed over: the next `more` points sent are taken. The first c places of cx and
-// cy hold the points taken before. A value that was not sent is no point.
+// The search from place i on where no point may be passed over: the next `more` points sent are taken. A value that was not sent is
+// no point.
+#[inline(always)]
 fn straight(
     w: Width,
     xs: &[u32],
@@ -115,44 +117,36 @@ fn straight(
     need: usize,
     i: usize,
     more: usize,
-    c: usize,
-    cx: [u32; 4],
-    cy: [u32; 4],
-) -> Tried
-    requires { Searching (prime_of w) xs.now ys.now more c cx cy }
-    ensures { result ≡ result_of (found (prime_of w) need xs.now ys.now more 0 (take c cx) (take c cy) i) }
+    taken: Taken,
+) -> Option<[u32; 4]>
+    requires { Searching (prime_of w) xs.now ys.now more taken.count taken.xs taken.ys }
+    ensures { result ≡ result_of (found (prime_of w) need xs.now ys.now more 0
+        (take taken.count taken.xs) (take taken.count taken.ys) i) }
 {
     let p = field::modulus(w);
-    let mut j = i;
-    let mut left = more;
-    let mut d = c;
-    let mut dx = cx;
-    let mut dy = cy;
-    while 0 < left {
-        if xs.len() <= j {
-            return nothing();
+    let full = taken.count + more;
+    let mut all = taken;
+    for (x, y) in xs.iter().zip(ys).skip(i) {
+        if all.count == full {
+            break;
         }
-        let x = xs[j];
-        let y = ys[j];
-        j += 1;
-        if y < p {
-            dx[d] = x;
-            dy[d] = y;
-            d += 1;
-            left -= 1;
+        if *y < p {
+            all.push(*x, *y);
         }
     }
-    let passed = test(w, xs, ys, need, d, &dx, &mut dy);
-    given(passed, dy)
+    if all.count < full {
+        return None;
+    }
+    test(w, xs, ys, need, &mut all).then_some(all.ys)
 }
 
 // The polynomial through the next k points sent from place i on, if it agrees with at least `need` of the points (xs[j], ys[j]).
-pub fn next(w: Width, xs: &[u32], ys: &[u32], need: usize, i: usize, k: usize) -> Tried
+pub fn next(w: Width, xs: &[u32], ys: &[u32], need: usize, i: usize, k: usize) -> Option<[u32; 4]>
     requires bounded { Bounded xs.now ys.now × (k ≤ 4) }
     requires residues { Residues (prime_of w) xs.now }
     ensures { result ≡ result_of (tried (prime_of w) need xs.now ys.now i k 0) }
 {
-    copied(straight(w, xs, ys, need, i, k, 0, [0; 4], [0; 4]))
+    straight(w, xs, ys, need, i, k, Taken::none())
 }
 
 // The search from place i on: `more` points are still to be taken, and `spare` of those sent may be passed over.
@@ -166,37 +160,33 @@ fn search(
     i: usize,
     more: usize,
     spare: usize,
-    c: usize,
-    cx: [u32; 4],
-    cy: [u32; 4],
-) -> Tried
-    requires { Searching (prime_of w) xs.now ys.now more c cx cy }
-    ensures { result ≡ result_of (found (prime_of w) need xs.now ys.now more spare (take c cx) (take c cy) i) }
+    taken: Taken,
+) -> Option<[u32; 4]>
+    requires { Searching (prime_of w) xs.now ys.now more taken.count taken.xs taken.ys }
+    ensures { result ≡ result_of (found (prime_of w) need xs.now ys.now more spare
+        (take taken.count taken.xs) (take taken.count taken.ys) i) }
 {
     if spare == 0 {
-        return copied(straight(w, xs, ys, need, i, more, c, cx, cy));
+        return straight(w, xs, ys, need, i, more, taken);
     }
     if more == 0 {
-        let mut f = cy;
-        let passed = test(w, xs, ys, need, c, &cx, &mut f);
-        return given(passed, f);
+        let mut all = taken;
+        return test(w, xs, ys, need, &mut all).then_some(all.ys);
     }
     if xs.len() <= i {
-        return nothing();
+        return None;
     }
     let y = ys[i];
     if field::modulus(w) <= y {
-        return copied(search(w, xs, ys, need, i + 1, more, spare, c, cx, cy));
+        return search(w, xs, ys, need, i + 1, more, spare, taken);
     }
-    let mut dx = cx;
-    let mut dy = cy;
-    dx[c] = xs[i];
-    dy[c] = y;
-    let with_it = search(w, xs, ys, need, i + 1, more - 1, spare, c + 1, dx, dy);
-    if with_it.found {
-        return copied(with_it);
+    let mut with_it = taken;
+    with_it.push(xs[i], y);
+    let found = search(w, xs, ys, need, i + 1, more - 1, spare, with_it);
+    if found.is_some() {
+        return found;
     }
-    copied(search(w, xs, ys, need, i + 1, more, spare - 1, c, cx, cy))
+    search(w, xs, ys, need, i + 1, more, spare - 1, taken)
 }
 
 // The first polynomial that does, of those through k of the next k + spare points sent from place i on.
@@ -208,10 +198,10 @@ pub fn choices(
     i: usize,
     k: usize,
     spare: usize,
-) -> Tried
+) -> Option<[u32; 4]>
     requires bounded { Bounded xs.now ys.now × (k ≤ 4) }
     requires residues { Residues (prime_of w) xs.now }
     ensures { result ≡ result_of (tried (prime_of w) need xs.now ys.now i k spare) }
 {
-    copied(search(w, xs, ys, need, i, k, spare, 0, [0; 4], [0; 4]))
+    search(w, xs, ys, need, i, k, spare, Taken::none())
 }

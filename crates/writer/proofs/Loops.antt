@@ -1,20 +1,23 @@
 -- The buffer as its front is written.
 --   Begun front at old new             the front is written, and from `at` on all is as it was
 --   Putting w list at old new i place  the bytes of the first i numbers are written
+--   one-put                            the bytes of one
 use mathlib.Core.Path.{◌≡◌, refl, sym, ap, ap₂, subst, ◌∙◌}
 use mathlib.Core.List.{List, [], ◌∷◌, ◌++◌, append_assoc, append-nil}
-use Prim.Native.Nat.{ℕ, ◌+◌, ◌*◌, ◌/◌, ◌%◌, ◌≤◌, ◌<◌}
-use native.Mathlib.Nat.{mul-zero, mul-add}
+use Prim.Native.Nat.{ℕ, ◌+◌, ◌*◌, ◌-◌, ◌/◌, ◌%◌, ◌≤◌, ◌<◌}
+use native.Mathlib.Nat.{mul-zero, mul-one, mul-add, mul-le-mul}
 use native.Mathlib.Numerals.{add-one}
 use native.Mathlib.Omega.{arith}
 use lib.ListN.{length, get_or, take, drop, set, length-append, length-drop, take-append-drop}
-use lib.Seq.{take-suc, take_all, take_at, drop_at, drop-drop, set_at, length-take-le}
+use lib.Seq.{take-suc, take_at, drop_at, drop-drop, set_at, length-take-le}
+use Rattle.std.specs.Int.{w32, to_be_bytes}
+use borrow.Rule.Slice.PartMut.{put_mid}
 use Rattle.lists.proofs.InPlace.{drop-next}
 use Rattle.field.specs.declared.Width.{Width}
 use Rattle.field.specs.declared.Width.TheVariants.{Narrow, Wide}
 use Rattle.record.specs.Bytes.{number_bytes}
-use Rattle.writer.specs.Writer.{parted, bytes_of, wide_bytes_of, bytes_by}
-use Rattle.writer.proofs.Bytes.{bytes-append}
+use Rattle.writer.specs.Writer.{parted, bytes_by}
+use Rattle.writer.proofs.Bytes.{length-bytes, bytes-append}
 
 -- ---- A list whose front is written
 pub record Begun (front : List ℕ) (at : ℕ) (old new : List ℕ) : Type 0 where
@@ -55,12 +58,9 @@ module _ (front : List ℕ) (at : ℕ) (old new : List ℕ) (b : Begun front at 
         holds = w ∙ ap₂ (λ a z. a ++ (part ++ z)) before later ∙ sym (append_assoc front part (drop r old));
       }
 
--- ---- `put` and `put_wide`
+-- ---- `put`
 pub record Putting (w : Width) (list : List ℕ) (at : ℕ) (old new : List ℕ) (i place : ℕ) : Type 0 where
-  pub within : i ≤ length list
   pub here : place ≡ at + number_bytes w * i
-  pub room : at + number_bytes w * length list ≤ length old
-  pub kept : length new ≡ length old
   pub begun : Begun (take at old ++ bytes_by w (take i list)) place old new
 
 none-put : (w : Width) → bytes_by w [] ≡ []
@@ -68,88 +68,54 @@ unfolding parted
 none-put Narrow = refl
 none-put Wide = refl
 
+-- The last bytes of four are those of one number.
+pub one-put : (w : Width) (each x : ℕ) → each ≡ number_bytes w
+    → take (4 - (4 - each)) (drop (4 - each) (to_be_bytes w32 x)) ≡ bytes_by w (x ∷ [])
+unfolding parted
+one-put Narrow each x e = rw e refl
+one-put Wide each x e =
+    let first : x / 16777216 % 256 ≡ x / 65536 % 65536 / 256 % 256 = omega arith in
+    let second : x / 65536 % 256 ≡ x / 65536 % 65536 % 256 = omega arith in
+    let third : x / 256 % 256 ≡ x % 65536 / 256 % 256 = omega arith in
+    let fourth : x % 256 ≡ x % 65536 % 256 = omega arith in
+    rw e (cc (first, second, third, fourth))
+
 module _ (w : Width) (list : List ℕ) (at : ℕ) (old : List ℕ) where
-  pub put-start : at + number_bytes w * length list ≤ length old → Putting w list at old old 0 at
+  pub put-start : at ≤ length old → Putting w list at old old 0 at
   put-start h = record {
-    within = omega arith;
     here = omega (arith, mul-zero (number_bytes w));
-    room = h;
-    kept = refl;
-    begun = subst (λ z. Begun z at old old) (sym (ap (λ z. take at old ++ z) (none-put w) ∙ append-nil (take at old)))
-        (begun-start old at (omega arith));
+    begun =
+        let front : take at old ++ bytes_by w [] ≡ take at old = ap (λ z. take at old ++ z) (none-put w) ∙ append-nil (take at old) in
+        subst (λ z. Begun z at old old) (sym front) (begun-start old at h);
   }
 
-  module _ (new : List ℕ) (i place : ℕ) (k : Putting w list at old new i place) where
+  module _ (new : List ℕ) (i place each : ℕ) (k : Putting w list at old new i place) (e : each ≡ number_bytes w) where
+    -- There is room for one more.
+    pub put-room : i < length list → at + number_bytes w * length list ≤ length old → place + each ≤ length new
+    put-room h r =
+        let upto = mul-le-mul {n₁ = number_bytes w} {m₁ = i + 1} {n₂ = number_bytes w} {m₂ = length list} (omega arith) (omega arith) in
+        omega (arith, k.here, mul-add (number_bytes w) i 1, begun-length _ place old new k.begun)
+
     -- The bytes of the i-th number are written, too.
-    put-more : (later : List ℕ) → i < length list
-        → Begun ((take at old ++ bytes_by w (take i list)) ++ bytes_by w (get_or list i 0 ∷ [])) (place + number_bytes w) old later
-        → Putting w list at old later (i + 1) (place + number_bytes w)
-    put-more later h b =
+    pub put-next : (x : ℕ) (part : List ℕ) → i < length list → at + number_bytes w * length list ≤ length old → x ≡ get_or list i 0
+        → part ≡ bytes_by w (x ∷ [])
+        → Putting w list at old (put_mid place (place + each - place) new part) (i + 1) (place + each)
+    put-next x part h r is q =
         let front : List ℕ = take at old ++ bytes_by w (take i list) in
-        let one : List ℕ = bytes_by w (get_or list i 0 ∷ []) in
-        let both : front ++ one ≡ take at old ++ bytes_by w (take (i + 1) list) =
-        append_assoc (take at old) (bytes_by w (take i list)) one
+        let one : part ≡ bytes_by w (get_or list i 0 ∷ []) = q ∙ ap (λ z. bytes_by w (z ∷ [])) is in
+        let both : front ++ part ≡ take at old ++ bytes_by w (take (i + 1) list) =
+        ap (λ z. front ++ z) one
+        ∙ append_assoc (take at old) (bytes_by w (take i list)) (bytes_by w (get_or list i 0 ∷ []))
         ∙ ap (λ z. take at old ++ z) (sym (bytes-append w (take i list) (get_or list i 0 ∷ [])))
         ∙ ap (λ z. take at old ++ bytes_by w z) (sym (take-suc list i 0 h) ∙ ap (λ z. take z list) (sym (add-one i))) in
+        let room = put-room h r in
+        let size : length part ≡ each = ap length one ∙ length-bytes w (get_or list i 0 ∷ []) ∙ mul-one (number_bytes w) ∙ sym e in
         record {
-          within = omega arith;
           here = omega (arith, k.here, mul-add (number_bytes w) i 1);
-          room = k.room;
-          kept = begun-length (front ++ one) (place + number_bytes w) old later b;
-          begun = subst (λ z. Begun z (place + number_bytes w) old later) both b;
+          begun =
+              let gap : place + (place + each - place) ≡ place + each = omega arith in
+              let kept = begun-length _ place old new k.begun in
+              subst (λ z. Begun z (place + each) old (put_mid place (place + each - place) new part)) both
+              (begun-put front place old new k.begun part (place + each) _ (omega arith) (omega arith)
+              (ap (λ z. take place new ++ (part ++ z)) (drop-drop (place + each - place) place new ∙ ap (λ z. drop z new) gap)));
         }
-
-    pub put-end : length list ≤ i
-        → (place ≡ at + number_bytes w * length list) × (new ≡ take at old ++ (bytes_by w list ++ drop place old))
-    put-end h =
-        let all : i ≡ length list = omega (arith, k.within) in (
-          k.here ∙ ap (λ z. at + number_bytes w * z) all,
-          k.begun.holds
-              ∙ ap (λ z. (take at old ++ bytes_by w z) ++ drop place old) (take_all i list h)
-              ∙ append_assoc (take at old) (bytes_by w list) (drop place old),
-        )
-
--- One byte more behind those that are written since.
-module _ (front : List ℕ) (at : ℕ) (old : List ℕ) where
-  next-byte : (since : List ℕ) (m : ℕ) (new : List ℕ) → Begun (front ++ since) (at + m) old new → (v : ℕ) → at + m < length old
-      → Begun (front ++ (since ++ v ∷ [])) (at + (m + 1)) old (set new (at + m) v)
-  next-byte since m new b v h =
-      let next : at + m + 1 ≡ at + (m + 1) = omega arith in
-      subst (λ z. Begun z (at + (m + 1)) old (set new (at + m) v)) (append_assoc front since (v ∷ []))
-      (subst (λ z. Begun ((front ++ since) ++ v ∷ []) z old (set new (at + m) v)) next (begun-byte (front ++ since) (at + m) old new b v h))
-
-  first_byte : (new : List ℕ) → Begun front at old new → (v : ℕ) → at < length old → Begun (front ++ v ∷ []) (at + 1) old (set new at v)
-  first_byte new b v h = begun-byte front at old new b v h
-
--- The turn of `put`.
-pub put_next : (list : List ℕ) (at : ℕ) (old new : List ℕ) (i place : ℕ) → Putting Narrow list at old new i place → (a b : ℕ)
-    → i < length list → a ≡ get_or list i 0 / 256 % 256 → b ≡ get_or list i 0 % 256
-    → Putting Narrow list at old (set (set new place a) (place + 1) b) (i + 1) (place + 2)
-unfolding parted
-put_next list at old new i place k a b h ea eb =
-    let front : List ℕ = take at old ++ bytes_of (take i list) in
-    let one = first_byte front place old new k.begun a (omega (arith, k.here, k.room)) in
-    let two = next-byte front place old (a ∷ []) 1 (set new place a) one b (omega (arith, k.here, k.room)) in
-    let later : List ℕ = set (set new place a) (place + 1) b in
-    put-more Narrow list at old new i place k later h
-    (subst (λ z. Begun (front ++ z) (place + 2) old later) (ap₂ (λ u v. u ∷ v ∷ []) ea eb) two)
-
--- The turn of `put_wide`: the bytes of the high half, then those of the low half.
-pub put-next-wide : (list : List ℕ) (at : ℕ) (old new : List ℕ) (i place : ℕ) → Putting Wide list at old new i place → (a b c d : ℕ)
-    → i < length list → let x : ℕ = get_or list i 0 in
-    a ≡ x / 65536 % 65536 / 256 % 256 → b ≡ x / 65536 % 65536 % 256 → c ≡ x % 65536 / 256 % 256 → d ≡ x % 65536 % 256
-    → Putting Wide list at old (set (set (set (set new place a) (place + 1) b) (place + 2) c) (place + 3) d) (i + 1) (place + 4)
-unfolding parted
-put-next-wide list at old new i place k a b c d h ea eb ec ed =
-    let front : List ℕ = take at old ++ wide_bytes_of (take i list) in
-    let one = first_byte front place old new k.begun a (omega (arith, k.here, k.room)) in
-    let new₁ : List ℕ = set new place a in
-    let two = next-byte front place old (a ∷ []) 1 new₁ one b (omega (arith, k.here, k.room)) in
-    let new₂ : List ℕ = set new₁ (place + 1) b in
-    let three = next-byte front place old (a ∷ b ∷ []) 2 new₂ two c (omega (arith, k.here, k.room)) in
-    let new₃ : List ℕ = set new₂ (place + 2) c in
-    let four = next-byte front place old (a ∷ b ∷ c ∷ []) 3 new₃ three d (omega (arith, k.here, k.room)) in
-    let later : List ℕ = set new₃ (place + 3) d in
-    let same : a ∷ b ∷ c ∷ d ∷ [] ≡ wide_bytes_of (get_or list i 0 ∷ []) =
-    ap₂ ◌++◌ (ap₂ (λ u v. u ∷ v ∷ []) ea eb) (ap₂ (λ u v. u ∷ v ∷ []) ec ed) in
-    put-more Wide list at old new i place k later h (subst (λ z. Begun (front ++ z) (place + 4) old later) same four)

@@ -8,13 +8,10 @@ use lib.ListN.{length, get_or, take, drop, length-append, get_or-append}
 use lib.Seq.{take_at, drop_at}
 use borrow.Author.Tests.{eq-eqb}
 use Rattle.lists.specs.All.{All}
-use Rattle.answers.specs.declared.Writing.{Writing}
-use Rattle.answers.specs.declared.Writing.TheVariants.{Written}
 use Rattle.field.specs.declared.Width.{Width}
 use Rattle.field.specs.declared.Width.TheVariants.{Narrow}
-use Rattle.record.specs.declared.Reading.TheVariants.{Fine}
 use Rattle.record.specs.Bytes.{number_at, number_bytes, limit_of, numbers_by, stand_at, over}
-use Rattle.record.specs.Record.{section_width, section_count, section_length, section_start, directory, directory_right, mark}
+use Rattle.record.specs.Record.{section_width, section_count, section_length, section_start, directory, directory_right, mark, fine}
 use Rattle.record.specs.Record.{width_of, n_of, reading_as, reading, IsRecord, section_of, numbers_of}
 use Rattle.writer.specs.Writer.{bytes_of, bytes_by, record_of, Small, Contents, writable, writing}
 use Rattle.record.proofs.Bytes.{stand-true, over-front, over-rest}
@@ -24,6 +21,8 @@ use Rattle.record.proofs.Sections.{length-directory, directory-below, record-hea
 use Rattle.record.proofs.Answers.{as-fine, fine-record, section-at}
 use Rattle.record.proofs.Narrow.{mark-width, mark-n}
 use Rattle.writer.proofs.Buffer.{Writable, head_of, writable-facts, length-record, writing-written, only-writable}
+use Rattle.std.specs.Prelude.{Ok}
+use Rattle.answers.specs.Answers.{Writing}
 
 -- A number that stands in the front bytes.
 front-place : (xs ys : List ℕ) (at : ℕ) → at + 1 < length xs → number_at (xs ++ ys) at ≡ number_at xs at
@@ -83,7 +82,7 @@ module _ (w : Width) (n t : ℕ) (deals pairs reports shares : List ℕ) (given 
       ∙ bytes-place list (directory-below n t given.size w) k h) in
       simp (eq-eqb _ _ end, stand)
 
-  pub reading-record : reading (record_of w n t deals pairs reports shares) ≡ Fine w n t
+  pub reading-record : reading (record_of w n t deals pairs reports shares) ≡ fine w n t
   unfolding reading record_of
   reading-record =
       let end = length-record w n t deals pairs reports shares fit in
@@ -166,7 +165,7 @@ writable-contents w n t deals pairs reports shares room e small =
 
 -- The buffer `new` and the answer r, as the contract of `write` gives them.
 module _ (w : Width) (n t : ℕ) (deals pairs reports shares out new : List ℕ) (r : ℕ)
-    (done : ◌≡◌ {A = List ℕ × Writing} (new, Written r) (writing w n t deals pairs reports shares out)) where
+    (done : ◌≡◌ {A = List ℕ × Writing} (new, Ok r) (writing w n t deals pairs reports shares out)) where
   abbrev all : List ℕ
   all = record_of w n t deals pairs reports shares
 
@@ -190,7 +189,7 @@ module _ (w : Width) (n t : ℕ) (deals pairs reports shares out new : List ℕ)
 
   -- What is written is read: the sizes, and in section k the numbers of the k-th list.
   pub written_read : Small w deals pairs reports shares
-      → (r ≡ section_start w n t 4) × (reading (take r new) ≡ Fine w n t)
+      → (r ≡ section_start w n t 4) × (reading (take r new) ≡ fine w n t)
       × ((k : ℕ) → k ≤ 3 → numbers_of (take r new) k ≡ get_or (deals ∷ pairs ∷ reports ∷ shares ∷ []) k [])
   unfolding record_of
   written_read small =

@@ -7,17 +7,14 @@
 --   lists_fit, writable                         the lengths that writing it takes, and these with the sizes
 --   writing w n t deals .. out                  the buffer afterwards, and what the writer answers
 -- Laws: proofs/Bytes, proofs/Buffer, proofs/RoundTrip, proofs/WayBack.
-use Rattle.std.specs.Prelude.{◌≡◌, Bool, true, ◌&&◌, List, [], ◌∷◌, ◌++◌, ℕ, ◌+◌, ◌*◌, ◌/◌, ◌%◌, ◌<◌, eqb, leb, length}
+use Rattle.std.specs.Prelude.{◌≡◌, Bool, true, ◌&&◌, List, [], ◌∷◌, ◌++◌, ℕ, ◌+◌, ◌*◌, ◌/◌, ◌%◌, ◌<◌, eqb, leb, length, Ok, Err}
 use Rattle.lists.specs.All.{All}
 use Rattle.field.specs.declared.Width.{Width}
 use Rattle.field.specs.declared.Width.TheVariants.{Narrow, Wide}
 use Rattle.parties.specs.Parties.{sizes}
 use Rattle.answers.specs.declared.Refusal.TheVariants.{WrongSize, WrongLength}
-use Rattle.answers.specs.declared.Admission.{Admission}
-use Rattle.answers.specs.declared.Admission.TheVariants.{Pass, Fail}
-use Rattle.answers.specs.declared.Writing.{Writing}
-use Rattle.answers.specs.declared.Writing.TheVariants.{Written, Refused}
-use Rattle.answers.specs.Refusals.{Test, lowest}
+use Rattle.answers.specs.Refusals.{Test, lowest, Admission}
+use Rattle.answers.specs.Answers.{Writing}
 use Rattle.record.specs.Bytes.{limit_of, over}
 use Rattle.record.specs.Record.{section_start, directory, mark}
 
@@ -90,8 +87,8 @@ writing_tests w n t deals pairs reports shares room =
 
 -- The buffer afterwards, and the answer: what is written and its length, or the buffer as it was.
 abbrev pub written_by : Admission → List ℕ → ℕ → List ℕ → List ℕ × Writing
-written_by Pass new count old = (new, Written count)
-written_by (Fail why) new count old = (old, Refused why)
+written_by (Ok tt) new count old = (new, Ok count)
+written_by (Err why) new count old = (old, Err why)
 
 -- The record over the buffer's front, or the first test that fails.
 unfoldable pub writing : Width → ℕ → ℕ → List ℕ → List ℕ → List ℕ → List ℕ → List ℕ → List ℕ × Writing

@@ -2,112 +2,56 @@
 // four.
 #![tactic(auto)]
 
-ghost use Rattle.std.specs.Prelude.{◌≡◌, true, ◌∷◌, ◌++◌, ◌+◌, ◌*◌, ◌/◌, ◌%◌, ◌≤◌, length, take, drop};
+ghost use Rattle.std.specs.Prelude.{◌≡◌, true, ◌∷◌, ◌++◌, ◌+◌, ◌*◌, ◌≤◌, length, map, take, drop};
 ghost use Rattle.field.specs.declared.Width.TheVariants.{Narrow, Wide};
 ghost use Rattle.parties.specs.Parties.{sizes};
-ghost use Rattle.record.specs.Bytes.{over};
+ghost use Rattle.record.specs.Bytes.{number_bytes, over};
 ghost use Rattle.record.specs.Record.{section_start, directory, mark};
-ghost use Rattle.writer.specs.Writer.{bytes_of, wide_bytes_of, record_of, lists_fit, writable, writing};
+ghost use Rattle.writer.specs.Writer.{bytes_of, bytes_by, record_of, lists_fit, writable, writing};
 
-use answers::{Refusal, Writing};
+use answers::{Refusal, refuse_unless};
+use arrays::Number;
 use field::Width;
 
-// A number's high byte.
-fn high(x: u16) -> u8
-    ensures { result ≡ x / 256 % 256 }
-{
-    (x / 256 % 256) as u8
+// The lists of a record's sections; reports have 16 bits in a wide one, too.
+#[derive(Clone, Copy)]
+struct Sections<'a, N> {
+    deals: &'a [N],
+    pairs: &'a [N],
+    reports: &'a [u16],
+    shares: &'a [N],
 }
 
-// A number's low byte.
-fn low(x: u16) -> u8
-    ensures { result ≡ x % 256 }
-{
-    (x % 256) as u8
-}
-
-// A number's high half.
-fn upper(x: u32) -> u16
-    ensures { result ≡ x / 65536 % 65536 }
-{
-    (x / 65536 % 65536) as u16
-}
-
-// A number's low half.
-fn lower(x: u32) -> u16
-    ensures { result ≡ x % 65536 }
-{
-    (x % 65536) as u16
-}
-
-// Writes the numbers from a place on, two bytes for each, and answers the place behind them.
-fn put(list: &[u16], at: usize, out: &mut [u8]) -> usize
-    requires { at + 2 * length list.now ≤ length out.old }
-    ensures place { result ≡ at + 2 * length list.now }
-    ensures written { out.new ≡ take at out.old ++ (bytes_of list.now ++ drop result out.old) }
-{
-    let mut i = 0;
-    let mut place = at;
-    while i < list.len() {
-        let x = list[i];
-        out[place] = high(x);
-        out[place + 1] = low(x);
-        place += 2;
-        i += 1;
-    }
-    place
-}
-
-// The same with four bytes for each number.
-fn put_wide(list: &[u32], at: usize, out: &mut [u8]) -> usize
-    requires { at + 4 * length list.now ≤ length out.old }
-    ensures place { result ≡ at + 4 * length list.now }
+// Writes the numbers from a place on, each in the bytes of its width, and answers the place behind them.
+fn put<N: Number>(list: &[N], at: usize, out: &mut [u8]) -> usize
+    requires { at + number_bytes N.WIDTH * length list.now ≤ length out.old }
+    ensures place { result ≡ at + number_bytes N.WIDTH * length list.now }
     ensures written { out.new
-        ≡ take at out.old ++ (wide_bytes_of list.now ++ drop result out.old) }
+        ≡ take at out.old ++ (bytes_by N.WIDTH (map N.value list.now) ++ drop result out.old) }
 {
-    let mut i = 0;
+    let each = usize::from(record::number_bytes(N::WIDTH));
     let mut place = at;
-    while i < list.len() {
-        let x = list[i];
-        out[place] = high(upper(x));
-        out[place + 1] = low(upper(x));
-        out[place + 2] = high(lower(x));
-        out[place + 3] = low(lower(x));
-        place += 4;
-        i += 1;
+    for x in list {
+        out[place..place + each].copy_from_slice(&x.wide().to_be_bytes()[4 - each..]);
+        place += each;
     }
     place
 }
 
 // Whether the four lists have a record's lengths and the buffer has room for it.
-fn lists_fit(
-    w: Width,
-    n: u8,
-    t: u8,
-    deals: usize,
-    pairs: usize,
-    reports: usize,
-    shares: usize,
-    room: usize,
-) -> bool
+fn lists_fit<N: Number>(n: u8, t: u8, lists: &Sections<N>, room: usize) -> bool
     requires { sizes n t ≡ true }
-    ensures { result ≡ lists_fit w n t deals pairs reports shares room }
+    ensures { result
+        ≡ lists_fit N.WIDTH n t (length lists.now.deals.now) (length lists.now.pairs.now)
+        (length lists.now.reports.now) (length lists.now.shares.now) room }
 {
-    let size = n as usize;
-    if deals != 2 * size * (t as usize + 1) {
-        return false;
-    }
-    if pairs != 2 * size * size {
-        return false;
-    }
-    if reports != size {
-        return false;
-    }
-    if shares != size {
-        return false;
-    }
-    let each = record::number_bytes(w) as usize;
-    18 + each * (deals + pairs + size) + 2 * size <= room
+    let size = usize::from(n);
+    let each = usize::from(record::number_bytes(N::WIDTH));
+    let deals = lists.deals.len();
+    let pairs = lists.pairs.len();
+    let lengths = [deals, pairs, lists.reports.len(), lists.shares.len()];
+    lengths == [2 * size * (usize::from(t) + 1), 2 * size * size, size, size]
+        && 18 + each * (deals + pairs + size) + 2 * size <= room
 }
 
 // Byte 0: n, with what is added for the width.
@@ -129,57 +73,41 @@ fn put_head(w: Width, n: u8, t: u8, out: &mut [u8]) -> usize
 {
     out[0] = first_byte(w, n);
     out[1] = t;
-    let numbers = record::directory(w, n, t);
-    put(&numbers[..8], 2, out)
+    put(&record::directory(w, n, t), 2, out)
 }
 
 // Writes the record over the front of the buffer and answers its length.
-fn fill(
-    n: u8,
-    t: u8,
-    deals: &[u16],
-    pairs: &[u16],
-    reports: &[u16],
-    shares: &[u16],
-    out: &mut [u8],
-) -> usize
-    requires { writable Narrow n t deals.now pairs.now reports.now shares.now (length out.old) ≡ true }
-    ensures end { result ≡ section_start Narrow n t 4 }
+fn fill<N: Number>(n: u8, t: u8, lists: &Sections<N>, out: &mut [u8]) -> usize
+    requires { writable N.WIDTH n t (map N.value lists.now.deals.now) (map N.value lists.now.pairs.now)
+        lists.now.reports.now (map N.value lists.now.shares.now) (length out.old)
+        ≡ true }
+    ensures end { result ≡ section_start N.WIDTH n t 4 }
     ensures written { out.new
-        ≡ over (record_of Narrow n t deals.now pairs.now reports.now shares.now)
+        ≡ over (record_of N.WIDTH n t (map N.value lists.now.deals.now) (map N.value lists.now.pairs.now)
+        lists.now.reports.now (map N.value lists.now.shares.now))
         out.old }
 {
-    let first = put_head(Width::Narrow, n, t, out);
-    let second = put(deals, first, out);
-    let third = put(pairs, second, out);
-    let fourth = put(reports, third, out);
-    put(shares, fourth, out)
+    let first = put_head(N::WIDTH, n, t, out);
+    let second = put(lists.deals, first, out);
+    let third = put(lists.pairs, second, out);
+    let fourth = put(lists.reports, third, out);
+    put(lists.shares, fourth, out)
 }
 
-// The same with four bytes for each number but the reports.
-fn fill_wide(
-    n: u8,
-    t: u8,
-    deals: &[u32],
-    pairs: &[u32],
-    reports: &[u16],
-    shares: &[u32],
-    out: &mut [u8],
-) -> usize
-    requires { writable Wide n t deals.now pairs.now reports.now shares.now (length out.old) ≡ true }
-    ensures end { result ≡ section_start Wide n t 4 }
-    ensures written { out.new
-        ≡ over (record_of Wide n t deals.now pairs.now reports.now shares.now)
-        out.old }
+// Writes a record of either width.
+#[tactic(auto, unfolding(crate::specs::Writer::writing, crate::specs::Writer::writable))]
+fn write_by<N: Number>(n: u8, t: u8, lists: &Sections<N>, out: &mut [u8]) -> Result<usize, Refusal>
+    ensures { (out.new, result)
+        ≡ writing N.WIDTH n t (map N.value lists.now.deals.now) (map N.value lists.now.pairs.now)
+        lists.now.reports.now (map N.value lists.now.shares.now) out.old }
 {
-    let first = put_head(Width::Wide, n, t, out);
-    let second = put_wide(deals, first, out);
-    let third = put_wide(pairs, second, out);
-    let fourth = put(reports, third, out);
-    put_wide(shares, fourth, out)
+    refuse_unless(parties::sizes(n, t), Refusal::WrongSize)?;
+    refuse_unless(lists_fit(n, t, lists, out.len()), Refusal::WrongLength)?;
+    Ok(fill(n, t, lists, out))
 }
 
-// Writes a record over the front of the lent buffer, which may be longer. A refusal leaves the buffer alone.
+// Writes a record over the front of the lent buffer, which may be longer. A refusal leaves the buffer alone. Each width has its own
+// function: the project's pages fix that lists are lent as `&[u16]`, and wide ones as those of u32.
 pub fn write(
     n: u8,
     t: u8,
@@ -188,26 +116,21 @@ pub fn write(
     reports: &[u16],
     shares: &[u16],
     out: &mut [u8],
-) -> Writing
+) -> Result<usize, Refusal>
     ensures { (out.new, result)
         ≡ writing Narrow n t deals.now pairs.now reports.now shares.now out.old }
 {
-    if !parties::sizes(n, t) {
-        return Writing::Refused(Refusal::WrongSize);
-    }
-    if !lists_fit(
-        Width::Narrow,
+    write_by(
         n,
         t,
-        deals.len(),
-        pairs.len(),
-        reports.len(),
-        shares.len(),
-        out.len(),
-    ) {
-        return Writing::Refused(Refusal::WrongLength);
-    }
-    Writing::Written(fill(n, t, deals, pairs, reports, shares, out))
+        &Sections {
+            deals,
+            pairs,
+            reports,
+            shares,
+        },
+        out,
+    )
 }
 
 // Writes a wide record, as `write` does one that is not.
@@ -219,24 +142,19 @@ pub fn write_wide(
     reports: &[u16],
     shares: &[u32],
     out: &mut [u8],
-) -> Writing
+) -> Result<usize, Refusal>
     ensures { (out.new, result)
         ≡ writing Wide n t deals.now pairs.now reports.now shares.now out.old }
 {
-    if !parties::sizes(n, t) {
-        return Writing::Refused(Refusal::WrongSize);
-    }
-    if !lists_fit(
-        Width::Wide,
+    write_by(
         n,
         t,
-        deals.len(),
-        pairs.len(),
-        reports.len(),
-        shares.len(),
-        out.len(),
-    ) {
-        return Writing::Refused(Refusal::WrongLength);
-    }
-    Writing::Written(fill_wide(n, t, deals, pairs, reports, shares, out))
+        &Sections {
+            deals,
+            pairs,
+            reports,
+            shares,
+        },
+        out,
+    )
 }

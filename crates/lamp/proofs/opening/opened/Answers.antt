@@ -1,0 +1,41 @@
+use Rattle.std.proofs.Common.{◌≡◌, sym, ap, ◌∙◌, length, take, map}
+use native.Mathlib.Omega.{arith}
+use lib.Seq.{length-take-le}
+use Rattle.std.proofs.lemmas.List.{length-map}
+use Rattle.recovery.specs.Recovery.{opening_in}
+use Rattle.recovery.proofs.Fitting.{opening-admitted}
+use Rattle.lamp.specs.Lamp.{its_prime, table_of, opening, opened, opened_by}
+use Rattle.lamp.proofs.Checks.{valid-facts}
+use Rattle.lamp.proofs.Outcomes.{copied-front, opened-decoded}
+use Rattle.lamp.proofs.opening.opened.Goals as goal
+
+pub slice_bounds-list-end : goal.slice_bounds-list-end
+slice_bounds-list-end g c = let f = valid-facts c.args.lamp.party c.requires.0 in omega (arith, f.room, c.requires.1)
+
+pub slice_bounds-widened-end : goal.slice_bounds-widened-end
+slice_bounds-widened-end g c =
+    let f = valid-facts c.args.lamp.party c.requires.0 in
+    sym (length-take-le _ _ (omega (arith, f.room, c.requires.1)))
+
+pub widened-requires : goal.widened-requires
+widened-requires g c =
+    let f = valid-facts c.args.lamp.party c.requires.0 in
+    sym (length-take-le _ _ (omega (arith, f.room, c.requires.1)))
+
+pub opening-opening-requires : goal.opening-opening-requires
+opening-opening-requires g c = (valid-facts c.args.lamp.party c.requires.0).table
+
+pub returns : goal.returns
+unfolding opening
+returns g c =
+    let l = c.args.lamp in
+    let a = l.party in
+    let value = g.N.Number.value in
+    let xs = map value c.args.shares.now in
+    let lent = copied-front value c.args.shares.now _ _ c.widened.ensures in
+    let f = valid-facts a c.requires.0 in
+    c.opened_by.ensures
+    ∙ ap (opened_by l) (c.opening-opening.ensures
+    ∙ ap (λ ys. opening_in (its_prime a) a.n a.t (table_of a) a.number l.sharing.share ys) lent
+    ∙ opening-admitted _ _ _ _ _ _ _ c.requires.0.size c.requires.0.party (length-map c.args.shares.now value ∙ c.requires.1))
+    ∙ opened-decoded l (opening l xs)

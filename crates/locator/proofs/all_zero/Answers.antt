@@ -1,0 +1,12 @@
+-- `locator::all_zero` meets its contract.
+use Rattle.std.proofs.Common.{eqb, ◌∙◌, rules, tests}
+use Rattle.std.proofs.lemmas.Iterator.{YieldsList-from_slice}
+use Rattle.std.proofs.lemmas.Iterator.Search.{all_from_yields_List}
+use Rattle.locator.proofs.Exact.{all-zero-listed}
+use Rattle.locator.proofs.all_zero.Goals as goal
+
+pub returns : goal.returns
+returns c =
+    all_from_yields_List (λ v. eqb v 0) _ _ _ c.all.ensures.ran (YieldsList-from_slice c.args.list.now cc)
+    (λ x b q k. search (rules, tests))
+    ∙ all-zero-listed c.args.list.now
