@@ -10,7 +10,8 @@ use native.Mathlib.Omega.{arith}
 use lib.Count.{ones}
 use lib.ListN.{length, get_or, set, take, drop}
 use Rattle.lists.specs.Tabulate.{pad}
-use Rattle.lists.proofs.Cases.{true-or-false, not-both, le-or-lt}
+use Rattle.lists.proofs.Cases.{not-both, le-or-lt}
+use Rattle.std.proofs.lemmas.Bool.{cases_Bool}
 use Rattle.field.specs.declared.Width.{Width}
 use Rattle.field.proofs.Primes.{prime-of}
 use Rattle.polynomial.specs.Polynomial.{Poly, value}
@@ -157,7 +158,7 @@ module _ (s : Setting) (legal : Legal s) (e : Execution) (pr : Premises s e) (ta
           (λ (m : member S i ≡ false).
           settled-repaired (reported i h) S many (column_for s F i) m (repair-found i h m)
           ∙ ap held constants)
-          (true-or-false (member S i))
+          (cases_Bool (member S i))
 
       -- Every honest share is F's, to the end of the list.
       share-is : (j : ℕ) → Honest s e j → share_of s e j ≡ share j

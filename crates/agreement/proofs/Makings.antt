@@ -10,7 +10,7 @@ use lib.Dec.{eqb}
 use lib.ListN.{length, get_or, replicate}
 use lib.Seq.{get_or-take}
 use borrow.Author.Tests.{eqb-true, eqb-false, eq-eqb}
-use Rattle.lists.proofs.Cases.{true-or-false}
+use Rattle.std.proofs.lemmas.Bool.{cases_Bool}
 use Rattle.field.specs.declared.Width.{Width}
 use Rattle.field.specs.Modulus.{prime_of}
 use Rattle.parties.proofs.Parties.{sizes-facts, party-true}
@@ -57,7 +57,7 @@ module _ (w : Width) (n t i : ℕ) (T : List ℕ) where
       let zeros : a.table ≡ replicate 16 0 = sym (kept-not n T size.3 (eqb-false (length T) n e)) in
       absurd (point-not-zero p n (table_of a) (table-facts p n (table_of a) v.table) 1 (party-true n 1 (omega arith) (omega arith))
       (first-zero (omega arith) zeros)))
-      (true-or-false (eqb (length T) n))
+      (cases_Bool (eqb (length T) n))
 
   -- So its making was not refused.
   made-passes : Valid a → lowest (making_tests a T) ≡ Ok tt

@@ -4,19 +4,17 @@ use mathlib.Core.Path.{◌≡◌, refl, sym, ap, subst, ◌∙◌}
 use mathlib.Core.Bool.{true}
 use mathlib.Core.Option.{none}
 use mathlib.Core.List.{List, [], ◌∷◌, ◌++◌}
-use Prim.Native.Nat.{ℕ, suc, ◌*◌, ◌<◌, ◌≤◌}
+use Prim.Native.Nat.{ℕ, suc, ◌*◌, ◌≤◌}
 use native.Mathlib.Omega.{arith}
-use lib.Dec.{lit<}
 use lib.ListN.{length, take}
 use Rattle.field.specs.declared.Width.{Width}
-use Rattle.field.specs.declared.Width.TheVariants.{Narrow, Wide}
 use Rattle.field.specs.Modulus.{prime_of}
 use Rattle.polynomial.specs.Polynomial.{Residues}
 use Rattle.bivariate.specs.Bivariate.{row, column}
 use Rattle.parties.specs.Parties.{is_party}
 use Rattle.parties.proofs.Parties.{sizes-facts}
 use Rattle.tables.specs.Tables.{IsTable, one_to}
-use Rattle.tables.proofs.Tables.{length-one-to, one-to-table, one-to-point, kept-front}
+use Rattle.tables.proofs.Tables.{length-one-to, one-to-table, one-to-point, kept-front, above-sixteen}
 use Rattle.dealer.specs.Desk.{stretch, desk}
 use Rattle.lamp.specs.declared.Party.{Party}
 use Rattle.lamp.specs.declared.Lamp.{Lamp}
@@ -32,18 +30,13 @@ use Rattle.agreement.proofs.Rightness.{demand2}
 use Rattle.agreement.proofs.Agreement.{demand3}
 use Rattle.answers.specs.Refusals.{number_of}
 
--- There are residues for sixteen lamps.
-above-16 : (w : Width) → 16 < prime_of w
-above-16 Narrow = lit< tt
-above-16 Wide = lit< tt
-
 module _ (w : Width) where
   abbrev p : ℕ
   p = prime_of w
 
   -- 1 to n is a table wherever the sizes are right.
   points : (n t : ℕ) → Sizes n t → IsTable p n (one_to n)
-  points n t s = one-to-table p n (omega (arith, s.few, above-16 w))
+  points n t s = one-to-table p n (omega (arith, s.few, above-sixteen w))
 
   -- ---- making and dealing: the rows of the table never apply
   makes : (n t i : ℕ) → Replies (plain_making w n t i) (λ r. Gives r.answer [] × (r.lamp ≡ made w n t i)) (make w n t i)
@@ -121,7 +114,7 @@ module _ (w : Width) where
     dealt = dealt;
     never_14 = never_14;
     agreement = λ n t e loaded widths pr. demand3 w n t (one_to n) e pr (record {
-      table = one-to-table p n (omega (arith, sizes-facts n t pr.size, above-16 w));
+      table = one-to-table p n (omega (arith, sizes-facts n t pr.size, above-sixteen w));
       loaded = loaded;
     }) widths;
   }

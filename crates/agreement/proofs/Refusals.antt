@@ -11,7 +11,8 @@ use lib.Count.{ones}
 use lib.Dec.{eqb}
 use lib.ListN.{length}
 use borrow.Author.Tests.{eqb-true}
-use Rattle.lists.proofs.Cases.{true-or-false, not-both, le-or-lt}
+use Rattle.lists.proofs.Cases.{not-both, le-or-lt}
+use Rattle.std.proofs.lemmas.Bool.{cases_Bool}
 use Rattle.field.specs.Arithmetic.{Prime}
 use Rattle.field.specs.declared.Width.{Width}
 use Rattle.field.specs.Modulus.{prime_of}
@@ -67,7 +68,7 @@ module _ (l : Lamp) (P : Prime (its_prime l.party)) where
     ends : Ends (settled l S)
     unfolding at_end
     ends =
-        ⊎_elim (λ many. ⊎_elim (happy many) (mended many) (true-or-false (member S l.party.number))) rejected
+        ⊎_elim (λ many. ⊎_elim (happy many) (mended many) (cases_Bool (member S l.party.number))) rejected
         (le-or-lt (l.party.n - l.party.t) (ones S))
       where
         rejected : ones S < l.party.n - l.party.t → Ends (settled l S)

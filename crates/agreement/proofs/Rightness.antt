@@ -40,7 +40,7 @@ use Rattle.agreement.specs.Demand2.{Takes, Hears, TakesRight, HearsRight, FewAgr
 use Rattle.agreement.specs.Demand2.{KeepsRight, RepairsRight, OpensRight, DealsRight, Demand2}
 use Rattle.agreement.specs.Demand3.{Gives, Refuses}
 use Rattle.agreement.proofs.Rows.{none-some}
-use Rattle.agreement.proofs.Steps.{fits, takes, hears, shares-opened}
+use Rattle.agreement.proofs.Steps.{fits, takes, hears, shares-opened, opened-same}
 use Rattle.agreement.proofs.Outcomes.{heard-entry, opened_some}
 use Rattle.agreement.proofs.Settling.{small, largest, rejects-right, keeps-right, repairs-right}
 use Rattle.answers.specs.Refusals.{number_of}
@@ -75,7 +75,7 @@ module _ (l : Lamp) (P : Prime (its_prime l.party)) (w : Width) (shares : List �
     only = opening-only p P t T own sizes-own fine;
     fits = found;
     as_before = λ f near. found f (near-opening p P t T own sizes-own enough f near);
-    unchanged = ap (λ (z : Reply). z.lamp) goes-open ∙ same (opening l shares);
+    unchanged = ap (λ (z : Reply). z.lamp) goes-open ∙ opened-same l (opening l shares);
   }
     where
       table : IsTable p n T
@@ -97,10 +97,6 @@ module _ (l : Lamp) (P : Prime (its_prime l.party)) (w : Width) (shares : List �
       found f fits =
           let is = goes-open ∙ opened_some l (opening l shares) f (opening-found p P t T own sizes-own fine f fits) in
           (ap (λ (z : Reply). number_of z.answer) is, ap (λ (z : Reply). values_of z.answer) is)
-
-      same : (o : Option (List ℕ)) → (opened l o).lamp ≡ l
-      same none = refl
-      same (some f) = refl
 
       ten : Refuses (step l (open_shares w shares)).answer 10 → opening l shares ≡ none
       ten e = by (opening l shares) refl

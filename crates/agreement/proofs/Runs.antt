@@ -4,14 +4,15 @@
 --   after_kept   no call after the deal changes them; late-awaits: nothing is awaited once the lamp has settled
 use mathlib.Core.Path.{◌≡◌, refl, sym, ap, subst, ◌∙◌}
 use mathlib.Core.Logic.{⊎_elim}
-use mathlib.Core.Bool.{Bool, true, false, cond, ◌&&◌, and-eq-true_iff, true≢false, and-false}
+use mathlib.Core.Bool.{Bool, true, false, ◌&&◌, and-eq-true_iff, true≢false}
 use mathlib.Core.Option.{Option, none, some}
 use mathlib.Core.List.{List, [], ◌∷◌}
 use Prim.Native.Nat.{ℕ, ◌-◌}
 use lib.Count.{ones}
 use lib.Dec.{eqb, leb}
 use lib.ListN.{length}
-use Rattle.lists.proofs.Cases.{true-or-false, not-both}
+use Rattle.lists.proofs.Cases.{not-both}
+use Rattle.std.proofs.lemmas.Bool.{cases_Bool, cond_both, and_right}
 use Rattle.happy.specs.Happy.{happy_set}
 use Rattle.parties.specs.Parties.{member, entry}
 use Rattle.answers.specs.declared.Stage.TheVariants.{Waiting, Dealt, Reported, Holding, Closed}
@@ -24,20 +25,16 @@ use Rattle.lamp.specs.Lamp.{say_pair, hear_pairs, settle, open_shares, step, aft
 use Rattle.agreement.specs.Calls.{Never}
 use Rattle.agreement.proofs.Steps.{deal_fits, pairs_fit, awaited, hears, settles, quiet}
 
-pub by_cond : {A : Type 0} (Q : A → Type 0) (b : Bool) (x y : A) → Q x → Q y → Q (cond b x y)
-by_cond Q true x y hx hy = hx
-by_cond Q false x y hx hy = hy
-
 -- Settling leaves the lamp at its end, holding or closed.
 pub settled-ends : (l : Lamp) (Q : Lamp → Type 0) → ((S v : ℕ) → Q (at_end l Holding S v)) → ((S v : ℕ) → Q (at_end l Closed S v))
     → (S : ℕ) → Q (settled l S).lamp
 unfolding settled
 settled-ends l Q held closed S =
-    by_cond (λ (r : Reply). Q r.lamp) (leb (l.party.n - l.party.t) (ones S)) _ _
-    (by_cond (λ (r : Reply). Q r.lamp) (member S l.party.number) _ _
-    (held S (constant (column_of_lamp l)))
-    (mended (repair (its_prime l.party) l.party.n l.party.t (table_of l.party) S l.sharing.heard)))
-    (closed 0 0)
+    cond_both (leb (l.party.n - l.party.t) (ones S)) _ _ (λ (r : Reply). Q r.lamp)
+    (λ many. cond_both (member S l.party.number) _ _ (λ (r : Reply). Q r.lamp)
+    (λ in_it. held S (constant (column_of_lamp l)))
+    (λ out. mended (repair (its_prime l.party) l.party.n l.party.t (table_of l.party) S l.sharing.heard)))
+    (λ few. closed 0 0)
   where
     mended : (o : Option (List ℕ)) → Q (repaired l S o).lamp
     mended none = closed S 0
@@ -77,7 +74,7 @@ self-kept l m h e =
     subst (Kept l) (sym e) (record { same_party = refl; same_row = refl; same_column = refl; started = h })
 
 step_kept : (l : Lamp) (c : Call) → Valid l.party → is_at Waiting l.sharing ≡ false → Kept l (step l c).lamp
-step_kept l c valid h = ⊎_elim (moved c) (λ e. self-kept l (step l c).lamp h (quiet l valid c e)) (true-or-false (awaited l c))
+step_kept l c valid h = ⊎_elim (moved c) (λ e. self-kept l (step l c).lamp h (quiet l valid c e)) (cases_Bool (awaited l c))
   where
     moved : (c : Call) → awaited l c ≡ true → Kept l (step l c).lamp
     moved (take_deal w d) e = absurd (not-both ((and-eq-true_iff (deal_fits l w d) (is_at Waiting l.sharing)).0 e).1 h)
@@ -105,9 +102,6 @@ settled-late l =
     settled-ends l Late
     (λ S v. record { waits = refl; hears_not = refl; settles_not = refl })
     (λ S v. record { waits = refl; hears_not = refl; settles_not = refl })
-
-pub and_right : (a b : Bool) → b ≡ false → (a && b) ≡ false
-and_right a b e = ap (λ z. a && z) e ∙ and-false a
 
 pub late-awaits : (l : Lamp) → Late l → (c : Call) → awaited l c ≡ false
 late-awaits l h (take_deal w d) = and_right (deal_fits l w d) (is_at Waiting l.sharing) h.waits

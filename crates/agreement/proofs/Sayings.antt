@@ -8,7 +8,8 @@ use mathlib.Core.Bool.{Bool, true, false}
 use mathlib.Core.List.{List, [], ◌∷◌}
 use Prim.Native.Nat.{ℕ, suc}
 use native.Mathlib.Decide.{ℕ_discrete}
-use Rattle.lists.proofs.Cases.{true-or-false, not-both}
+use Rattle.lists.proofs.Cases.{not-both}
+use Rattle.std.proofs.lemmas.Bool.{cases_Bool}
 use Rattle.lists.proofs.Masks.{mask_lt}
 use Rattle.field.specs.declared.Width.{Width}
 use Rattle.field.specs.declared.Width.TheVariants.{Narrow, Wide}
@@ -41,7 +42,7 @@ module _ (l : Lamp) where
   sounds = sound-true p (table_of l.party) l.party.number (row_of_lamp l) (column_of_lamp l)
 
   unsound : (IsSound l → ⊥) → is_sound ≡ false
-  unsound d = ⊎_elim (λ e. absurd (d (soundly e))) (λ e. e) (true-or-false is_sound)
+  unsound d = ⊎_elim (λ e. absurd (d (soundly e))) (λ e. e) (cases_Bool is_sound)
 
 -- ---- what a saying answers
 
@@ -82,7 +83,7 @@ says-once l j a b f g =
       | no d ↦ ⊎_elim
           (λ (e : is_sound l ≡ true). let s = soundly l e in (f.sound d s).1 ∙ sym (g.sound d s).1)
           (λ (e : is_sound l ≡ false). let u : IsSound l → ⊥ = λ s. not-both (sounds l s) e in silent (f.unsound u) (g.unsound u))
-          (true-or-false (is_sound l))
+          (cases_Bool (is_sound l))
     ]
   where
     silent : SaysNothing l a → SaysNothing l b → values_of a ≡ values_of b

@@ -9,7 +9,7 @@
 -- "The number is the only result; lists and lamp are unchanged, but 8 and 9 close the lamp" is demand 1.
 use mathlib.Core.Path.{◌≡◌, refl, sym, ap, ap₂, subst, ◌∙◌}
 use mathlib.Core.Logic.{◌⊎◌, inl, inr}
-use mathlib.Core.Bool.{Bool, true, false, cond, ◌&&◌}
+use mathlib.Core.Bool.{Bool, true, ◌&&◌}
 use mathlib.Core.Option.{Option, none, some}
 use mathlib.Core.List.{List, [], ◌∷◌, ◌++◌, append_assoc, head-eq_of_cons-eq, tail-eq_of_cons-eq}
 use Prim.Native.Nat.{ℕ, ◌*◌, ◌≤◌}
@@ -18,6 +18,7 @@ use lib.Dec.{eqb}
 use lib.ListN.{length, drop}
 use lib.Seq.{drop-append_seam}
 use borrow.Author.Tests.{eq-eqb, eqb-true}
+use Rattle.std.proofs.lemmas.Bool.{cond_both}
 use Rattle.lists.proofs.Cases.{not-both}
 use Rattle.field.specs.declared.Width.{Width}
 use Rattle.happy.specs.Happy.{happy_set}
@@ -50,11 +51,6 @@ guard-makes : (Q : Lamp → Type 0) (l : Lamp) (a : Admission) (r : Reply) → Q
 guard-makes Q l (Ok tt) r h k = k refl
 guard-makes Q l (Err why) r h k = h
 
--- By the test's answer, which the first case may cite.
-by-test : {A : Type 0} (Q : A → Type 0) (b : Bool) (x y : A) → (b ≡ true → Q x) → Q y → Q (cond b x y)
-by-test Q true x y hx hy = hx refl
-by-test Q false x y hx hy = hy
-
 opened-makes : (Q : Lamp → Type 0) (l : Lamp) (o : Option (List ℕ)) → Q l → Q (opened l o).lamp
 opened-makes Q l none h = h
 opened-makes Q l (some f) h = h
@@ -72,9 +68,9 @@ module _ (Q : Lamp → Type 0) (l : Lamp) where
       makes (say_pair j) e = same
       makes (hear_pairs w hs) e = heard w hs (passed l (hear_pairs w hs) e)
       makes (settle rs) e =
-          by-test (λ (r : Reply). Q r.lamp) (eqb (entry rs l.party.number) l.sharing.report)
-          (settled l (happy_set rs)) (refuse l AlteredReport)
-          (λ own. ended rs (passed l (settle rs) e) (eqb-true (entry rs l.party.number) l.sharing.report own)) same
+          cond_both (eqb (entry rs l.party.number) l.sharing.report)
+          (settled l (happy_set rs)) (refuse l AlteredReport) (λ (r : Reply). Q r.lamp)
+          (λ own. ended rs (passed l (settle rs) e) (eqb-true (entry rs l.party.number) l.sharing.report own)) (λ other. same)
       makes (open_shares w xs) e = opened-makes Q l (opening l xs) same
 
 -- What every call keeps, every list of calls keeps.

@@ -18,7 +18,8 @@ use Rattle.lists.specs.Masks.{bit}
 use Rattle.lists.specs.Tabulate.{tabulate}
 use Rattle.lists.proofs.Masks.{ones-members}
 use Rattle.lists.proofs.Tabulate.{length-tabulate}
-use Rattle.lists.proofs.Cases.{true-or-false, le-or-lt}
+use Rattle.lists.proofs.Cases.{le-or-lt}
+use Rattle.std.proofs.lemmas.Bool.{cases_Bool}
 use Rattle.field.specs.Arithmetic.{Prime}
 use Rattle.polynomial.specs.Polynomial.{Points}
 use Rattle.mutual.specs.Agreement.{agree}
@@ -109,7 +110,7 @@ module _ (l : Lamp) (P : Prime (its_prime l.party)) (rs : List ℕ) (h : Settles
       (λ (m : member S i ≡ false).
       repaired-number (repair p n t T S l.sharing.heard)
       (sym (ap (λ (z : Reply). number_of z.answer) (goes ∙ settled-mended l S many m)) ∙ e))
-      (true-or-false (member S i))
+      (cases_Bool (member S i))
 
   pub rejects-right : Refuses (step l (settle rs)).answer 8 ↔ FewAgree n t rs
   rejects-right = (to, from)
@@ -148,7 +149,7 @@ module _ (l : Lamp) (P : Prime (its_prime l.party)) (rs : List ℕ) (h : Settles
             (λ (m : member S i ≡ false).
             ap (λ (z : Reply). z.lamp.sharing.happy) (goes ∙ settled-mended l S many m)
             ∙ mended (repair p n t T S l.sharing.heard))
-            (true-or-false (member S i))
+            (cases_Bool (member S i))
 
     -- ---- repair
     module _ (out : member S i ≡ false) where

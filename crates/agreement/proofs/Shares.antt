@@ -14,7 +14,8 @@ use lib.Count.{ones}
 use borrow.Author.Tests.{eqb-true}
 use Rattle.lists.specs.Masks.{bit}
 use Rattle.lists.specs.Choices.{count}
-use Rattle.lists.proofs.Cases.{true-or-false, le-or-lt}
+use Rattle.lists.proofs.Cases.{le-or-lt}
+use Rattle.std.proofs.lemmas.Bool.{cases_Bool}
 use Rattle.field.specs.declared.Width.{Width}
 use Rattle.field.specs.Modulus.{prime_of}
 use Rattle.field.proofs.Primes.{prime-of, positive}
@@ -150,7 +151,7 @@ module _ (l : Lamp) (h : Storable l) (rs : List ℕ) (ok : Passed l (settle rs))
       (constant-below p (column_of_lamp l) above (happy-column many m))))
       (λ (m : member S i ≡ false).
       subst (λ (r : Reply). Storable r.lamp) (sym (settled-mended l S many m)) (repaired-storable many _ refl))
-      (true-or-false (member S i)))
+      (cases_Bool (member S i)))
       (λ few.
       subst (λ (r : Reply). Storable r.lamp) (sym (settled-rejects l S few)) (end-storable l Closed 0 0 (omega arith) above))
       (le-or-lt (n - t) (ones S))

@@ -10,7 +10,7 @@ use Prim.Native.Nat.{ℕ, suc, ◌*◌}
 use lib.Dec.{eqb}
 use lib.ListN.{length}
 use borrow.Author.Tests.{eq-eqb}
-use Rattle.lists.proofs.Cases.{true-or-false}
+use Rattle.std.proofs.lemmas.Bool.{cases_Bool}
 use Rattle.field.specs.declared.Width.{Width}
 use Rattle.field.specs.Modulus.{width_number, same_width}
 use Rattle.happy.specs.Happy.{happy_set}
@@ -73,7 +73,7 @@ guard-same : (l : Lamp) (a : Admission) (r : Reply) → r.lamp ≡ l → (guard 
 guard-same l (Ok tt) r e = e
 guard-same l (Err why) r e = refl
 
-opened-same : (l : Lamp) (o : Option (List ℕ)) → (opened l o).lamp ≡ l
+pub opened-same : (l : Lamp) (o : Option (List ℕ)) → (opened l o).lamp ≡ l
 opened-same l none = refl
 opened-same l (some f) = refl
 
@@ -150,7 +150,7 @@ module _ (l : Lamp) (valid : Valid l.party) where
       ∙ ap (λ b. cond b (settled l (happy_set rs)) (refuse l AlteredReport)) altered in
       record { why = AlteredReport; is = is; number = inr (inr (inl refl)) })
       (λ (g : gate ≡ false). shut_out true (eqb (length rs) l.party.n) (is_at Reported l.sharing) _ g)
-      (true-or-false gate)
+      (cases_Bool gate)
 
   pub stray : (c : Call) → moves c ≡ true → awaited l c ≡ false → Shut l (step l c)
   unfolding step

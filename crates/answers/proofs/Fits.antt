@@ -1,16 +1,14 @@
 -- What a fit answers, taken apart again.
 --   found-is              where one is found it is the polynomial, and its constant stands first
 --   nothing_is            where none is, there is none
---   decoded-not-refused   what is decoded is never a refusal
 use mathlib.Core.Path.{◌≡◌, refl}
 use mathlib.Core.Option.{Option, none, some}
 use mathlib.Core.List.{List, [], ◌∷◌}
 use Prim.Native.Nat.{ℕ}
 use lib.ListN.{get_or}
-use Rattle.std.specs.Prelude.{Ok, Err, Some, None}
+use Rattle.std.specs.Prelude.{Ok, Some, None}
 use Rattle.lists.specs.Tabulate.{pad}
-use Rattle.answers.specs.declared.Refusal.{Refusal}
-use Rattle.answers.specs.Fits.{Fitted, decoded, constant}
+use Rattle.answers.specs.Fits.{decoded, constant}
 
 -- The polynomial found, with the constant where the code reads it.
 pub record Finds (o : Option (List ℕ)) (coefficients : List ℕ) : Type 0 where
@@ -32,7 +30,3 @@ found-is (some f) c e =
 pub nothing_is : (o : Option (List ℕ)) → decoded o ≡ Ok None → o ≡ none
 nothing_is none e = refl
 nothing_is (some f) e = absurd (cc)
-
-pub decoded-not-refused : {A : Type 0} (o : Option (List ℕ)) (why : Refusal) → decoded o ≡ Err why → A
-decoded-not-refused none why e = absurd (cc)
-decoded-not-refused (some f) why e = absurd (cc)

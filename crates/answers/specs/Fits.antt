@@ -3,7 +3,7 @@
 --   decoded o    the answer for the polynomial that fits, or for none
 --   constant f   the constant of a polynomial
 use Rattle.std.proofs.Math.Option as math
-use Rattle.std.specs.Prelude.{List, [], ℕ, get_or, Option, Some, None, Result, Ok, Err}
+use Rattle.std.specs.Prelude.{List, ℕ, get_or, Option, Some, None, Result, Ok}
 use Rattle.lists.specs.Tabulate.{pad}
 use Rattle.answers.specs.declared.Refusal.{Refusal}
 

@@ -5,7 +5,7 @@ ghost use Rattle.std.specs.Prelude.{◌≡◌, ℕ, ◌≤◌, ◌<◌, length, 
 ghost use Rattle.lists.specs.All.{All};
 ghost use Rattle.lists.specs.Tabulate.{pad};
 ghost use Rattle.field.specs.Modulus.{prime_of};
-ghost use Rattle.arrays.specs.Limits.{narrow_holds, wide_holds};
+ghost use Rattle.arrays.specs.Limits.{limit_of, residues_held};
 ghost use Rattle.field.specs.declared.Width.{Width};
 ghost use Rattle.field.specs.declared.Width.TheVariants.{Narrow, Wide};
 
@@ -16,20 +16,18 @@ pub trait Number: Copy {
     ghost WIDTH: { Width };
 
     const WIDTH: Width;
-    // What it counts, and what it stays below.
+    // What it counts.
     ghost value: { Self → ℕ };
-
-    ghost limit: { ℕ };
 
     fn wide(self) -> u32
         ensures { result ≡ value self };
 
     fn narrow(x: u32) -> Self
-        requires { x < limit }
+        requires { x < limit_of WIDTH }
         ensures { value result ≡ x };
 
     // Every residue is such a number.
-    ghost holds_residues: { prime_of WIDTH ≤ limit };
+    ghost holds_residues: { prime_of WIDTH ≤ limit_of WIDTH };
 }
 
 impl Number for u16 {
@@ -39,9 +37,7 @@ impl Number for u16 {
 
     ghost value = { λ x. x };
 
-    ghost limit = { 65536 };
-
-    ghost holds_residues = { narrow_holds };
+    ghost holds_residues = { residues_held Narrow };
 
     fn wide(self) -> u32 {
         u32::from(self)
@@ -59,9 +55,7 @@ impl Number for u32 {
 
     ghost value = { λ x. x };
 
-    ghost limit = { 4294967296 };
-
-    ghost holds_residues = { wide_holds };
+    ghost holds_residues = { residues_held Wide };
 
     fn wide(self) -> u32 {
         self
@@ -85,7 +79,7 @@ pub fn widened<N: Number>(list: &[N], out: &mut [u32])
 
 // Writes numbers that are small enough over a lent list of the same length.
 pub fn narrowed<N: Number>(list: &[u32], out: &mut [N])
-    requires { (length list.now ≡ length out.old) × All (λ x. x < N.limit) list.now }
+    requires { (length list.now ≡ length out.old) × All (λ x. x < limit_of N.WIDTH) list.now }
     ensures { map N.value out.new ≡ list.now }
 {
     for (k, place) in out.iter_mut().enumerate() {

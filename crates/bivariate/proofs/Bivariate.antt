@@ -6,7 +6,9 @@ use Prim.Native.Nat.{ℕ, zero, suc, ◌*◌, ◌<◌, ◌≤◌}
 use native.Mathlib.Omega.{arith}
 use lib.ListN.{length, take, drop, get_or, length-take, length-append, length-map, take-append-drop}
 use lib.Seq.{take_at, drop_at}
-use Rattle.lists.proofs.All.{all_take, all_drop, all_append, all_map, map_same, map-take, map_at, map-map, mem-take, distinct-take}
+use Rattle.lists.proofs.All.{all_take, all_drop, all_append, all_map, map_same, map_at, mem-take, distinct-take}
+use Rattle.std.proofs.lemmas.Simd.{map-map}
+use Rattle.std.proofs.lemmas.List.{take-map}
 use Rattle.field.specs.Arithmetic.{Prime}
 use Rattle.polynomial.specs.Polynomial.{Poly, Points, Residues, value}
 use Rattle.interpolation.specs.Interpolation.{interpolate}
@@ -62,7 +64,7 @@ module _ (p : ℕ) (P : Prime p) (pt : ℕ → ℕ) where
       unfolding level
       level-value i m =
           map_at (λ i. value p (level f) (pt i)) (λ i. constant (f i)) T
-          (map-map pt (value p (level f)) T ∙ interpolate-values p P (map pt T) (map (λ i. constant (f i)) T) ps constants sizes) i m
+          (sym (map-map (value p (level f)) pt T) ∙ interpolate-values p P (map pt T) (map (λ i. constant (f i)) T) ps constants sizes) i m
 
     tails : (k : ℕ) (f : ℕ → List ℕ) → ((i : ℕ) → Memᴰ i T → Poly p (suc k) (f i))
         → (i : ℕ) → Memᴰ i T → Poly p k (tail (f i))
@@ -95,7 +97,7 @@ module _ (p : ℕ) (P : Prime p) (pt : ℕ → ℕ) where
       → ((i : ℕ) → Memᴰ i S → value p f (pt i) ≡ value p g (pt i)) → f ≡ g
   at-points n S ps enough f g hf hg e =
       unique p P n (map pt S) f g ps (omega (arith, length-map S pt)) hf hg
-      (sym (map-map pt (value p f) S) ∙ map_same (λ i. value p f (pt i)) (λ i. value p g (pt i)) S e ∙ map-map pt (value p g) S)
+      (map-map (value p f) pt S ∙ map_same (λ i. value p f (pt i)) (λ i. value p g (pt i)) S e ∙ sym (map-map (value p g) pt S))
 
   module _ (S : List ℕ) (ps : Points p (map pt S)) (n : ℕ) (enough : n ≤ length S) where
     -- ---- F is known from its rows
@@ -139,7 +141,7 @@ module _ (p : ℕ) (P : Prime p) (pt : ℕ → ℕ) where
 
           points-T : Points p (map pt T)
           points-T =
-              subst (Points p) (sym (map-take pt n S)) (all_take (λ x. x < p) n (map pt S) ps.0, distinct-take n (map pt S) ps.1)
+              subst (Points p) (take-map pt n S) (all_take (λ x. x < p) n (map pt S) ps.0, distinct-take n (map pt S) ps.1)
 
           F : List ℕ
           F = join p pt T k f

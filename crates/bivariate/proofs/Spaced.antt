@@ -62,3 +62,6 @@ module _ (p : ℕ) (x : ℕ) where
       let third : v + 4 + 4 + 4 ≡ v + 12 = omega arith in
       sym (entry 4 4 F v l h
       ∙ ap₂ (λ a b. value p (get_or F v 0 ∷ get_or F (v + 4) 0 ∷ get_or F a 0 ∷ get_or F b 0 ∷ []) x) second third)
+
+-- What the code needs of a number of a column.
+pub ruleset columns = (column-one, column-two, column-three, column-four)

@@ -35,6 +35,7 @@ pub fn row(w: Width, f: &[u32], y: u32, out: &mut [u32])
 }
 
 // The coefficient of Y^v in F(x, Y) of few by few: the value at x of those that stand n apart from place v on.
+#[tactic(auto, using(crate::proofs::Spaced::columns))]
 fn column_value(w: Width, f: &[u32], n: usize, v: usize, x: u32) -> u32
     requires n_bound { (n ≤ 4) × (length f.now ≡ n * n) × (v < n) }
     requires residues { Residues (prime_of w) f.now × (x < prime_of w) }

@@ -41,7 +41,7 @@ impl TryFrom<u8> for Kind {
 
 impl Kind {
     // Whether a call of this kind has so many numbers.
-    pub fn takes(self, count: usize) -> bool {
+    pub(crate) fn takes(self, count: usize) -> bool {
         match self {
             Kind::Make => count == 3,
             Kind::SayPair => count == 1,
@@ -51,7 +51,7 @@ impl Kind {
     }
 
     // Whether it has a wide form: saying a pair and settling are lent none of the field.
-    pub fn has_wide_form(self) -> bool {
+    pub(crate) fn has_wide_form(self) -> bool {
         self != Kind::SayPair && self != Kind::Settle
     }
 }

@@ -17,6 +17,7 @@ ghost use Rattle.dealer.specs.Desk.{desk, desk_with};
 ghost use Rattle.calls.specs.Lines.{line_end, call_line, desk_words, called_if};
 
 use arrays::Number;
+use field::Width;
 use kinds::Kind;
 use lamp::{Lamp, Reply};
 use record::Recorded;
@@ -25,19 +26,12 @@ use std::io;
 use std::io::{Read, Write};
 use std::process::ExitCode;
 
-// A number as a byte, the largest byte for a larger number, which is no size and no lamp either.
-fn byte_of(x: u32) -> u8
-    ensures { result ≡ min x 255 }
-{
-    x.min(255) as u8
-}
-
-// The number at the place as a byte; 0 where there is none.
+// The number at the place as a byte, 0 where there is none; for a larger number the largest byte, which is no size and no lamp either.
 fn small<N: Number>(list: &[N], place: usize) -> u8
     ensures { result ≡ min (get_or (map N.value list.now) place 0) 255 }
 {
     match list.get(place) {
-        Some(x) => byte_of(x.wide()),
+        Some(x) => u8::try_from(x.wide()).unwrap_or(255),
         None => 0,
     }
 }
@@ -54,7 +48,8 @@ fn made_with<N: Number>(list: &[N]) -> Reply {
     Lamp::make_in_with(small(list, 0), small(list, 1), small(list, 2), &list[3..])
 }
 
-// Makes a call that has a form for either width on the lamp that the call before left, refused or not.
+// Makes a call that has a form for either width on the lamp that the call before left, refused or not. By a `match`:
+// the kinds are few and closed, and a table of functions may not be handed out.
 fn call<N: Number>(lamp: Lamp, kind: Kind, list: &[N]) -> Reply {
     match kind {
         Kind::Make => made(list),
@@ -63,15 +58,6 @@ fn call<N: Number>(lamp: Lamp, kind: Kind, list: &[N]) -> Reply {
         Kind::MakeWith => made_with(list),
         Kind::Locate => lamp.open_in_by(Decoder::Locator, list),
         _ => lamp.open_in_by(Decoder::Trial, list),
-    }
-}
-
-// Makes any call with numbers of 16 bits.
-fn narrow_call(lamp: Lamp, kind: Kind, list: &[u16]) -> Reply {
-    match kind {
-        Kind::SayPair => lamp.say_pair(small(list, 0)),
-        Kind::Settle => lamp.settle(list),
-        _ => call(lamp, kind, list),
     }
 }
 
@@ -195,62 +181,77 @@ fn desk_line<W: Write>(out: &mut W, lamp: Lamp, dealt: bool) -> io::Result<Optio
     ended(out, lamp)
 }
 
-// A call or a dealing with as many numbers of 16 bits as are counted, from the input, and its line. None where the input ends.
-fn narrow<R: Read, W: Write>(
+// A call or a dealing with as many numbers of the input as the lent list has, and its line; deals go into the other list. None where the
+// input ends.
+fn called<N: Recorded, R: Read, W: Write>(
     input: &mut R,
     out: &mut W,
     lamp: Lamp,
     kind: Kind,
-    count: usize,
+    list: &mut [N],
+    deals: &mut [N],
 ) -> io::Result<Option<Lamp>>
-    requires { count ≤ 200 }
+    requires { (length list.old ≤ 200) × (length deals.old ≡ 200) }
 {
-    let mut list = [0u16; 200];
-    let list = &mut list[..count];
-    // "Not sent" stands where the deals are written.
-    let mut deals = [65535u16; 200];
     if !lent(input, list) {
         return Ok(None);
     }
     match kind {
         Kind::Deal => {
-            let dealt = desk(out, list, &mut deals)?;
+            let dealt = desk(out, list, deals)?;
             desk_line(out, lamp, dealt)
         }
         Kind::DealWith => {
-            let dealt = desk_with(out, list, &mut deals)?;
-            desk_line(out, lamp, dealt)
-        }
-        _ => replied(out, narrow_call(lamp, kind, list)),
-    }
-}
-
-// The same with numbers of 32 bits.
-fn wide<R: Read, W: Write>(
-    input: &mut R,
-    out: &mut W,
-    lamp: Lamp,
-    kind: Kind,
-    count: usize,
-) -> io::Result<Option<Lamp>>
-    requires { count ≤ 200 }
-{
-    let mut list = [0u32; 200];
-    let list = &mut list[..count];
-    let mut deals = [4294967295u32; 200];
-    if !lent(input, list) {
-        return Ok(None);
-    }
-    match kind {
-        Kind::Deal => {
-            let dealt = desk(out, list, &mut deals)?;
-            desk_line(out, lamp, dealt)
-        }
-        Kind::DealWith => {
-            let dealt = desk_with(out, list, &mut deals)?;
+            let dealt = desk_with(out, list, deals)?;
             desk_line(out, lamp, dealt)
         }
         _ => replied(out, call(lamp, kind, list)),
+    }
+}
+
+// The same of a kind that has no wide form.
+fn said_or_settled<R: Read, W: Write>(
+    input: &mut R,
+    out: &mut W,
+    lamp: Lamp,
+    kind: Kind,
+    list: &mut [u16],
+) -> io::Result<Option<Lamp>>
+    requires { length list.old ≤ 200 }
+{
+    if !lent(input, list) {
+        return Ok(None);
+    }
+    if kind == Kind::Settle {
+        return replied(out, lamp.settle(list));
+    }
+    replied(out, lamp.say_pair(small(list, 0)))
+}
+
+// The call of this kind, with so many numbers of this width. "Not sent" stands where deals are written.
+fn asked_in<R: Read, W: Write>(
+    input: &mut R,
+    out: &mut W,
+    lamp: Lamp,
+    w: Width,
+    kind: Kind,
+    count: usize,
+) -> io::Result<Option<Lamp>>
+    requires { count ≤ 200 }
+{
+    match (w, kind.has_wide_form()) {
+        (Width::Narrow, true) => {
+            let list = &mut [0u16; 200][..count];
+            called(input, out, lamp, kind, list, &mut [65535; 200])
+        }
+        (Width::Wide, true) => {
+            let list = &mut [0u32; 200][..count];
+            called(input, out, lamp, kind, list, &mut [4294967295; 200])
+        }
+        (Width::Narrow, false) => {
+            said_or_settled(input, out, lamp, kind, &mut [0; 200][..count])
+        }
+        (Width::Wide, false) => Ok(None),
     }
 }
 
@@ -262,19 +263,13 @@ fn asked<R: Read, W: Write>(
     number: u8,
     count: usize,
 ) -> io::Result<Option<Lamp>> {
-    let Ok(kind) = Kind::try_from(number % 128) else {
+    let (Ok(kind), Ok(w)) = (Kind::try_from(number % 128), Width::try_from(number / 128)) else {
         return Ok(None);
     };
     if 200 < count || !kind.takes(count) {
         return Ok(None);
     }
-    if number < 128 {
-        return narrow(input, out, lamp, kind, count);
-    }
-    if !kind.has_wide_form() {
-        return Ok(None);
-    }
-    wide(input, out, lamp, kind, count)
+    asked_in(input, out, lamp, w, kind, count)
 }
 
 // The next call of the input, if there is one.
@@ -283,7 +278,7 @@ fn next<R: Read, W: Write>(input: &mut R, out: &mut W, lamp: Lamp) -> io::Result
     if replies::read_full(input, &mut head) < 3 {
         return Ok(None);
     }
-    let count = record::number(&head[1..3], 0) as usize;
+    let count = record::number_by::<u16>(&head[1..3], 0) as usize;
     asked(input, out, lamp, head[0], count)
 }
 

@@ -79,6 +79,7 @@ fn case(rt: &HostRuntime, i: usize) -> Result<(), ExitCode> {
     }
 }
 
+// By number: the library's iterator over arguments is of text, and a name may be other bytes.
 fn main(rt: HostRuntime) -> ExitCode {
     for i in 1..usize::MAX {
         if let Err(status) = case(&rt, i) {

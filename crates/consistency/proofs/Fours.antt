@@ -2,6 +2,7 @@
 --   four-said                            their pair at a point is that of the row and the column
 --   four-sound, four-pair                and so are soundness and the pair for a party
 --   four-confirms, four-report           and each bit of a report, and the report
+--   deals                                what the functions of a deal need
 use mathlib.Core.Path.{◌≡◌, ap, ap₂, ◌∙◌}
 use mathlib.Core.List.{List}
 use Prim.Native.Nat.{ℕ, suc, ◌<◌}
@@ -11,7 +12,10 @@ use Rattle.polynomial.specs.Polynomial.{value}
 use Rattle.polynomial.proofs.Together.{padded-test, padded-value}
 use Rattle.tables.specs.Tables.{point_at}
 use Rattle.consistency.specs.Deal.{sound, pair_for, said, confirms_by, report_by}
-use Rattle.consistency.proofs.Reports.{mask-same}
+use Rattle.consistency.proofs.Reports.{mask-same, sound-residues, report-unsound, report-within}
+use Rattle.field.proofs.Primes.{positive}
+use Rattle.polynomial.proofs.Below.{residues-facts}
+use Rattle.tables.proofs.Tables.{point-below}
 
 module _ (p : ℕ) (h : 0 < p) (T : List ℕ) (i : ℕ) (row column : List ℕ) where
   padded-sound : sound p T i (pad 4 row) (pad 4 column) ≡ sound p T i row column
@@ -47,3 +51,7 @@ module _ (p : ℕ) (h : 0 < p) (T : List ℕ) (i : ℕ) (row column : List ℕ) 
 
     pub four-report : (n : ℕ) (fs ss : List ℕ) → report_by p n T i a b fs ss ≡ report_by p n T i row column fs ss
     four-report n fs ss = ap₂ (λ (r c : List ℕ). report_by p n T i r c fs ss) ea eb ∙ padded-report n fs ss
+
+-- What the functions of a deal need.
+pub ruleset deals =
+    (positive, point-below, residues-facts, sound-residues, report-unsound, report-within, four-sound, four-pair, four-report)

@@ -1,3 +1,2 @@
 pub mod Reports
 mod Fours
-mod Turns

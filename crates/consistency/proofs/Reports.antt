@@ -3,13 +3,16 @@ use mathlib.Core.Path.{◌≡◌, refl, sym, ap, ap₂, ◌∙◌}
 use mathlib.Core.Bool.{Bool, true, false, not, ◌&&◌, and-eq-true_iff}
 use mathlib.Core.List.{List}
 use Prim.Native.Nat.{ℕ, zero, suc, ◌+◌, ◌*◌, ◌-◌, ◌%◌, ◌^◌, ◌<◌, ◌≤◌}
-use native.Mathlib.Nat.{one-mul, le_trans}
+use native.Mathlib.Nat.{le_trans}
 use native.Mathlib.Numerals.{add-one}
 use native.Mathlib.Omega.{arith}
 use borrow.Author.Tests.{eq-eqb, ne_eqb, le-leb, lt-leb}
-use lib.Dec.{eqb, lit<}
+use lib.Dec.{eqb}
 use lib.ListN.{length, get_or}
-use lib.Pow.{shl_exact, pow_mono}
+use lib.Pow.{pow_mono}
+use Rattle.std.proofs.lemmas.Nat.{one_shl}
+use Rattle.std.proofs.lemmas.List.{length_push}
+use Rattle.lists.proofs.Turns.{turn-at, turn-end}
 use Rattle.lists.specs.Masks.{bit, mask}
 use Rattle.lists.proofs.Cases.{not-both}
 use Rattle.lists.proofs.Masks.{mask-in, mask-out, mask_lt, bit_mask, add-lt}
@@ -19,10 +22,6 @@ use Rattle.parties.specs.Parties.{is_party, not_sent}
 use Rattle.tables.specs.Tables.{point_at}
 use Rattle.consistency.specs.Deal.{first_from, second_from, sound, pair_for, confirms_by, confirms, report_of, report_by}
 use Rattle.consistency.specs.Deal.{no_report, report_in}
-
--- `1 << k` in sixteen bits.
-one_shl : (k : ℕ) → k < 16 → 1 * 2 ^ k % 65536 ≡ 2 ^ k
-one_shl k h = shl_exact 1 k 16 (lit< tt) (omega arith) ∙ one-mul (2 ^ k)
 
 -- A test that no place passes gives the empty set.
 mask-none : (f : ℕ → Bool) (n : ℕ) → ((k : ℕ) → f k ≡ false) → 0 ≡ mask f n
@@ -45,20 +44,6 @@ full-bit : (k : ℕ) → k < 16 → bit no_report k ≡ true
 full-bit k h = ap (λ m. bit m k) full ∙ bit_mask (λ j. true) 16 k h
 
 module _ (p : ℕ) (T : List ℕ) (i : ℕ) (row column : List ℕ) where
-  -- ---- whether the deal is sound
-  pub sound-not-row : residues p row ≡ false → false ≡ sound p T i row column
-  unfolding sound
-  sound-not-row e = rw e
-
-  pub sound-not-column : residues p row ≡ true → residues p column ≡ false → false ≡ sound p T i row column
-  unfolding sound
-  sound-not-column e d = rw (e, d)
-
-  pub sound-crossing : (x : ℕ) → residues p row ≡ true → residues p column ≡ true → x ≡ point_at T i
-      → eqb (value p row x) (value p column x) ≡ sound p T i row column
-  unfolding sound
-  sound-crossing x e d at = rw (e, d, at)
-
   -- What is sound has residues alone.
   pub sound-residues : sound p T i row column ≡ true → Residues p row × Residues p column
   unfolding sound
@@ -153,7 +138,7 @@ module _ (p : ℕ) (T : List ℕ) (i : ℕ) (row column : List ℕ) where
     report-start = refl
 
     pub report-room : (bits k : ℕ) → bits ≡ report_to k → k < 16 → bits + 1 * 2 ^ k % 65536 < 65536
-    report-room bits k e h = rw (one_shl k h, e) (le_trans (add-lt (report_to k) k (mask_lt says k)) (pow_mono {j = 16} h))
+    report-room bits k e h = rw (one_shl k 16 h, e) (le_trans (add-lt (report_to k) k (mask_lt says k)) (pow_mono {j = 16} h))
 
     module _ (bits k : ℕ) (e : bits ≡ report_to k) where
       place : (b : Bool) → b ≡ confirms_by p T i row column (k + 1) (get_or fs k 0) (get_or ss k 0) → says k ≡ b
@@ -161,7 +146,10 @@ module _ (p : ℕ) (T : List ℕ) (i : ℕ) (row column : List ℕ) where
 
       pub report-one : k < 16 → true ≡ confirms_by p T i row column (k + 1) (get_or fs k 0) (get_or ss k 0)
           → bits + 1 * 2 ^ k % 65536 ≡ report_to (k + 1)
-      report-one h set = rw (one_shl k h, e, add-one k) (sym (mask-in says k (place true set)))
+      report-one h set = rw (one_shl k 16 h, e, add-one k) (sym (mask-in says k (place true set)))
 
       pub report-zero : false ≡ confirms_by p T i row column (k + 1) (get_or fs k 0) (get_or ss k 0) → bits ≡ report_to (k + 1)
       report-zero unset = rw (e, add-one k) (sym (mask-out says k (place false unset)))
+
+-- What the loop over the pairs needs at each turn and at its end.
+pub ruleset report_turns = (turn-at, turn-end, length_push, report-start, report-room, report-one, report-zero)

@@ -1,5 +1,5 @@
 // What a party makes of its deal and of the pairs that it hears: whether the deal is sound, its pair for another party, its report.
-#![tactic(auto)]
+#![tactic(auto, using(crate::proofs::Fours::deals))]
 
 ghost use Rattle.std.specs.Prelude.{◌≡◌, ℕ, true, ◌≤◌, ◌<◌, length};
 ghost use Rattle.lists.specs.Tabulate.{pad};
@@ -63,6 +63,7 @@ impl<'a> Dealt<'a> {
     }
 
     // Whether the deal is sound: residues, and row and column meet at the party's own point, which the table has.
+    #[tactic(auto, using(crate::proofs::Fours::deals), unfolding(crate::specs::Deal::sound))]
     fn is_sound(&self) -> bool
         ensures { result ≡ sound (prime_of self.now.w) self.now.table.now self.now.i self.now.row self.now.column }
     {
@@ -78,6 +79,7 @@ impl<'a> Dealt<'a> {
     }
 
     // The pair for party j: for itself, or with an unsound deal, nothing is sent.
+    #[tactic(auto, using(crate::proofs::Fours::deals), unfolding(crate::specs::Deal::pair_for))]
     fn pair_for(&self, j: u8) -> Pair
         ensures { result ≡ said (pair_for (prime_of self.now.w) self.now.table.now self.now.i self.now.row self.now.column j) }
     {
@@ -108,6 +110,7 @@ impl<'a> Dealt<'a> {
     }
 
     // The parties that the party, whose deal is sound, has a one for.
+    #[tactic(auto, using(crate::proofs::Reports::report_turns), unfolding(crate::specs::Deal::report_by))]
     fn confirmed(&self, firsts: &[u32], seconds: &[u32]) -> u16
         requires sound { sound (prime_of self.now.w) self.now.table.now self.now.i self.now.row self.now.column ≡ true }
         requires few { (length firsts.now ≤ 16) × (length seconds.now ≡ length firsts.now) }
@@ -135,6 +138,9 @@ fn nothing(w: Width) -> Pair
     }
 }
 
+// What is public here promises of row and column as they are lent. Methods of `Dealt` would promise it of the padded ones, and each caller
+// would need the law that zeros behind change nothing: so `Dealt` stays inside, and these have a deal's parts one by one.
+
 // Whether party i's deal is sound: residues, and row and column meet at its own point, which the table has.
 pub fn sound(w: Width, table: &[u32], i: u8, row: &[u32], column: &[u32]) -> bool
     requires { Residues (prime_of w) table.now × (length row.now ≤ 4) × (length column.now ≤ 4) }
@@ -155,6 +161,7 @@ pub fn pair_for(w: Width, table: &[u32], i: u8, row: &[u32], column: &[u32], j: 
 
 // Party i's report on n pairs, of which the first numbers are one list and the second ones another: with an unsound deal it has a one
 // for nobody. Where i is none of n parties, these are more than the report has bits, or other than n pairs are told, there is no report.
+#[tactic(auto, using(crate::proofs::Fours::deals), unfolding(crate::specs::Deal::report_in))]
 pub fn report(
     w: Width,
     n: u8,

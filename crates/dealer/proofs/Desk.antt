@@ -12,7 +12,7 @@ use lib.Dec.{eqb}
 use lib.ListN.{length, take, drop, length-append}
 use lib.Seq.{take_at, drop_at, take_all}
 use borrow.Author.Tests.{eqb-true, eq-eqb}
-use Rattle.lists.proofs.Cases.{true-or-false}
+use Rattle.std.proofs.lemmas.Bool.{cases_Bool}
 use Rattle.lists.proofs.InPlace.{part-in-front}
 use Rattle.polynomial.specs.Polynomial.{Residues}
 use Rattle.polynomial.proofs.Below.{residues-facts, residues-true}
@@ -147,6 +147,12 @@ lengths-fit n t size room points e =
       eqb-true _ _ all.1.1.1.0,
     )
 
+-- And there is room for n deals.
+pub lengths-room : (n t size room points : ℕ) → lowest (length_tests n t size room points) ≡ Ok tt → room ≡ n * (2 * (t + 1))
+lengths-room n t size room points e =
+    let all = lowest-pass (length_tests n t size room points) e in
+    rw add-one (eqb-true _ _ all.1.1.0)
+
 -- What the code that writes the deals asks for, where all tests pass.
 pub to_write : (p n t : ℕ) (T F : List ℕ) (room : ℕ) → lowest (length_tests n t (length F) room (length T)) ≡ Ok tt
     → lowest (content_tests p n T F) ≡ Ok tt
@@ -208,7 +214,7 @@ module _ (p n t : ℕ) (T F out : List ℕ) where
   pub desk-by-many : 16 < n → (out, Err WrongSize) ≡ desk_with p n t T F out
   desk-by-many h =
       let wrong : sizes n t ≡ false =
-      ⊎_elim (λ e. let s = sizes-facts n t e in absurd (omega arith)) (λ e. e) (true-or-false (sizes n t)) in
+      ⊎_elim (λ e. let s = sizes-facts n t e in absurd (omega arith)) (λ e. e) (cases_Bool (sizes n t)) in
       desk-by-fail WrongSize (rw wrong)
 
   -- The lengths are right: what the code that deals then answers.

@@ -11,13 +11,13 @@ use lib.Seq.{take_at, drop_at, take_all, length-take-le}
 use borrow.Rule.Slice.PartMut.{put_mid, same_len_mid, mid_len}
 use Rattle.lists.specs.All.{All}
 use Rattle.lists.proofs.All.{all_of, all-at, all_append}
-use Rattle.lists.proofs.InPlace.{lent-rest, put_rest}
+use Rattle.lists.proofs.InPlace.{put_rest}
+use Rattle.std.proofs.lemmas.List.{take_rest, take-map, drop-map, map-append, length-map}
 use Rattle.bivariate.specs.Bivariate.{row, column, row_in, column_in}
 use Rattle.bivariate.proofs.Lent.{row-in, column-in}
 use Rattle.bivariate.proofs.Crossing.{length-row, row-poly, column-poly}
 use Rattle.tables.specs.Tables.{point_at}
 use Rattle.std.proofs.Common.{map}
-use Rattle.std.proofs.lemmas.List.{take-map, drop-map, map-append, length-map}
 use Rattle.answers.specs.Refusals.{Admission, lowest}
 use Rattle.dealer.specs.Desk.{deal, deals, size_tests, length_tests}
 use Rattle.dealer.proofs.Desk.{length-deal}
@@ -33,9 +33,6 @@ module _ (list part rest : List ℕ) (e : part ≡ list) where
 -- The same of a list of numbers of either width.
 pub copied-numbers : {X : Type 0} (f : X → ℕ) (xs : List X) (part rest : List ℕ) → part ≡ map f xs → take (length xs) (part ++ rest) ≡ map f xs
 copied-numbers f xs part rest e = take_at part rest (length xs) (ap length e ∙ length-map xs f) ∙ e
-
-pub copied-room : {X : Type 0} (f : X → ℕ) (xs : List X) (part rest : List ℕ) → part ≡ map f xs → length xs ≤ length (part ++ rest)
-copied-room f xs part rest e = omega (arith, length-append part rest, ap length e, length-map xs f)
 
 -- The lengths of the lists as numbers are those of the lent ones.
 module _ {X : Type 0} (f : X → ℕ) (n t : ℕ) (xs out : List X) {a : Admission} where
@@ -65,7 +62,7 @@ module _ (p : ℕ) where
 
       -- What is lent for the column: what stood behind the row's part, w numbers.
       behind : take (length (f ++ drop w out) - w) (drop w (f ++ drop w out)) ≡ drop w out
-      behind = lent-rest w (f ++ drop w out) ∙ drop_at f (drop w out) w row-wide
+      behind = take_rest (f ++ drop w out) w ∙ drop_at f (drop w out) w row-wide
 
       behind-wide : length (drop w out) ≡ w
       behind-wide = length-drop w out ∙ omega arith

@@ -3,7 +3,8 @@
 #![tactic(auto)]
 
 ghost use Rattle.std.specs.Prelude.{◌≡◌, Ok, map, ◌+◌, ◌*◌, ◌≤◌, length};
-ghost use Rattle.field.specs.Modulus.{modulus, wide_modulus, prime_of};
+ghost use Rattle.lists.specs.Facts.{below-prop};
+ghost use Rattle.field.specs.Modulus.{modulus, prime_of};
 ghost use Rattle.polynomial.specs.Polynomial.{Residues};
 ghost use Rattle.answers.specs.Refusals.{lowest};
 ghost use Rattle.dealer.specs.Desk.{deal, deals, size_tests, length_tests, content_tests, desk, desk_with};
@@ -38,43 +39,53 @@ fn content_admission(w: Width, n: u8, table: &[u32], list: &[u32]) -> Result<(),
     refuse_unless(polynomial::residues(w, list), Refusal::NotResidue)
 }
 
-// Party i's deal, over the whole of the lent part: its row, then its column.
-fn write_deal(w: Width, table: &[u32], list: &[u32], terms: usize, i: u8, out: &mut [u32])
-    requires terms_bound { (terms ≤ 4) × (length list.now ≡ terms * terms) × (length out.old ≡ 2 * terms) }
-    requires residues { Residues (prime_of w) table.now × Residues (prime_of w) list.now }
-    ensures { out.new ≡ deal (prime_of w) terms table.now list.now i }
-{
-    let point = tables::point_at(table, i);
-    bivariate::row(w, list, point, &mut out[..terms]);
-    bivariate::column(w, list, point, &mut out[terms..]);
+// What the desk has admitted: the coefficients of F, as many rows as columns of them, and the points that it is dealt at.
+#[derive(Clone, Copy)]
+struct Dealing<'a> {
+    w: Width,
+    table: &'a [u32],
+    list: &'a [u32],
+    terms: usize,
+    ghost few: { terms ≤ 4 },
+    ghost square: { length list.now ≡ terms * terms },
+    ghost points: { Residues (prime_of w) table.now } by { below-prop (prime_of w) table.now },
+    ghost coefficients: { Residues (prime_of w) list.now } by { below-prop (prime_of w) list.now },
 }
 
-// The same in numbers of the lent list.
-fn write_deal_in<N: Number>(table: &[u32], list: &[u32], terms: usize, i: u8, out: &mut [N])
-    requires terms_bound { (terms ≤ 4) × (length list.now ≡ terms * terms) × (length out.old ≡ 2 * terms) }
-    requires residues { Residues (prime_of N.WIDTH) table.now × Residues (prime_of N.WIDTH) list.now }
-    ensures { map N.value out.new ≡ deal (prime_of N.WIDTH) terms table.now list.now i }
-{
-    let mut deal = [0u32; 8];
-    write_deal(N::WIDTH, table, list, terms, i, &mut deal[..2 * terms]);
-    arrays::narrowed(&deal[..2 * terms], out);
-}
+impl<'a> Dealing<'a> {
+    // Party i's deal, over the whole of the lent part: its row, then its column.
+    fn write_deal(&self, i: u8, out: &mut [u32])
+        requires { length out.old ≡ 2 * self.now.terms }
+        ensures { out.new ≡ deal (prime_of self.now.w) self.now.terms self.now.table.now self.now.list.now i }
+    {
+        let terms = self.terms;
+        let point = tables::point_at(self.table, i);
+        bivariate::row(self.w, self.list, point, &mut out[..terms]);
+        bivariate::column(self.w, self.list, point, &mut out[terms..]);
+    }
 
-// The deals of parties 1 to n, each in its own part of the lent list.
-fn write_deals<N: Number>(n: u8, table: &[u32], list: &[u32], terms: usize, out: &mut [N])
-    requires n_bound { (n ≤ 16) × (terms ≤ 4) × (length list.now ≡ terms * terms) × (length out.old ≡ n * (2 * terms)) }
-    requires residues { Residues (prime_of N.WIDTH) table.now × Residues (prime_of N.WIDTH) list.now }
-    ensures { map N.value out.new ≡ deals (prime_of N.WIDTH) terms table.now list.now n }
-{
-    for k in 0..n {
-        let start = usize::from(k) * (2 * terms);
-        write_deal_in(
-            table,
-            list,
-            terms,
-            k + 1,
-            &mut out[start..start + 2 * terms],
-        );
+    // The same in numbers of the lent list, which are of the dealing's width.
+    fn write_deal_in<N: Number>(&self, i: u8, out: &mut [N])
+        requires { (self.now.w ≡ N.WIDTH) × (length out.old ≡ 2 * self.now.terms) }
+        ensures { map N.value out.new ≡ deal (prime_of self.now.w) self.now.terms self.now.table.now self.now.list.now i }
+    {
+        let count = 2 * self.terms;
+        let mut deal = [0u32; 8];
+        self.write_deal(i, &mut deal[..count]);
+        arrays::narrowed(&deal[..count], out);
+    }
+
+    // The deals of parties 1 to n, each in its own part of the lent list. It counts parties: once the loan of `chunks_mut` is over, a proof
+    // knows the list's length and not what was written.
+    fn write_deals<N: Number>(&self, n: u8, out: &mut [N])
+        requires { (self.now.w ≡ N.WIDTH) × (n ≤ 16) × (length out.old ≡ n * (2 * self.now.terms)) }
+        ensures { map N.value out.new ≡ deals (prime_of self.now.w) self.now.terms self.now.table.now self.now.list.now n }
+    {
+        let count = 2 * self.terms;
+        for k in 0..n {
+            let start = usize::from(k) * count;
+            self.write_deal_in(k + 1, &mut out[start..start + count]);
+        }
     }
 }
 
@@ -87,7 +98,13 @@ fn dealt<N: Number>(n: u8, t: u8, table: &[u32], list: &[N], out: &mut [N]) -> R
     let mut coefficients = [0u32; 16];
     arrays::widened(list, &mut coefficients[..list.len()]);
     content_admission(N::WIDTH, n, table, &coefficients[..list.len()])?;
-    write_deals(n, table, &coefficients[..list.len()], t as usize + 1, out);
+    let dealing = Dealing {
+        w: N::WIDTH,
+        table,
+        list: &coefficients[..list.len()],
+        terms: t as usize + 1,
+    };
+    dealing.write_deals(n, out);
     Ok(())
 }
 
@@ -118,7 +135,7 @@ pub fn deal_in<N: Number>(n: u8, t: u8, list: &[N], out: &mut [N]) -> Result<(),
     dealt(n, t, &points[..n as usize], list, out)
 }
 
-// The desk with a table, in numbers of 16 bits.
+// The desk with a table, in numbers of 16 bits: a rule of the project fixes this form for it.
 pub fn deal_with(n: u8, t: u8, table: &[u16], list: &[u16], out: &mut [u16]) -> Result<(), Refusal>
     ensures { (out.new, result) ≡ desk_with modulus n t table.now list.now out.old }
 {
@@ -128,26 +145,6 @@ pub fn deal_with(n: u8, t: u8, table: &[u16], list: &[u16], out: &mut [u16]) -> 
 // The same at the points 1 to n.
 pub fn deal(n: u8, t: u8, list: &[u16], out: &mut [u16]) -> Result<(), Refusal>
     ensures { (out.new, result) ≡ desk modulus n t list.now out.old }
-{
-    deal_in(n, t, list, out)
-}
-
-// The same with numbers of 32 bits modulo the wide prime.
-pub fn deal_wide_with(
-    n: u8,
-    t: u8,
-    table: &[u32],
-    list: &[u32],
-    out: &mut [u32],
-) -> Result<(), Refusal>
-    ensures { (out.new, result) ≡ desk_with wide_modulus n t table.now list.now out.old }
-{
-    deal_in_with(n, t, table, list, out)
-}
-
-// The same at the points 1 to n.
-pub fn deal_wide(n: u8, t: u8, list: &[u32], out: &mut [u32]) -> Result<(), Refusal>
-    ensures { (out.new, result) ≡ desk wide_modulus n t list.now out.old }
 {
     deal_in(n, t, list, out)
 }

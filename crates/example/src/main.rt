@@ -99,21 +99,21 @@ fn stations<W: Write>(out: &mut W) -> io::Result<()> {
 // With numbers of 32 bits: the secret is the largest that there is, one below the prime 2,147,483,647.
 fn wide<W: Write>(out: &mut W) -> io::Result<()> {
     let mut deals = [0u32; 20];
-    let desk = dealer::deal_wide(5, 1, &[2147483646, 2, 3, 4], &mut deals);
+    let desk = dealer::deal_in(5, 1, &[2147483646, 2, 3, 4], &mut deals);
     dealt_line(out, desk, &deals)?;
 
-    // A lamp is made wide; what lends numbers of the field has a form for them, saying a pair and settling have one form for both.
-    let made = Lamp::make_wide(5, 1, 1);
-    let dealt = made.lamp.take_deal_wide(&deals[0..4]);
+    // A lamp is made for them; what lends numbers of the field is named `_in`, saying a pair and settling have one form for both.
+    let made = Lamp::make_in::<u32>(5, 1, 1);
+    let dealt = made.lamp.take_deal_in(&deals[0..4]);
     line(out, b"take ", dealt)?;
     let said = dealt.lamp.say_pair(2);
     line(out, b"say ", said)?;
-    let pairs = [4294967295, 4294967295, 14, 15, 20, 22, 26, 29, 32, 36];
-    let heard = said.lamp.hear_pairs_wide(&pairs);
+    let pairs = [4294967295u32, 4294967295, 14, 15, 20, 22, 26, 29, 32, 36];
+    let heard = said.lamp.hear_pairs_in(&pairs);
     line(out, b"hear ", heard)?;
     let settled = heard.lamp.settle(&[30, 29, 27, 23, 15]);
     line(out, b"settle ", settled)?;
-    let opened = settled.lamp.open_wide(&[2, 5, 999, 11, 14]);
+    let opened = settled.lamp.open_in(&[2u32, 5, 999, 11, 14]);
     line(out, b"open ", opened)?;
 
     // A call of the other prime's numbers answers 18, and changes nothing.

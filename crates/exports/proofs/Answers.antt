@@ -4,7 +4,6 @@
 --   repairs-passed, repairs-tests     the sizes of a repair and what they ask for
 --   repairing-refused, repairing-sized, repairing-by   refused for the sizes, or by the points, or what fits
 --   points-fit                        what fits points that are a table
---   fit-refused, fit-sizes, fit-even, fit-sized   what a repair fits by its sizes: refused, or what the points fit
 --   column-repaired, column-below     what is written of it, and that it fits where residues do
 --   repair-1, repair-3, repair-14, deal-number   which number is given, and that what was lent is left alone
 use mathlib.Core.Path.{◌≡◌, refl, sym, ap, ◌∙◌}
@@ -12,7 +11,7 @@ use mathlib.Core.Logic.{◌⊎◌, inl, inr, ⊎_elim}
 use mathlib.Core.Bool.{Bool, true, false}
 use mathlib.Core.Option.{Option, none, some}
 use mathlib.Core.List.{List, [], ◌∷◌}
-use Prim.Native.Nat.{ℕ, zero, suc, ◌+◌, ◌*◌, ◌-◌, ◌≤◌, ◌<◌}
+use Prim.Native.Nat.{ℕ, suc, ◌+◌, ◌*◌, ◌-◌, ◌≤◌, ◌<◌}
 use native.Mathlib.Omega.{arith}
 use borrow.Author.Tests.{le-leb, eq-eqb, leb-true, eqb-true}
 use lib.Dec.{eqb, leb}
@@ -21,9 +20,10 @@ use lib.Seq.{take_at}
 use Rattle.lists.specs.All.{All}
 use Rattle.lists.specs.Options.{or_zero}
 use Rattle.lists.proofs.All.{all_append}
-use Rattle.lists.proofs.Cases.{true-or-false}
+use Rattle.std.proofs.lemmas.Bool.{cases_Bool}
 use Rattle.field.specs.Arithmetic.{Prime}
 use Rattle.polynomial.specs.Polynomial.{Residues}
+use Rattle.polynomial.proofs.Below.{zeros-residues}
 use Rattle.answers.specs.declared.Refusal.{Refusal}
 use Rattle.answers.specs.declared.Refusal.TheVariants.{WrongLength, WrongTable}
 use Rattle.answers.specs.Fits.{Fitted}
@@ -35,12 +35,13 @@ use Rattle.fit.proofs.Admitted.{fit-least}
 use Rattle.fit.proofs.Rule.{sent-length}
 use Rattle.fit.proofs.Decoding.{fit-sound}
 use Rattle.tables.specs.Tables.{IsTable, is_table}
-use Rattle.tables.proofs.Tables.{table-facts, table-true}
+use Rattle.recovery.proofs.Fitting.{passed}
+use Rattle.field.proofs.Primes.{prime-of}
+use Rattle.tables.proofs.Tables.{table-facts, table-true, table-points}
 use Rattle.dealer.specs.Desk.{desk_with}
 use Rattle.exports.specs.Exports.{dealing_at, repair_sizes, repair_tests, repaired, repaired_if, repairing}
 use Rattle.exports.specs.Pieces.{repair_fit, column_by, Repairs}
 use Rattle.std.specs.Prelude.{Ok, Err, IfOk, IfSome}
-use Rattle.std.proofs.Common.{map}
 use Rattle.std.proofs.lemmas.List.{length-map}
 
 -- ---- a dealing: the desk's number, and 0 for none
@@ -58,16 +59,12 @@ below : (p m : ℕ) (xs : List ℕ) → p ≤ m → Residues p xs → Residues m
 below p m [] h r = tt
 below p m (x ∷ xs) h r = (omega (arith, r.0), below p m xs h r.1)
 
-zeros-below : (p m : ℕ) → 0 < p → Residues p (replicate m 0)
-zeros-below p zero h = tt
-zeros-below p (suc m) h = (h, zeros-below p m h)
-
 decoded-below : (p m : ℕ) (a : Admission) (o : Option (List ℕ)) → 0 < m → p ≤ m → ((f : List ℕ) → o ≡ some f → Residues p f)
     → IfOk (decoded_if a o) (λ found. IfSome found (All (λ c. c < m)))
 decoded-below p m (Err why) o h k r = tt
 decoded-below p m (Ok u) none h k r = tt
 decoded-below p m (Ok u) (some f) h k r =
-    all_append (λ c. c < m) f (replicate (4 - length f) 0) (below p m f k (r f refl)) (zeros-below m (4 - length f) h)
+    all_append (λ c. c < m) f (replicate (4 - length f) 0) (below p m f k (r f refl)) (zeros-residues m (4 - length f) h)
 
 pub fit-below : (p m : ℕ) → Prime p → p ≤ m → (a : Admission) (t need : ℕ) (xs ys : List ℕ)
     → IfOk (decoded_if a (fit p t need xs ys)) (λ found. IfSome found (All (λ c. c < m)))
@@ -164,39 +161,6 @@ points-fit p t xs ys r e =
     }) (omega (arith, r.lengths, r.enough, sent-length p ys))
     ∙ ap (λ b. decoded_if (lowest ((b, WrongTable) ∷ [])) (fit p t (length xs - t) xs ys)) (sym e)
 
--- What the code makes of lists of numbers of either width.
-module _ {X : Type 0} (value : X → ℕ) (p t : ℕ) (xs ys : List X) (room : ℕ) where
-  abbrev points_of : List ℕ
-  points_of = map value xs
-
-  abbrev values_of : List ℕ
-  values_of = map value ys
-
-  -- The sizes are those of the lists as numbers.
-  module _ {a : Admission} (e : lowest (repair_sizes t (length xs) (length ys) room) ≡ a) where
-    as-numbers : lowest (repair_sizes t (length points_of) (length values_of) room) ≡ a
-    as-numbers = rw (length-map xs value, length-map ys value) e
-
-  pub fit-refused : {why : Refusal} → lowest (repair_sizes t (length xs) (length ys) room) ≡ Err why
-      → Err why ≡ repair_fit p t points_of values_of room
-  unfolding repair_fit
-  fit-refused e =
-      ap (λ a. decoded_if a (fit p t (length points_of - t) points_of values_of))
-      (sym (lowest-first (repair_sizes t (length points_of) (length values_of) room) (points p points_of) (as-numbers e)))
-
-  module _ (e : lowest (repair_sizes t (length xs) (length ys) room) ≡ Ok tt) where
-    pub fit-sizes : Repairs t points_of values_of
-    fit-sizes = (repairs-passed t points_of values_of room (as-numbers e)).0
-
-    pub fit-even : length ys ≡ length xs
-    fit-even = sym (length-map ys value) ∙ sym fit-sizes.lengths ∙ length-map xs value
-
-    pub fit-sized : points_fit p t points_of values_of ≡ repair_fit p t points_of values_of room
-    unfolding repair_fit
-    fit-sized =
-        ap (λ a. decoded_if a (fit p t (length points_of - t) points_of values_of))
-        (sym (lowest-then (repair_sizes t (length points_of) (length values_of) room) (points p points_of) (as-numbers e)))
-
 module _ (p : ℕ) (P : Prime p) (t : ℕ) (xs ys column : List ℕ) where
   -- Where no test refuses there is room for the coefficients.
   room-passed : lowest (repair_tests p t xs (length ys) (length column)) ≡ Ok tt → (length column ≡ suc t) × (t ≤ 3)
@@ -238,9 +202,9 @@ module _ (p t : ℕ) (xs ys column : List ℕ) where
       (λ (low : leb 1 t ≡ true). ⊎_elim
       (λ (high : leb t 3 ≡ true). absurd (d (leb-true 1 t low, leb-true t 3 high)))
       (λ (high : leb t 3 ≡ false). rw (low, high))
-      (true-or-false (leb t 3)))
+      (cases_Bool (leb t 3)))
       (λ (low : leb 1 t ≡ false). rw low)
-      (true-or-false (leb 1 t))
+      (cases_Bool (leb 1 t))
 
   -- The first tests pass, or one of them says 3.
   listed : 1 ≤ t → t ≤ 3 → (sized t xs ys (length column) ≡ Ok tt) ⊎ (sized t xs ys (length column) ≡ Err WrongLength)
@@ -264,4 +228,7 @@ module _ (p t : ℕ) (xs ys column : List ℕ) where
       (λ (e : is_table p (length xs) xs ≡ false).
       sym (repairing-sized p t xs ys column (repairs-tests t xs ys (length column) r room))
       ∙ ap (λ b. repaired_if (lowest ((b, WrongTable) ∷ [])) column (fit p t (length xs - t) xs ys)) e)
-      (true-or-false (is_table p (length xs) xs))
+      (cases_Bool (is_table p (length xs) xs))
+
+-- What the code of a repair needs.
+pub ruleset repairs = (length-map, prime-of, table-facts, table-points, passed, points-fit, column-repaired)

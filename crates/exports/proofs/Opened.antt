@@ -5,6 +5,7 @@
 --   tests-kept, tests-plain       the tests with the table in an array, and without one
 --   front-kept, front-sixteen     the table in front of the array
 --   asked-with, asked-plain       the tests of the lists that the code is lent; fits-lent: what fits them
+--   passed-with, fits-with, passed-plain, fits-plain   where these pass: the group that is made, and what fits its points
 --   opening-by                    what is opened where all is right
 --   open-1, open-3, open-14       which number is given, and that the number lent is left alone
 use mathlib.Core.Path.{◌≡◌, refl, sym, ap, ap₂, ◌∙◌}
@@ -15,9 +16,9 @@ use mathlib.Core.List.{List, [], ◌∷◌, ◌++◌}
 use Prim.Native.Nat.{ℕ, ◌+◌, ◌*◌, ◌-◌, ◌≤◌, ◌<◌}
 use native.Mathlib.Omega.{arith}
 use borrow.Author.Tests.{eq-eqb, ne_eqb, eqb-true}
-use lib.Dec.{eqb, lit<}
+use lib.Dec.{eqb}
 use lib.ListN.{length, take}
-use Rattle.lists.proofs.Cases.{true-or-false}
+use Rattle.std.proofs.lemmas.Bool.{cases_Bool}
 use Rattle.lists.proofs.Padded.{get_or-zeros}
 use Rattle.field.specs.Arithmetic.{Prime}
 use Rattle.answers.specs.declared.Refusal.TheVariants.{WrongTable}
@@ -27,7 +28,7 @@ use Rattle.fit.specs.Admitted.{decoded_if}
 use Rattle.parties.specs.Parties.{sizes}
 use Rattle.parties.proofs.Parties.{sizes-facts}
 use Rattle.tables.specs.Tables.{one_to, IsTable, is_table, in_array}
-use Rattle.tables.proofs.Tables.{table-facts, table-true, length-one-to, one-to-table, sixteen-front, kept-front}
+use Rattle.tables.proofs.Tables.{table-facts, table-true, length-one-to, one-to-table, sixteen-front, kept-front, above-sixteen}
 use Rattle.fit.specs.Fit.{sent}
 use Rattle.fit.specs.Opening.{needed, opening_of}
 use Rattle.exports.specs.Exports.{opened, opened_if, opening_lengths, opening_tests, opening_at}
@@ -36,6 +37,7 @@ use Rattle.exports.proofs.Answers.{fit-below}
 use Rattle.std.specs.Prelude.{Ok, Err, IfOk, IfSome}
 use Rattle.std.proofs.Common.{map}
 use Rattle.std.proofs.lemmas.List.{length-map}
+use Rattle.std.proofs.lemmas.Result.{err_from_is_err_and}
 use Rattle.answers.specs.Fits.{Fitted, decoded}
 use Rattle.recovery.specs.Recovery.{published_in}
 use Rattle.recovery.proofs.Fitting.{published-admitted}
@@ -43,7 +45,6 @@ use Rattle.exports.proofs.Fronts.{front-list}
 use Rattle.answers.specs.declared.Refusal.{Refusal}
 use Rattle.lists.specs.All.{All}
 use Rattle.field.specs.declared.Width.{Width}
-use Rattle.field.specs.declared.Width.TheVariants.{Narrow, Wide}
 use Rattle.field.specs.Modulus.{prime_of}
 
 -- ---- what is written
@@ -122,10 +123,6 @@ module _ (p n t m : ℕ) where
       go (Err why) e = e ∙ sym (lowest-first tests (kept p n (one_to n)) e)
 
 -- ---- what the code makes of lists of numbers of either width
-above-sixteen : (w : Width) → 16 < prime_of w
-above-sixteen Narrow = lit< tt
-above-sixteen Wide = lit< tt
-
 -- The table in an array, and 1 to n in that of 1 to 16.
 module _ (p n t : ℕ) (T shares A : List ℕ) (right : Openings p n t T shares) where
   pub front-kept : A ≡ in_array n T → take n A ≡ T
@@ -157,13 +154,44 @@ module _ {X : Type 0} (value : X → ℕ) (w : Width) (n t : ℕ) (shares : List
         sym (e ∙ ap (λ m. lowest (opening_lengths n t m n)) (sym (length-map shares value))
         ∙ tests-plain (prime_of w) n t (length shares_of) (above-sixteen w))
 
+    -- Where they pass, the group that the code makes is right, and what fits its points is what is answered.
+    pub passed-with : {v : Width} (T : List X) (A : List ℕ) → v ≡ w → A ≡ in_array n (map value T)
+        → a ≡ lowest (opening_lengths n t (length shares) (length T) ++ kept (prime_of v) n (take n A)) → a ≡ Ok tt
+        → Openings (prime_of v) n t (take n A) shares_of
+    passed-with T A width array e fine =
+        let right = opening-passed (prime_of w) n t (map value T) shares_of (asked-with T A width array e ∙ fine) in
+        rw (width, front-kept _ _ _ _ _ _ right array) right
+
+    pub fits-with : {v : Width} {r : Fitted} (T : List X) (A : List ℕ) → v ≡ w → A ≡ in_array n (map value T)
+        → a ≡ lowest (opening_lengths n t (length shares) (length T) ++ kept (prime_of v) n (take n A)) → a ≡ Ok tt
+        → r ≡ decoded (opening_of (prime_of v) t (take n A) shares_of) → r ≡ opening_fit (prime_of w) n t (map value T) shares_of
+    fits-with T A width array e fine h =
+        let asked = asked-with T A width array e ∙ fine in
+        let right = opening-passed (prime_of w) n t (map value T) shares_of asked in
+        h ∙ ap₂ (λ u B. decoded (opening_of (prime_of u) t B shares_of)) width (front-kept _ _ _ _ _ _ right array)
+        ∙ opening-admitted (prime_of w) n t (map value T) shares_of asked
+
+    pub passed-plain : {v : Width} (A : List ℕ) → v ≡ w → A ≡ one_to 16 → a ≡ lowest (opening_lengths n t (length shares) n) → a ≡ Ok tt
+        → Openings (prime_of v) n t (take n A) shares_of
+    passed-plain A width array e fine =
+        let right = opening-passed (prime_of w) n t (one_to n) shares_of (asked-plain e ∙ fine) in
+        rw (width, front-sixteen _ _ _ _ _ _ right array) right
+
+    pub fits-plain : {v : Width} {r : Fitted} (A : List ℕ) → v ≡ w → A ≡ one_to 16
+        → a ≡ lowest (opening_lengths n t (length shares) n) → a ≡ Ok tt
+        → r ≡ decoded (opening_of (prime_of v) t (take n A) shares_of) → r ≡ opening_fit (prime_of w) n t (one_to n) shares_of
+    fits-plain A width array e fine h =
+        let asked = asked-plain e ∙ fine in
+        let right = opening-passed (prime_of w) n t (one_to n) shares_of asked in
+        h ∙ ap₂ (λ u B. decoded (opening_of (prime_of u) t B shares_of)) width (front-sixteen _ _ _ _ _ _ right array)
+        ∙ opening-admitted (prime_of w) n t (one_to n) shares_of asked
+
   -- What fits them, lent in front of an array.
-  pub fits-lent : {v : Width} {r : Fitted} (T part rest : List ℕ) → v ≡ w → Openings (prime_of w) n t T shares_of → part ≡ shares_of
-      → r ≡ published_in (prime_of v) n t T (take n (part ++ rest)) → r ≡ decoded (opening_of (prime_of w) t T shares_of)
-  fits-lent T part rest width right e h =
+  pub fits-lent : {r : Fitted} (T part rest : List ℕ) → Openings (prime_of w) n t T shares_of → part ≡ shares_of
+      → r ≡ published_in (prime_of w) n t T (take n (part ++ rest)) → r ≡ decoded (opening_of (prime_of w) t T shares_of)
+  fits-lent T part rest right e h =
       h
-      ∙ ap₂ (λ v xs. published_in (prime_of v) n t T xs) width
-      (front-list value shares part rest n (sym (length-map shares value) ∙ right.lengths) e)
+      ∙ ap (published_in (prime_of w) n t T) (front-list value shares part rest n (sym (length-map shares value) ∙ right.lengths) e)
       ∙ published-admitted (prime_of w) n t T shares_of right.size right.lengths
 
 -- ---- where all is right, and the numbers: 1 for the sizes, 3 for the shares and for the table's length, 14 for its entries
@@ -184,7 +212,7 @@ module _ (p n t : ℕ) (T shares : List ℕ) (old : ℕ) where
       (λ (e : eqb (length shares) n ≡ true).
       rw (s, e, ne_eqb (length T) n (λ l. d (eqb-true (length shares) n e, l))))
       (λ (e : eqb (length shares) n ≡ false). rw (s, e))
-      (true-or-false (eqb (length shares) n))
+      (cases_Bool (eqb (length shares) n))
 
   pub open-14 : sizes n t ≡ true → length shares ≡ n → length T ≡ n → (IsTable p n T → ⊥) → opening_at p n t T shares old ≡ (old, 14)
   unfolding opening_at
@@ -192,4 +220,19 @@ module _ (p n t : ℕ) (T shares : List ℕ) (old : ℕ) where
       ⊎_elim
       (λ e. absurd (d (table-facts p n T e)))
       (λ (e : is_table p n T ≡ false). rw (s, eq-eqb (length shares) n l, eq-eqb (length T) n k, e))
-      (true-or-false (is_table p n T))
+      (cases_Bool (is_table p n T))
+
+-- What the code of an opening needs.
+pub ruleset openings = (
+  err_from_is_err_and,
+  opening-refused,
+  opening-admitted,
+  opening-passed,
+  front-sixteen,
+  front-kept,
+  asked-plain,
+  asked-with,
+  fits-lent,
+  opened-at,
+  lengths-passed,
+)

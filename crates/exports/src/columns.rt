@@ -1,6 +1,9 @@
 // Repairing a column: what it is refused for, what fits, and the coefficients written.
+#![tactic(auto, using(crate::proofs::Answers::repairs))]
+
 ghost use Rattle.std.specs.Prelude.{◌≡◌, map, [], ◌∷◌, ◌-◌, ◌≤◌, ◌<◌, length, IfOk, IfSome};
 ghost use Rattle.lists.specs.All.{All};
+ghost use Rattle.arrays.specs.Limits.{limit_of};
 ghost use Rattle.field.specs.Modulus.{prime_of};
 ghost use Rattle.answers.specs.declared.Refusal.TheVariants.{WrongTable};
 ghost use Rattle.answers.specs.Refusals.{lowest};
@@ -39,6 +42,7 @@ fn repaired(w: Width, t: u8, xs: &[u32], ys: &[u32]) -> Fitted
 }
 
 // What a repair of numbers of either width fits, with room for so many coefficients: refused, or a column.
+#[tactic(auto, unfolding(crate::specs::Pieces::repair_fit))]
 fn column_fitted<N: Number>(t: u8, xs: &[N], ys: &[N], room: usize) -> Fitted
     ensures { result ≡ repair_fit (prime_of N.WIDTH) t (map N.value xs.now) (map N.value ys.now) room }
 {
@@ -52,9 +56,9 @@ fn column_fitted<N: Number>(t: u8, xs: &[N], ys: &[N], room: usize) -> Fitted
     repaired(w, t, &points[..count], &values[..count])
 }
 
-// Writes the coefficients where they are found.
+// Writes the coefficients where they are found, and answers what C is told: 0, or the number of the refusal.
 fn put_column<N: Number>(fitted: Fitted, column: &mut [N]) -> u8
-    requires { IfOk fitted (λ found. IfSome found (λ f. (length column.old ≤ 4) × All (λ c. c < N.limit) f)) }
+    requires { IfOk fitted (λ found. IfSome found (λ f. (length column.old ≤ 4) × All (λ c. c < limit_of N.WIDTH) f)) }
     ensures { (map N.value column.new, result) ≡ column_by fitted (map N.value column.old) }
 {
     match fitted {

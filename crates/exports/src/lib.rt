@@ -1,6 +1,6 @@
 // The library for other languages: functions on numbers and lists, marked for C. Every argument is taken. Dealing, repair and opening
 // answer 0, or the protocol's number of the refusal, and write where they answer 0 alone. Each has a form for numbers of 16 bits and one
-// for numbers of 32, `_wide`; lists of the former are copied into arrays once their lengths are known.
+// for numbers of 32, `_wide`, since C has no generic functions; lists of the former are copied into arrays once their lengths are known.
 #![tactic(auto)]
 
 mod columns;
@@ -29,7 +29,7 @@ pub extern "C" fn doumbaht_deal(n: u8, t: u8, f: &[u16], deals: &mut [u16]) -> u
 pub extern "C" fn doumbaht_deal_wide(n: u8, t: u8, f: &[u32], deals: &mut [u32]) -> u8
     ensures { (deals.new, result) ≡ dealing wide_modulus n t f.now deals.old }
 {
-    answer_number(dealer::deal_wide(n, t, f, deals))
+    answer_number(dealer::deal_in(n, t, f, deals))
 }
 
 // The same with the lamps' points in a table.
@@ -59,7 +59,7 @@ pub extern "C" fn doumbaht_deal_wide_with(
 ) -> u8
     ensures { (deals.new, result) ≡ dealing_at wide_modulus n t table.now f.now deals.old }
 {
-    answer_number(dealer::deal_wide_with(n, t, table, f, deals))
+    answer_number(dealer::deal_in_with(n, t, table, f, deals))
 }
 
 // The happy set by the reports.

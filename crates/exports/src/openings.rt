@@ -1,6 +1,9 @@
 // Opening published shares: what it is refused for, what fits, by trial or by an error locator, and the constant written.
+#![tactic(auto, using(crate::proofs::Opened::openings))]
+
 ghost use Rattle.std.specs.Prelude.{◌≡◌, map, [], ◌∷◌, ◌++◌, ◌<◌, take, IfOk, IfSome};
 ghost use Rattle.lists.specs.All.{All};
+ghost use Rattle.arrays.specs.Limits.{limit_of};
 ghost use Rattle.field.specs.Modulus.{prime_of};
 ghost use Rattle.answers.specs.declared.Refusal.TheVariants.{WrongTable};
 ghost use Rattle.answers.specs.Refusals.{lowest};
@@ -13,6 +16,7 @@ ghost use Rattle.exports.specs.Pieces.{opening_fit, opened_by, Openings};
 use answers::{Fitted, Refusal, refuse_unless};
 use arrays::Number;
 use field::Width;
+use recovery::Group;
 
 // How an opening is found, which each function here is told by its parameter: with a value in its place both decoders stood in one
 // function, which took 2 ns of 22 more.
@@ -29,7 +33,8 @@ fn open_lengths(n: u8, t: u8, shares: usize, points: usize) -> Result<(), Refusa
     refuse_unless(points == n as usize, Refusal::WrongLength)
 }
 
-// The same with a table, the first n numbers of the array, which is looked at behind these.
+// The same with a table, the first n numbers of the array, which is looked at behind these. A group is made behind this test, whose table
+// is one.
 fn open_admission(
     w: Width,
     n: u8,
@@ -47,42 +52,57 @@ fn open_admission(
     )
 }
 
-// What fits admitted shares, by themselves, at the first n points of the array.
-fn fitted<const LOCATED: bool, N: Number>(n: u8, t: u8, table: [u32; 16], shares: &[N]) -> Fitted
-    requires { Openings (prime_of N.WIDTH) n t (take n table) (map N.value shares.now) }
-    ensures { result ≡ decoded (opening_of (prime_of N.WIDTH) t (take n table) (map N.value shares.now)) }
+// What fits admitted shares, by themselves, at the group's points.
+fn fitted<const LOCATED: bool, N: Number>(group: &Group, shares: &[N]) -> Fitted
+    requires { Openings (prime_of group.now.width) group.now.n group.now.t (take group.now.n group.now.table) (map N.value shares.now) }
+    ensures { result ≡ decoded (opening_of (prime_of group.now.width) group.now.t (take group.now.n group.now.table)
+        (map N.value shares.now)) }
 {
-    let w = N::WIDTH;
-    let count = n as usize;
+    let count = group.n as usize;
     let mut list = [0u32; 16];
     arrays::widened(shares, &mut list[..count]);
     if LOCATED {
-        recovery::located(w, n, t, table, &list[..count])
+        group.located(&list[..count])
     } else {
-        recovery::published(w, n, t, table, &list[..count])
+        group.published(&list[..count])
     }
 }
 
 // Refused, or what fits the shares with the parties' points in a table.
+#[tactic(auto, using(crate::proofs::Opened::openings), unfolding(crate::specs::Pieces::opening_fit))]
 fn fitted_with<const LOCATED: bool, N: Number>(n: u8, t: u8, table: &[N], shares: &[N]) -> Fitted
     ensures { result ≡ opening_fit (prime_of N.WIDTH) n t (map N.value table.now) (map N.value shares.now) }
 {
+    let width = N::WIDTH;
     let points = tables::in_array(n, table);
-    open_admission(N::WIDTH, n, t, points, shares.len(), table.len())?;
-    fitted::<LOCATED, N>(n, t, points, shares)
+    open_admission(width, n, t, points, shares.len(), table.len())?;
+    let group = Group {
+        table: points,
+        n,
+        t,
+        width,
+    };
+    fitted::<LOCATED, N>(&group, shares)
 }
 
 // The same at the points 1 to n.
+#[tactic(auto, using(crate::proofs::Opened::openings), unfolding(crate::specs::Pieces::opening_fit))]
 fn fitted_plain<const LOCATED: bool, N: Number>(n: u8, t: u8, shares: &[N]) -> Fitted
     ensures { result ≡ opening_fit (prime_of N.WIDTH) n t (one_to n) (map N.value shares.now) }
 {
     open_lengths(n, t, shares.len(), n as usize)?;
-    fitted::<LOCATED, N>(n, t, tables::sixteen(), shares)
+    let group = Group {
+        table: tables::sixteen(),
+        n,
+        t,
+        width: N::WIDTH,
+    };
+    fitted::<LOCATED, N>(&group, shares)
 }
 
-// Writes the constant where it is found.
+// Writes the constant where it is found, and answers what C is told: 0, or the number of the refusal.
 fn put_opened<N: Number>(fitted: Fitted, opened: &mut N) -> u8
-    requires { IfOk fitted (λ found. IfSome found (All (λ c. c < N.limit))) }
+    requires { IfOk fitted (λ found. IfSome found (All (λ c. c < limit_of N.WIDTH))) }
     ensures { (N.value opened.new, result) ≡ opened_by fitted (N.value opened.old) }
 {
     match fitted {

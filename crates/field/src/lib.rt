@@ -1,10 +1,10 @@
 // Arithmetic modulo either of two primes, on residues of 32 bits, which a processor handles best. Which prime is meant stands in front of
-// the numbers. Beside the conversion to a number six functions choose, `modulus`, `reduced`, `mul_add`, `sum_of_products`, `cubic_sum`
-// and `next_sum`; all others are written once. That the numbers are residues is the caller's to show: nothing reduces what is reduced
-// already.
+// the numbers. Beside the conversions to a number and back six functions choose, `modulus`, `reduced`, `mul_add`, `sum_of_products`,
+// `cubic_sum` and `next_sum`; all others are written once. That the numbers are residues is the caller's to show: nothing reduces what is
+// reduced already.
 #![tactic(auto)]
 
-ghost use Rattle.std.specs.Prelude.{◌≡◌, ℕ, suc, ◌%◌, ◌≤◌, ◌<◌, ◌/◌, ◌+◌, ◌*◌, eqb, drop, get_or};
+ghost use Rattle.std.specs.Prelude.{◌≡◌, ℕ, suc, ◌%◌, ◌≤◌, ◌<◌, ◌/◌, ◌+◌, ◌*◌, eqb, drop, get_or, MatchResult};
 ghost use Rattle.lists.specs.All.{All};
 ghost use Rattle.field.specs.Arithmetic.{add, sub, mul, inv, cubic_value, cubic_scheme};
 ghost use Rattle.field.specs.Differences.{slope, newton, from_rises, runs};
@@ -29,6 +29,25 @@ impl From<Width> for u8 {
         match w {
             Width::Narrow => 0,
             Width::Wide => 1,
+        }
+    }
+}
+
+// A number that stands for no width.
+#[derive(Clone, Copy)]
+pub struct UnknownWidth;
+
+// And back: no other number stands for one.
+impl TryFrom<u8> for Width {
+    type Error = UnknownWidth;
+
+    ghost try_from_gives = { λ number r. MatchResult r (λ w. number ≡ width_number w) (λ _. 1 < number) };
+
+    fn try_from(number: u8) -> Result<Width, UnknownWidth> {
+        match number {
+            0 => Ok(Width::Narrow),
+            1 => Ok(Width::Wide),
+            _ => Err(UnknownWidth),
         }
     }
 }
@@ -175,11 +194,11 @@ pub fn cubic_divided(w: Width, f: [u32; 4], x: u32) -> [u32; 4]
 }
 
 // Whether a cubic's value is y, which may be any number.
-pub fn is_cubic_value(w: Width, a: u32, b: u32, c: u32, d: u32, x: u32, y: u32) -> bool
-    requires { (a < prime_of w) × (b < prime_of w) × (c < prime_of w) × (d < prime_of w) × (x < prime_of w) }
-    ensures { result ≡ eqb (cubic_value (prime_of w) a b c d x) y }
+pub fn is_cubic_value(w: Width, f: [u32; 4], x: u32, y: u32) -> bool
+    requires { All (λ c. c < prime_of w) f × (x < prime_of w) }
+    ensures { result ≡ eqb (cubic_value (prime_of w) (get_or f 0 0) (get_or f 1 0) (get_or f 2 0) (get_or f 3 0) x) y }
 {
-    reduces_to(w, cubic_sum(w, [a, b, c, d], x), y)
+    reduces_to(w, cubic_sum(w, f, x), y)
 }
 
 // The inverse of a residue that is not 0, turn by turn. Throughout the loop a * t is d: each turn puts what the prime is above or below

@@ -19,7 +19,7 @@ use Rattle.lists.proofs.Choices.{first-append, choices-front}
 use Rattle.lists.proofs.Sublists.{take-take}
 use Rattle.trial.specs.Trial.{hits, points_sent, through, first_fitting, tried}
 use Rattle.trial.specs.Results.{result_of}
-use Rattle.trial.proofs.Results.{result-some}
+use Rattle.trial.proofs.Results.{result-found}
 use Rattle.fit.specs.Fit.{sent, fit}
 use Rattle.fit.specs.Opening.{needed}
 use Rattle.fit.proofs.Decoding.{fit-too-few}
@@ -59,7 +59,7 @@ module _ (p t need : ℕ) (xs ys : List ℕ) where
   pub fit-first : (r : Answer (List ℕ)) → r ≡ result_of (tried p need xs ys 0 (t + 1) 0) → is_some r ≡ true
       → r ≡ result_of (fit p t need xs ys)
   fit-first r e told =
-      let (f, some-f) = result-some _ r e told in
+      let (f, some-f) = result-found _ r e told in
       e ∙ ap result_of (some-f ∙ sym (first_fits f some-f))
 
   -- Where they give nothing, and none may be wrong, nothing does.
@@ -76,7 +76,7 @@ module _ (p : ℕ) (P : Prime p) (t : ℕ) (xs ys : List ℕ) where
       → r ≡ result_of (fit p t (needed t least (sent p ys)) xs ys)
   narrowed-first least l ps enough r e told =
       let all = needed t least (length xs) in
-      let (f, some-f) = result-some _ r e told in
+      let (f, some-f) = result-found _ r e told in
       e ∙ ap result_of (some-f ∙ sym (narrowed p P t least xs ys l ps enough f (first_fits p t all xs ys f some-f)))
 
   -- Where fewer were sent than must agree they give nothing.

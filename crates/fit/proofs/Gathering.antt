@@ -7,7 +7,7 @@ use native.Mathlib.Numerals.{add-one}
 use native.Mathlib.Omega.{arith}
 use lib.ListN.{length, take, drop, get_or, set, length-set, length-append}
 use lib.Seq.{length-take-le, take_all, take_at, take-suc-set}
-use Rattle.lists.proofs.InPlace.{drop-end}
+use Rattle.std.proofs.lemmas.List.{drop_all}
 use Rattle.trial.specs.Trial.{points_of, points_sent}
 use Rattle.trial.proofs.Steps.{points-sent-next, points-sent-over}
 use Rattle.trial.proofs.Turns.{Point}
@@ -43,7 +43,7 @@ module _ (p m : ℕ) (xs ys px py : List ℕ) where
     pub gathering-end : m ≤ length (points_sent p xs ys) → length xs ≤ i → m ≤ d
     unfolding points_sent
     gathering-end many e =
-        let last : points_sent p (drop i xs) (drop i ys) ≡ [] = rw (drop-end xs i e) refl in
+        let last : points_sent p (drop i xs) (drop i ys) ≡ [] = rw (drop_all i xs e) refl in
         omega (arith, ap length g.split, length-append gathered (points_sent p (drop i xs) (drop i ys)), ap length last, gathered-size)
 
     pub gathering-done : m ≤ d → points_of px py ≡ take m (points_sent p xs ys)

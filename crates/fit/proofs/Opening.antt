@@ -15,7 +15,7 @@ use borrow.Author.Tests.{eq-eqb, ltb-true}
 use lib.Dec.{ltb}
 use lib.ListN.{length, get_or}
 use Rattle.lists.specs.Choices.{count}
-use Rattle.lists.proofs.Cases.{true-or-false}
+use Rattle.std.proofs.lemmas.Bool.{cases_Bool}
 use Rattle.lists.proofs.Choices.{count-not, count-cons}
 use Rattle.field.specs.Arithmetic.{Prime}
 use Rattle.polynomial.specs.Polynomial.{Points, Poly, value}
@@ -105,7 +105,7 @@ module _ (p : ℕ) (f : List ℕ) where
       ⊎_elim
       (λ s. rw s (sent-one b s (right 0) rest))
       (λ s. rw s (omega (arith, rest, more b)))
-      (true-or-false (ltb y p))
+      (cases_Bool (ltb y p))
     where
       more : (b : Bool) → count not ms ≤ count not (b ∷ ms)
       more true = omega arith

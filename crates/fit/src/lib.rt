@@ -7,9 +7,10 @@ ghost use Rattle.std.specs.Prelude.{◌≡◌, ◌&&◌, ◌+◌, ◌*◌, ◌�
 ghost use Rattle.std.proofs.Math.Option.{none};
 ghost use Rattle.answers.specs.Refusals.{lowest};
 ghost use Rattle.field.specs.Modulus.{prime_of};
-ghost use Rattle.polynomial.specs.Polynomial.{Residues, Points};
-ghost use Rattle.trial.specs.Trial.{points_of, points_sent, fitting_through, tried};
-ghost use Rattle.trial.specs.Results.{Bounded, result_of};
+ghost use Rattle.lists.specs.All.{Distinct};
+ghost use Rattle.polynomial.specs.Polynomial.{Points};
+ghost use Rattle.trial.specs.Trial.{points_of, points_sent, tried};
+ghost use Rattle.trial.specs.Results.{result_of};
 ghost use Rattle.fit.specs.Fit.{sent, fit};
 ghost use Rattle.fit.specs.Opening.{needed};
 ghost use Rattle.fit.specs.Admitted.{Admitted, fit_tests, fit_in};
@@ -18,8 +19,9 @@ ghost use Rattle.fit.specs.Grouping.{Behind, Grouping};
 use answers::{Fitted, Refusal, refuse_unless};
 use field::Width;
 use pairs::by_pairs;
+use trial::Received;
 
-// How many values were sent, p being the prime. A chain with `filter` would branch at each value: slower where lamps are dark.
+// How many values were sent, p being the prime. `filter` and `count` were tried: they branch at each value, slower where lamps are dark.
 pub fn sent(p: u32, ys: &[u32]) -> usize
     ensures { result ≡ sent p ys.now }
 {
@@ -49,28 +51,20 @@ fn behind(p: u32, ys: &[u32], i: usize, k: usize) -> usize
 
 // The search where at most one polynomial can fit, and none goes through the first t + 1 points sent. So one of them is wrong, and
 // behind them one fewer: the next t + 1 are tried alone, and so on while enough points are left, and only then those that are left.
-fn groups(
-    w: Width,
-    t: usize,
-    need: usize,
-    xs: &[u32],
-    ys: &[u32],
-    sent: usize,
-    spare: usize,
-) -> Option<[u32; 4]>
-    requires { Grouping (prime_of w) t need xs.now ys.now 0 sent spare × (0 < spare) }
-    ensures { result ≡ result_of (fit (prime_of w) t need xs.now ys.now) }
+fn groups(received: &Received, t: usize, sent: usize, spare: usize) -> Option<[u32; 4]>
+    requires { Grouping (prime_of received.now.w) t received.now.need received.now.xs.now received.now.ys.now 0 sent spare × (0 < spare) }
+    ensures { result ≡ result_of (fit (prime_of received.now.w) t received.now.need received.now.xs.now received.now.ys.now) }
 {
-    let p = field::modulus(w);
+    let p = field::modulus(received.w);
     let mut i = 0;
     let mut left = sent;
     for wrong in (0..spare).rev() {
         if left < 2 * t + 2 + wrong {
-            return trial::choices(w, xs, ys, need, i, t + 1, wrong + 1);
+            return received.choices(i, t + 1, wrong + 1);
         }
-        i = behind(p, ys, i, t + 1);
+        i = behind(p, received.ys, i, t + 1);
         left -= t + 1;
-        let group = trial::next(w, xs, ys, need, i, t + 1);
+        let group = received.next(i, t + 1);
         if group.is_some() {
             return group;
         }
@@ -78,7 +72,7 @@ fn groups(
     None
 }
 
-// The first points sent, as many as there is room for.
+// The first points sent, as many as there is room for: in two lists, as callers lend them.
 pub fn first_sent(p: u32, xs: &[u32], ys: &[u32], px: &mut [u32], py: &mut [u32])
     requires xs_len { (length xs.now ≡ length ys.now) × (length px.old ≤ length (points_sent p xs.now ys.now)) }
     requires py_len { length py.old ≡ length px.old }
@@ -107,19 +101,21 @@ fn short_of_groups(t: usize, wrong: usize, n: usize) -> bool
 }
 
 // The search where s values were sent, at most one polynomial can fit, and none that fits goes through the first t + 1 points sent.
-fn later(w: Width, t: usize, need: usize, xs: &[u32], ys: &[u32], s: usize) -> Option<[u32; 4]>
-    requires { (t ≤ 3) × Bounded xs.now ys.now × (s ≡ sent (prime_of w) ys.now) × (s + t + 1 ≤ 2 * need)
-        × (tried (prime_of w) need xs.now ys.now 0 (t + 1) 0 ≡ none) × Points (prime_of w) xs.now }
-    ensures { result ≡ result_of (fit (prime_of w) t need xs.now ys.now) }
+fn later(received: &Received, t: usize, s: usize) -> Option<[u32; 4]>
+    requires few { (t ≤ 3) × (length received.now.xs.now ≤ 16) × (s ≡ sent (prime_of received.now.w) received.now.ys.now)
+        × (s + t + 1 ≤ 2 * received.now.need) }
+    requires distinct { Distinct received.now.xs.now }
+    requires failed { tried (prime_of received.now.w) received.now.need received.now.xs.now received.now.ys.now 0 (t + 1) 0 ≡ none }
+    ensures { result ≡ result_of (fit (prime_of received.now.w) t received.now.need received.now.xs.now received.now.ys.now) }
 {
-    if s <= need {
+    if s <= received.need {
         return None;
     }
-    let spare = s - need;
+    let spare = s - received.need;
     if short_of_groups(t, spare, s) {
-        return by_pairs(w, xs, ys, need, s);
+        return by_pairs(received, s);
     }
-    groups(w, t, need, xs, ys, s, spare)
+    groups(received, t, s, spare)
 }
 
 // How many of s values sent must agree: at least `least`, and all but t.
@@ -129,34 +125,42 @@ pub fn needed(t: usize, least: usize, s: usize) -> usize
     least.max(s.saturating_sub(t))
 }
 
-// The polynomial through the first t + 1 points sent, if `need` points agree with it. With the need of all points it was tried in vain;
-// it is tried again only where some of them are missing, and s, as many as were sent, are enough.
-fn again(w: Width, t: usize, need: usize, xs: &[u32], ys: &[u32], s: usize) -> Option<[u32; 4]>
-    requires { (t ≤ 3) × Bounded xs.now ys.now × (s ≡ sent (prime_of w) ys.now) × Residues (prime_of w) xs.now
-        × (s ≡ length xs.now → tried (prime_of w) need xs.now ys.now 0 (t + 1) 0 ≡ none) }
-    ensures { result ≡ result_of (tried (prime_of w) need xs.now ys.now 0 (t + 1) 0) }
+// The polynomial through the first t + 1 points sent, if enough of all points agree with it. With the need of all points it was tried in
+// vain; it is tried again only where some of them are missing, and s, as many as were sent, are enough.
+fn again(received: &Received, t: usize, s: usize) -> Option<[u32; 4]>
+    requires few { (t ≤ 3) × (length received.now.xs.now ≤ 16) × (s ≡ sent (prime_of received.now.w) received.now.ys.now) }
+    requires failed { s ≡ length received.now.xs.now
+        → tried (prime_of received.now.w) received.now.need received.now.xs.now received.now.ys.now 0 (t + 1) 0 ≡ none }
+    ensures { result ≡ result_of (tried (prime_of received.now.w) received.now.need received.now.xs.now received.now.ys.now 0 (t + 1) 0) }
 {
-    if s == xs.len() || s < need {
+    if s == received.xs.len() || s < received.need {
         return None;
     }
-    trial::next(w, xs, ys, need, 0, t + 1)
+    received.next(0, t + 1)
 }
 
 // The search where fewer points agree with what goes through the first t + 1 sent than would have to if all were sent. Now those sent
 // are counted: the first t + 1 are tried once more, with the need of so many, and then the others.
-fn among_sent(w: Width, t: usize, least: usize, xs: &[u32], ys: &[u32]) -> Option<[u32; 4]>
-    requires { Admitted t least xs.now ys.now × Points (prime_of w) xs.now
-        × (tried (prime_of w) (needed t least (length xs.now)) xs.now ys.now 0 (t + 1) 0 ≡ none) }
-    ensures { result ≡ result_of (fit (prime_of w) t (needed t least (sent (prime_of w) ys.now))
-        xs.now ys.now) }
+fn among_sent(all: &Received, t: usize, least: usize) -> Option<[u32; 4]>
+    requires admitted { Admitted t least all.now.xs.now all.now.ys.now × Distinct all.now.xs.now
+        × (all.now.need ≡ needed t least (length all.now.xs.now)) }
+    requires failed { tried (prime_of all.now.w) all.now.need all.now.xs.now all.now.ys.now 0 (t + 1) 0 ≡ none }
+    ensures { result ≡ result_of (fit (prime_of all.now.w) t (needed t least (sent (prime_of all.now.w) all.now.ys.now))
+        all.now.xs.now all.now.ys.now) }
 {
-    let s = sent(field::modulus(w), ys);
+    let s = sent(field::modulus(all.w), all.ys);
     let need = needed(t, least, s);
-    let first = again(w, t, need, xs, ys, s);
+    let received = Received {
+        w: all.w,
+        xs: all.xs,
+        ys: all.ys,
+        need,
+    };
+    let first = again(&received, t, s);
     if first.is_some() {
         return first;
     }
-    later(w, t, need, xs, ys, s)
+    later(&received, t, s)
 }
 
 // What decoding is refused for: a degree above 3 as a wrong size; lists of two lengths, more than 16 points, or a `least` below 2t + 1, as
@@ -180,10 +184,11 @@ pub fn fit(w: Width, t: usize, least: usize, xs: &[u32], ys: &[u32]) -> Fitted
     ensures { result ≡ fit_in (prime_of w) t least xs.now ys.now }
 {
     admission(t, least, xs, ys)?;
-    let all = needed(t, least, xs.len());
-    let first = trial::next(w, xs, ys, all, 0, t + 1);
+    let need = needed(t, least, xs.len());
+    let received = Received { w, xs, ys, need };
+    let first = received.next(0, t + 1);
     if first.is_some() {
         return Ok(first);
     }
-    Ok(among_sent(w, t, least, xs, ys))
+    Ok(among_sent(&received, t, least))
 }

@@ -1,22 +1,19 @@
 -- Interpolation through at most four points, each coefficient written out.
 --   line-by, square-by, cubic-by        two, three and four points, from the numbers that the code finds one after the other
---   constant-pad, none-pad              one point, and none
---   first_of                            the points and values may be the first of lists of four
 --   two                                 the numbers of a list of two
-use mathlib.Core.Path.{◌≡◌, refl, sym, ap, ap₂, ◌∙◌}
+use mathlib.Core.Path.{◌≡◌, refl, ap, ap₂, ◌∙◌}
 use mathlib.Core.List.{List, [], ◌∷◌, zip_with}
 use Prim.Native.Nat.{ℕ}
 use native.Mathlib.Omega.{arith}
-use lib.ListN.{length, get_or, take}
+use lib.ListN.{length, get_or}
 use Rattle.lists.specs.Tabulate.{pad}
 use Rattle.lists.proofs.Padded.{four}
+use Rattle.lists.proofs.All.{all-get_or}
+use Rattle.field.proofs.Primes.{positive}
+use Rattle.field.proofs.Slopes.{three}
 use Rattle.field.specs.Arithmetic.{sub, mul}
 use Rattle.field.specs.Differences.{slope, newton}
 use Rattle.interpolation.specs.Interpolation.{expand, interpolate}
-
--- The numbers of a list of four.
-abbrev numbers : List ℕ → List ℕ
-numbers l = get_or l 0 0 ∷ get_or l 1 0 ∷ get_or l 2 0 ∷ get_or l 3 0 ∷ []
 
 pub two : (l : List ℕ) → length l ≡ 2 → get_or l 0 0 ∷ get_or l 1 0 ∷ [] ≡ l
 two [] e = absurd (omega arith)
@@ -54,19 +51,5 @@ module _ (p : ℕ) where
   cubic-by xs ys f lx l n b c e r s t ec eb ee er es et =
       rw (er, es, et, eb, ee, ec) (ap₂ (expand p) (four xs lx) (four f l ∙ n))
 
-  -- ---- one point, and none
-  pub constant-pad : (x y : ℕ) → y ∷ 0 ∷ 0 ∷ 0 ∷ [] ≡ pad 4 (interpolate p (x ∷ []) (y ∷ []))
-  unfolding interpolate
-  constant-pad x y = refl
-
-  pub none-pad : 0 ∷ 0 ∷ 0 ∷ 0 ∷ [] ≡ pad 4 (interpolate p [] [])
-  unfolding interpolate
-  none-pad = refl
-
-  -- ---- the first c of four
-  pub first_of : (n c : ℕ) (xs ys r : List ℕ) → length xs ≡ 4 → length ys ≡ 4 → c ≡ n
-      → r ≡ pad 4 (interpolate p (take n (numbers xs)) (take n (numbers ys))) → r ≡ pad 4 (interpolate p (take c xs) (take c ys))
-  first_of n c xs ys r lx ly e h =
-      h
-      ∙ ap₂ (λ u v. pad 4 (interpolate p u v)) (ap (take n) (four xs lx)) (ap (take n) (four ys ly))
-      ∙ ap (λ (m : ℕ). pad 4 (interpolate p (take m xs) (take m ys))) (sym e)
+-- What the functions for two, three and four points need.
+pub ruleset few = (positive, all-get_or, two, three, line-by, square-by, cubic-by)

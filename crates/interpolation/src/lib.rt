@@ -1,6 +1,6 @@
 // Interpolation after Newton, through at most four points, each way written out: no list is written and read again. All numbers are
 // residues.
-#![tactic(auto)]
+#![tactic(auto, using(crate::proofs::Few::few))]
 
 ghost use Rattle.std.specs.Prelude.{◌≡◌, ◌≤◌, length, take};
 ghost use Rattle.lists.specs.Tabulate.{pad};
@@ -55,6 +55,7 @@ fn cubic(w: Width, x: [u32; 4], y: [u32; 4]) -> [u32; 4]
 }
 
 // The polynomial through the first c of four points, with 0 behind its coefficients.
+#[tactic(auto, unfolding(crate::specs::Interpolation::interpolate))]
 pub fn through(w: Width, c: usize, x: &[u32], y: &[u32]) -> [u32; 4]
     requires c_bound { (c ≤ 4) × (length x.now ≡ 4) × (length y.now ≡ 4) }
     requires residues { Residues (prime_of w) x.now × Residues (prime_of w) y.now }

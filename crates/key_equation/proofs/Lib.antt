@@ -6,3 +6,4 @@ mod Rooting
 mod Starting
 mod Stepping
 mod Turns
+pub mod Given

@@ -7,8 +7,7 @@ use Prim.Native.Nat.{ℕ, ◌+◌, ◌-◌, ◌<◌, ◌≤◌}
 use native.Mathlib.Omega.{arith}
 use lib.ListN.{length, get_or, take, drop, set}
 use lib.Seq.{length-take-le, take_all}
-use Rattle.std.proofs.lemmas.List.{set_at}
-use Rattle.lists.proofs.InPlace.{drop-next, drop-end}
+use Rattle.std.proofs.lemmas.List.{set_at, drop_more, drop_all}
 use Rattle.polynomial.specs.Polynomial.{Residues, raise}
 use Rattle.key_equation.specs.Solving.{front, raised, mixed}
 
@@ -27,10 +26,10 @@ pub raising-end : (p x : ℕ) (f g : List ℕ) (before i : ℕ) → 0 < length f
 raising-end p x f g before i positive k done =
     let size : length g ≡ length f - 1 = k.size ∙ length-take-le (length f - 1) f (omega arith) in
     ap (λ z. set (g ++ z) (length f - 1) before)
-    (drop-next f (length f - 1) 0 (omega arith) ∙ ap (λ z. get_or f (length f - 1) 0 ∷ z) (drop-end f (length f - 1 + 1) (omega arith)))
+    (drop_more f (length f - 1) 0 (omega arith) ∙ ap (λ z. get_or f (length f - 1) 0 ∷ z) (drop_all (length f - 1 + 1) f (omega arith)))
     ∙ set_at g (get_or f (length f - 1) 0) [] before (length f - 1) size
     ∙ ap (λ z. z ++ before ∷ []) (sym (take_all i g (omega (arith, k.size))))
-    ∙ ap (λ z. take i g ++ raise p x (before ∷ z)) (sym (drop-end g i (omega (arith, k.size))))
+    ∙ ap (λ z. take i g ++ raise p x (before ∷ z)) (sym (drop_all i g (omega (arith, k.size))))
     ∙ k.goal
 
 -- ---- d r − g q

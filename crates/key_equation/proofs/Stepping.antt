@@ -1,6 +1,5 @@
 -- Two solutions brought up to one more point.
---   ready          what a turn of the loop of `solve_from` asks of both
---   solving-next   what it gives, the one with the shorter numerator being taken from the other
+--   solving-next   what a turn of the loop of `solve_from` gives, the one with the shorter numerator being taken from the other
 use mathlib.Core.Path.{◌≡◌, refl, sym, subst, ◌∙◌}
 use mathlib.Core.Logic.{⊎_elim}
 use mathlib.Core.List.{List}
@@ -12,7 +11,7 @@ use Rattle.field.specs.Arithmetic.{Prime}
 use Rattle.polynomial.specs.Polynomial.{Residues}
 use Rattle.key_equation.specs.declared.Partial.{Partial}
 use Rattle.key_equation.specs.Solving.{Solutions}
-use Rattle.key_equation.specs.Partial.{numerator_of, locator_of, Holds, Ready, Held, Mixed, Met, Solving}
+use Rattle.key_equation.specs.Partial.{numerator_of, locator_of, Holds, Held, Mixed, Met, Solving}
 use Rattle.key_equation.proofs.Solving.{first_holds, second_holds, first-mixed, second-mixed}
 
 module _ (p : ℕ) (P : Prime p) (t : ℕ) (low : t ≤ 3) (xs ys : List ℕ) (points : Residues p xs) (k : ℕ) (inside : k < length xs)
@@ -22,22 +21,6 @@ module _ (p : ℕ) (P : Prime p) (t : ℕ) (low : t ≤ 3) (xs ys : List ℕ) (p
 
   least : t + 1 ≤ h.a
   least = h.pair.least
-
-  pub ready : Ready p s × Ready p r
-  ready = (
-    record {
-      numerator = h.pair.one.numerator.residues;
-      locator = h.pair.one.locator.residues;
-      numerator_room = omega (arith, h.first_numerator);
-      locator_room = omega (arith, h.first_locator);
-    },
-    record {
-      numerator = h.pair.two.numerator.residues;
-      locator = h.pair.two.locator.residues;
-      numerator_room = omega (arith, h.second_numerator);
-      locator_room = omega (arith, h.second_locator);
-    },
-  )
 
   module _ (s' r' : Partial) where
     build : (a b : ℕ) (Q1 E1 Q2 E2 : List ℕ) → Holds Q1 E1 s' → Holds Q2 E2 r' → Solutions p t xs ys (suc k) a b Q1 E1 Q2 E2

@@ -5,13 +5,33 @@
 ghost use Rattle.std.specs.Prelude.{◌≡◌, ◌+◌, ◌-◌, ◌≤◌, ◌<◌, length, take};
 ghost use Rattle.lists.specs.Tabulate.{pad};
 ghost use Rattle.field.specs.Modulus.{prime_of};
+ghost use Rattle.lists.specs.Facts.{below-prop};
 ghost use Rattle.polynomial.specs.Polynomial.{Residues, Points, value};
 ghost use Rattle.interpolation.specs.Interpolation.{interpolate};
 ghost use Rattle.key_equation.specs.Solving.{off, mixed, raised, Short, Roots, Through};
 ghost use Rattle.key_equation.specs.Solved.{Solved};
+ghost use Rattle.polynomial.specs.Facts.{points-prop};
 ghost use Rattle.key_equation.specs.Partial.{numerator_of, locator_of, Ready, Raised, Taken, Met};
 
 use field::Width;
+
+// The key equation at some points, at most t + 7: distinct residues, with residues for values. The polynomial f of degree at most t goes
+// through the first t + 1.
+#[derive(Clone, Copy)]
+pub struct KeyEquation<'a> {
+    pub w: Width,
+    pub t: usize,
+    pub xs: &'a [u32],
+    pub ys: &'a [u32],
+    pub f: [u32; 4],
+    pub ghost degree: { t ≤ 3 },
+    pub ghost points: { Points (prime_of w) xs.now } by { points-prop (prime_of w) xs.now },
+    pub ghost values: { Residues (prime_of w) ys.now } by { below-prop (prime_of w) ys.now },
+    pub ghost lengths: { length xs.now ≡ length ys.now },
+    pub ghost enough: { t + 1 ≤ length xs.now },
+    pub ghost most: { length xs.now ≤ t + 7 },
+    pub ghost through: { f ≡ pad 4 (interpolate (prime_of w) (take (t + 1) xs.now) (take (t + 1) ys.now)) },
+}
 
 // The second solution: a numerator, and a locator of such a degree.
 #[derive(Clone, Copy)]
@@ -31,6 +51,7 @@ struct Point {
 }
 
 // A solution for the first points: in front of its arrays a numerator Q and a locator E of so many coefficients, with a place of room.
+// Nothing is on a heap, so the lengths stand beside.
 #[derive(Clone, Copy)]
 struct Partial {
     numerator: [u32; 12],
@@ -156,70 +177,70 @@ fn roots(w: Width, xs: &[u32], out: &mut [u32])
     }
 }
 
-// How many of the first points f goes through, which goes through the first k.
-fn agreeing(w: Width, k: usize, f: [u32; 4], xs: &[u32], ys: &[u32]) -> usize
-    requires residues { Residues (prime_of w) f × Residues (prime_of w) xs.now × (k ≤ length xs.now) × (length xs.now ≡ length ys.now) }
-    requires through { Through (prime_of w) xs.now ys.now k f }
-    ensures { (k ≤ result) × (result ≤ length xs.now) × Through (prime_of w) xs.now ys.now result f }
-{
-    let [f0, f1, f2, f3] = f;
-    for (n, (x, y)) in xs[k..].iter().zip(&ys[k..]).enumerate() {
-        if !field::is_cubic_value(w, f0, f1, f2, f3, *x, *y) {
-            return k + n;
+impl<'a> KeyEquation<'a> {
+    // How many of the first points f goes through.
+    fn agreeing(&self) -> usize
+        ensures { (self.now.t + 1 ≤ result) × (result ≤ length self.now.xs.now)
+            × Through (prime_of self.now.w) self.now.xs.now self.now.ys.now result self.now.f }
+    {
+        let w = self.w;
+        let f = self.f;
+        let k = self.t + 1;
+        for (n, (x, y)) in self.xs[k..].iter().zip(&self.ys[k..]).enumerate() {
+            if !field::is_cubic_value(w, f, *x, *y) {
+                return k + n;
+            }
         }
+        self.xs.len()
     }
-    xs.len()
-}
 
-// The second solution for all points. The start has the first k: f goes through them, so that the locator 1 holds there; and their product
-// is 0 there, so that the locator 0 does.
-fn solve_from(w: Width, t: usize, k: usize, f: [u32; 4], xs: &[u32], ys: &[u32]) -> Located
-    requires t_bound { (t ≤ 3) × Points (prime_of w) xs.now × Residues (prime_of w) ys.now × (length xs.now ≡ length ys.now)
-        × (t + 1 ≤ k) × (k ≤ length xs.now) × (length xs.now ≤ t + 7) }
-    requires f_value { f ≡ pad 4 (interpolate (prime_of w) (take (t + 1) xs.now) (take (t + 1) ys.now)) }
-    requires through { Through (prime_of w) xs.now ys.now k f }
-    ensures { Solved (prime_of w) t xs.now ys.now result }
-{
-    let mut product = [0u32; 12];
-    roots(w, &xs[..k], &mut product[..k + 1]);
-    let mut first = Partial {
-        numerator: product,
-        locator: [0; 8],
-        numerator_len: k + 1,
-        locator_len: k - t,
-    };
-    let mut second = Partial {
-        numerator: [f[0], f[1], f[2], f[3], 0, 0, 0, 0, 0, 0, 0, 0],
-        locator: [1, 0, 0, 0, 0, 0, 0, 0],
-        numerator_len: t + 1,
-        locator_len: 1,
-    };
-    for (x, y) in xs[k..].iter().zip(&ys[k..]) {
-        let at = Point { w, x: *x, y: *y };
-        step(at, &mut first, &mut second);
-    }
-    Located {
-        numerator: second.numerator,
-        locator: second.locator,
-        degree: second.locator_len - 1,
-    }
-}
-
-// The second solution for all points, at most t + 7 of them, where f goes through the first t + 1. As long as f goes through more, nothing
-// is solved: the locator is 1.
-pub fn solve(w: Width, t: usize, xs: &[u32], ys: &[u32], f: [u32; 4]) -> Located
-    requires t_bound { (t ≤ 3) × Points (prime_of w) xs.now × Residues (prime_of w) ys.now × (length xs.now ≡ length ys.now)
-        × (t + 1 ≤ length xs.now) × (length xs.now ≤ t + 7) }
-    requires f_value { f ≡ pad 4 (interpolate (prime_of w) (take (t + 1) xs.now) (take (t + 1) ys.now)) }
-    ensures { Solved (prime_of w) t xs.now ys.now result }
-{
-    let k = agreeing(w, t + 1, f, xs, ys);
-    if k == xs.len() {
-        return Located {
+    // The second solution for all points. The start has the first k: f goes through them, so that the locator 1 holds there; and their
+    // product is 0 there, so that the locator 0 does.
+    fn solve_from(&self, k: usize) -> Located
+        requires k_bound { (self.now.t + 1 ≤ k) × (k ≤ length self.now.xs.now) }
+        requires through { Through (prime_of self.now.w) self.now.xs.now self.now.ys.now k self.now.f }
+        ensures { Solved (prime_of self.now.w) self.now.t self.now.xs.now self.now.ys.now result }
+    {
+        let w = self.w;
+        let f = self.f;
+        let mut product = [0u32; 12];
+        roots(w, &self.xs[..k], &mut product[..k + 1]);
+        let mut first = Partial {
+            numerator: product,
+            locator: [0; 8],
+            numerator_len: k + 1,
+            locator_len: k - self.t,
+        };
+        let mut second = Partial {
             numerator: [f[0], f[1], f[2], f[3], 0, 0, 0, 0, 0, 0, 0, 0],
             locator: [1, 0, 0, 0, 0, 0, 0, 0],
-            degree: 0,
+            numerator_len: self.t + 1,
+            locator_len: 1,
         };
+        for (x, y) in self.xs[k..].iter().zip(&self.ys[k..]) {
+            let at = Point { w, x: *x, y: *y };
+            step(at, &mut first, &mut second);
+        }
+        Located {
+            numerator: second.numerator,
+            locator: second.locator,
+            degree: second.locator_len - 1,
+        }
     }
-    solve_from(w, t, k, f, xs, ys)
+
+    // The second solution for all points. As long as f goes through more than the first t + 1, nothing is solved: the locator is 1.
+    pub fn solve(&self) -> Located
+        ensures { Solved (prime_of self.now.w) self.now.t self.now.xs.now self.now.ys.now result }
+    {
+        let k = self.agreeing();
+        if k == self.xs.len() {
+            let f = self.f;
+            return Located {
+                numerator: [f[0], f[1], f[2], f[3], 0, 0, 0, 0, 0, 0, 0, 0],
+                locator: [1, 0, 0, 0, 0, 0, 0, 0],
+                degree: 0,
+            };
+        }
+        self.solve_from(k)
+    }
 }

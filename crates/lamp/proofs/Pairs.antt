@@ -1,7 +1,6 @@
--- Pairs taken apart into two lists that a loop writes in place, as laws over plain lists.
+-- Pairs taken apart into two lists, each of which a loop writes in place, as laws over plain lists.
 --   Written f out₀ out k               out₀ has become out, and its first k numbers are those of f
---   Parted hs fs₀ ss₀ fs ss at k       the first k pairs of hs are taken apart, and the next is at the place `at`
---   parted-start, -next, -end          the start, a turn and the end of the loop
+--   written-start, -next, -end         the start, a turn and the end of the loop
 --   apart-padded, -within, -lent       what is written over the front of sixteen zeros is padded, and its front is lent on
 --   heard-parted                       the outcome of hearing by the two arrays
 use mathlib.Core.Path.{◌≡◌, refl, sym, ap, ap₂, ◌∙◌}
@@ -20,71 +19,26 @@ use Rattle.lamp.specs.Lamp.{report_from, with_report, with_pairs, reply}
 use Rattle.lamp.proofs.Outcomes.{every_second, bits, heard-apart}
 use Rattle.std.specs.Prelude.{Ok}
 
--- ---- one list
 pub record Written (f : ℕ → ℕ) (out₀ out : List ℕ) (k : ℕ) : Type 0 where
   pub kept : length out ≡ length out₀
   pub front : take k out ≡ tabulate f k
 
 module _ (f : ℕ → ℕ) (out₀ : List ℕ) where
-  written_start : Written f out₀ out₀ 0
+  pub written-start : Written f out₀ out₀ 0
   unfolding tabulate
-  written_start = record { kept = refl; front = refl }
+  written-start = record { kept = refl; front = refl }
 
-  written_next : (out : List ℕ) (k v : ℕ) → Written f out₀ out k → k < length out₀ → v ≡ f k → Written f out₀ (set out k v) (k + 1)
+  pub written-next : (out : List ℕ) (k v : ℕ) → Written f out₀ out k → k < length out₀ → v ≡ f k → Written f out₀ (set out k v) (k + 1)
   unfolding tabulate
-  written_next out k v z h e = record {
+  written-next out k v z h e = record {
     kept = length-set out k v ∙ z.kept;
     front = rw (add-one k, take-suc-set out k v (omega (arith, z.kept))) (ap₂ (λ xs a. xs ++ a ∷ []) z.front e);
   }
 
-  written-end : (out : List ℕ) (k n : ℕ) → Written f out₀ out k → length out₀ ≤ k → k ≡ n → out ≡ tabulate f n
-  written-end out k n z h e = sym (take_all k out (omega (arith, z.kept))) ∙ z.front ∙ ap (tabulate f) e
-
--- ---- both lists
-pub record Parted (hs fs₀ ss₀ fs ss : List ℕ) (at k : ℕ) : Type 0 where
-  pub within : k ≤ length fs₀
-  pub place : at ≡ 2 * k
-  pub size : length fs ≡ length fs₀
-  pub size_too : length ss ≡ length ss₀
-  pub first : Written (λ i. get_or hs (0 + 2 * i) 0) fs₀ fs k
-  pub second : Written (λ i. get_or hs (1 + 2 * i) 0) ss₀ ss k
-
-module _ (hs fs₀ ss₀ : List ℕ) where
-  pub parted-start : Parted hs fs₀ ss₀ fs₀ ss₀ 0 0
-  parted-start = record {
-    within = omega arith;
-    place = omega arith;
-    size = refl;
-    size_too = refl;
-    first = written_start (λ i. get_or hs (0 + 2 * i) 0) fs₀;
-    second = written_start (λ i. get_or hs (1 + 2 * i) 0) ss₀;
-  }
-
-  pub parted-next : (fs ss : List ℕ) (at k v w : ℕ) → Parted hs fs₀ ss₀ fs ss at k → length fs₀ ≡ length ss₀ → k < length fs
-      → v ≡ get_or hs at 0 → w ≡ get_or hs (at + 1) 0 → Parted hs fs₀ ss₀ (set fs k v) (set ss k w) (at + 2) (k + 1)
-  parted-next fs ss at k v w z l h d e =
-      let a : at ≡ 0 + 2 * k = omega (arith, z.place) in
-      let b : at + 1 ≡ 1 + 2 * k = omega (arith, z.place) in
-      let first = written_next (λ i. get_or hs (0 + 2 * i) 0) fs₀ fs k v z.first (omega (arith, z.size))
-      (d ∙ ap (λ j. get_or hs j 0) a) in
-      let second = written_next (λ i. get_or hs (1 + 2 * i) 0) ss₀ ss k w z.second (omega (arith, z.size))
-      (e ∙ ap (λ j. get_or hs j 0) b) in
-      record {
-        within = omega (arith, z.size);
-        place = omega (arith, z.place);
-        size = first.kept;
-        size_too = second.kept;
-        first = first;
-        second = second;
-      }
-
-  pub parted-end : (fs ss : List ℕ) (at k : ℕ) → Parted hs fs₀ ss₀ fs ss at k → length fs₀ ≡ length ss₀ → length fs ≤ k
-      → (fs ≡ every_second (length fs₀) 0 hs) × (ss ≡ every_second (length fs₀) 1 hs)
-  parted-end fs ss at k z l h =
-      let e : k ≡ length fs₀ = omega (arith, z.size, z.within) in (
-        written-end (λ i. get_or hs (0 + 2 * i) 0) fs₀ fs k (length fs₀) z.first (omega arith) e,
-        written-end (λ i. get_or hs (1 + 2 * i) 0) ss₀ ss k (length fs₀) z.second (omega arith) e,
-      )
+  pub written-end : (out : List ℕ) (k : ℕ) → Written f out₀ out k → length out₀ ≤ k → k ≤ length out₀ → out ≡ tabulate f (length out₀)
+  written-end out k z h l =
+      let all : k ≡ length out₀ = omega arith in
+      sym (take_all k out (omega (arith, z.kept))) ∙ z.front ∙ ap (tabulate f) all
 
 -- ---- over the front of an array
 abbrev zeros : ℕ → List ℕ

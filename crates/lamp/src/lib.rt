@@ -9,18 +9,18 @@ mod reporting;
 mod settling;
 
 ghost use Rattle.std.specs.Prelude.{◌≡◌, map};
-ghost use Rattle.field.specs.declared.Width.TheVariants.{Narrow, Wide};
-ghost use Rattle.lamp.specs.Lamp.{make, make_with, refuse, step};
+ghost use Rattle.field.specs.declared.Width.TheVariants.{Narrow};
+ghost use Rattle.lamp.specs.Lamp.{make, make_with, refuse, step, Valid};
 ghost use Rattle.lamp.specs.Lamp.{take_deal, say_pair, hear_pairs, settle, open_shares};
 
-use admission::{is_at, lent, lent_in, saying};
+use admission::{is_at, legal, lent, lent_in, making, saying};
 use answers::{Answer, Refusal, Stage};
 use arrays::Number;
 use dealing::{dealt, said};
 use field::Width;
-use made::{made_plain, made_with};
+use made::made_by;
 use opening::opened;
-use recovery::Decoder;
+use recovery::{Decoder, Group};
 use reporting::heard;
 use settling::settled;
 
@@ -32,6 +32,21 @@ pub struct Party {
     pub t: u8,
     pub number: u8,
     pub width: Width,
+}
+
+impl Party {
+    // Who shares, by a party that the calls take: its points are a table.
+    fn group(&self) -> Group
+        requires { Valid self.now }
+        ensures { (result.width ≡ self.now.width) × (result.n ≡ self.now.n) × (result.t ≡ self.now.t) × (result.table ≡ self.now.table) }
+    {
+        Group {
+            table: self.table,
+            n: self.n,
+            t: self.t,
+            width: self.width,
+        }
+    }
 }
 
 // What it has of one sharing: row and column as dealt, with zeros behind them; the first number heard from each party; the report
@@ -69,16 +84,23 @@ fn refuse(lamp: Lamp, why: Refusal) -> Reply
     }
 }
 
-// What lends numbers of the field is written once, for numbers of 16 bits and of 32; the calls of these names alone lend the former, those
-// named wide the latter.
+// What lends numbers of the field is written once, for numbers of 16 bits and of 32, by the calls named `_in`. The calls of the names alone
+// lend 16-bit numbers: a rule of the project keeps that form, lists lent as `&[u16]`.
 impl Lamp {
     // A lamp for n, t and its number, waiting, with the parties' points in a table. A bad size, number or table is answered, and refused
     // again at every call.
     pub fn make_in_with<N: Number>(n: u8, t: u8, number: u8, table: &[N]) -> Reply
         ensures { result ≡ make_with N.WIDTH n t number (map N.value table.now) }
     {
-        let kept = tables::in_array(n, table);
-        made_with(N::WIDTH, n, t, number, kept, table.len() == n as usize)
+        let fits = table.len() == n as usize;
+        let party = Party {
+            table: tables::in_array(n, table),
+            n,
+            t,
+            number,
+            width: N::WIDTH,
+        };
+        made_by(party, making(party, fits))
     }
 
     pub fn make_with(n: u8, t: u8, number: u8, table: &[u16]) -> Reply
@@ -87,29 +109,24 @@ impl Lamp {
         Lamp::make_in_with(n, t, number, table)
     }
 
-    pub fn make_wide_with(n: u8, t: u8, number: u8, table: &[u32]) -> Reply
-        ensures { result ≡ make_with Wide n t number table.now }
-    {
-        Lamp::make_in_with(n, t, number, table)
-    }
-
     // The same at the points 1 to n.
     pub fn make_in<N: Number>(n: u8, t: u8, number: u8) -> Reply
         ensures { result ≡ make N.WIDTH n t number }
     {
-        made_plain(N::WIDTH, n, t, number)
+        let party = Party {
+            table: tables::one_to(n),
+            n,
+            t,
+            number,
+            width: N::WIDTH,
+        };
+        made_by(party, legal(party))
     }
 
     pub fn make(n: u8, t: u8, number: u8) -> Reply
         ensures { result ≡ make Narrow n t number }
     {
         Lamp::make_in::<u16>(n, t, number)
-    }
-
-    pub fn make_wide(n: u8, t: u8, number: u8) -> Reply
-        ensures { result ≡ make Wide n t number }
-    {
-        Lamp::make_in::<u32>(n, t, number)
     }
 
     // Takes a deal.
@@ -126,12 +143,6 @@ impl Lamp {
 
     pub fn take_deal(self, deal: &[u16]) -> Reply
         ensures { result ≡ step self (take_deal Narrow deal.now) }
-    {
-        self.take_deal_in(deal)
-    }
-
-    pub fn take_deal_wide(self, deal: &[u32]) -> Reply
-        ensures { result ≡ step self (take_deal Wide deal.now) }
     {
         self.take_deal_in(deal)
     }
@@ -162,12 +173,6 @@ impl Lamp {
 
     pub fn hear_pairs(self, pairs: &[u16]) -> Reply
         ensures { result ≡ step self (hear_pairs Narrow pairs.now) }
-    {
-        self.hear_pairs_in(pairs)
-    }
-
-    pub fn hear_pairs_wide(self, pairs: &[u32]) -> Reply
-        ensures { result ≡ step self (hear_pairs Wide pairs.now) }
     {
         self.hear_pairs_in(pairs)
     }
@@ -208,22 +213,16 @@ impl Lamp {
         self.open_in_by(by, shares)
     }
 
-    pub fn open_wide_by(self, by: Decoder, shares: &[u32]) -> Reply
-        ensures { result ≡ step self (open_shares Wide shares.now) }
+    // Opens n published shares by trial, which is quicker on most lists.
+    pub fn open_in<N: Number>(self, shares: &[N]) -> Reply
+        ensures { result ≡ step self (open_shares N.WIDTH (map N.value shares.now)) }
     {
-        self.open_in_by(by, shares)
+        self.open_in_by(Decoder::Trial, shares)
     }
 
-    // Opens n published shares by trial, which is quicker on most lists.
     pub fn open(self, shares: &[u16]) -> Reply
         ensures { result ≡ step self (open_shares Narrow shares.now) }
     {
-        self.open_by(Decoder::Trial, shares)
-    }
-
-    pub fn open_wide(self, shares: &[u32]) -> Reply
-        ensures { result ≡ step self (open_shares Wide shares.now) }
-    {
-        self.open_wide_by(Decoder::Trial, shares)
+        self.open_in(shares)
     }
 }

@@ -1,5 +1,5 @@
 // Hearing pairs: they are taken apart once; the report goes over the first numbers and the second ones, and the first are kept.
-ghost use Rattle.std.specs.Prelude.{◌≡◌, Ok, map, ◌+◌, ◌*◌, length, get_or};
+ghost use Rattle.std.specs.Prelude.{◌≡◌, Ok, map, ◌+◌, ◌*◌, ◌≤◌, length, get_or};
 ghost use Rattle.lists.specs.Tabulate.{tabulate};
 ghost use Rattle.consistency.specs.Deal.{report_by};
 ghost use Rattle.lamp.specs.Lamp.{its_prime, table_of, row_of_lamp, column_of_lamp};
@@ -9,15 +9,14 @@ use crate::{Lamp, Reply, Sharing};
 use answers::{Answer, Stage};
 use arrays::Number;
 
-// Writes the first numbers of the pairs and the second ones over lent lists: an array that is returned would be copied as a whole.
-fn apart<N: Number>(pairs: &[N], firsts: &mut [u32], seconds: &mut [u32])
-    requires { (length pairs.now ≡ 2 * length firsts.old) × (length firsts.old ≡ length seconds.old) }
-    ensures { (firsts.new ≡ tabulate (λ k. get_or (map N.value pairs.now) (0 + 2 * k) 0) (length firsts.old))
-        × (seconds.new ≡ tabulate (λ k. get_or (map N.value pairs.now) (1 + 2 * k) 0) (length firsts.old)) }
+// Every other number of the pairs, from the first on or from the second, over a lent list: an array that is returned would be copied as a
+// whole.
+fn every_second<N: Number>(pairs: &[N], from: usize, out: &mut [u32])
+    requires { (length pairs.now ≡ 2 * length out.old) × (from ≤ 1) }
+    ensures { out.new ≡ tabulate (λ k. get_or (map N.value pairs.now) (from + 2 * k) 0) (length out.old) }
 {
-    for k in 0..firsts.len() {
-        firsts[k] = pairs[2 * k].wide();
-        seconds[k] = pairs[2 * k + 1].wide();
+    for (k, place) in out.iter_mut().enumerate() {
+        *place = pairs[from + 2 * k].wide();
     }
 }
 
@@ -67,7 +66,8 @@ pub(crate) fn heard<N: Number>(lamp: Lamp, pairs: &[N]) -> Reply
     let count = lamp.party.n as usize;
     let mut firsts = [0u32; 16];
     let mut seconds = [0u32; 16];
-    apart(pairs, &mut firsts[..count], &mut seconds[..count]);
+    every_second(pairs, 0, &mut firsts[..count]);
+    every_second(pairs, 1, &mut seconds[..count]);
     let bits = own_report(lamp, &firsts[..count], &seconds[..count]);
     reported(lamp, firsts, bits)
 }

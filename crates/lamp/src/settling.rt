@@ -63,13 +63,6 @@ pub(crate) fn settled(lamp: Lamp, set: u16) -> Reply
             answer: Ok(Answer::Accepted),
         };
     }
-    let fitted = recovery::repair(
-        party.width,
-        party.n,
-        party.t,
-        party.table,
-        set,
-        sharing.heard,
-    );
+    let fitted = party.group().repair(set, sharing.heard);
     repaired_by(lamp, set, fitted)
 }

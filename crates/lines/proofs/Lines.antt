@@ -7,14 +7,15 @@ use native.Mathlib.Nat.{pow-le-pow_right}
 use native.Mathlib.Numerals.{add-one}
 use native.Mathlib.Omega.{arith}
 use borrow.Author.Tests.{eq-eqb, ne_eqb}
-use lib.Dec.{eqb, lit≤}
+use lib.Dec.{lit≤}
 use lib.ListN.{length, length-append}
 use Rattle.lists.specs.Masks.{bit}
 use Rattle.lists.proofs.Masks.{bit-none}
 use Rattle.text.specs.Letters.{letters, decimal, joined}
 use Rattle.text.proofs.Letters.{joined-append}
 use Rattle.text.proofs.Spelling.{spell-within, decimal-short, decimal-two}
-use Rattle.lines.specs.Lines.{name, names, verdict_words, outcome_words}
+use Rattle.std.specs.Prelude.{Result, Ok, Err}
+use Rattle.lines.specs.Lines.{name, names, verdict_words, FewDigits, outcome_words}
 use Rattle.lines.specs.Lines.{size_line, verdict_lines, lamp_line, opened_line, refused_line}
 
 -- ---- the happy lamps
@@ -60,19 +61,17 @@ either-short true vs ws m h k = h
 either-short false vs ws m h k = k
 
 -- A value behind a word w, or a refusal.
-outcome-short : (w : List ℕ) (k v : ℕ) → k < 100 → 1 ≤ length w → length (joined (outcome_words w k v)) ≤ length w + 11
-outcome-short w k v h l =
-    either-short (eqb k 0) (w ∷ decimal v ∷ letters "\n" ∷ []) (letters " refused " ∷ decimal k ∷ letters "\n" ∷ []) (length w + 11)
-    (rw length-append (omega (arith, number_short v (letters "\n"))))
-    (omega (arith, place_short k (letters "\n") h))
+outcome-short : (w : List ℕ) (r : Result ℕ ℕ) → FewDigits r → 1 ≤ length w → length (joined (outcome_words w r)) ≤ length w + 11
+outcome-short w (Ok v) h l = rw length-append (omega (arith, number_short v (letters "\n")))
+outcome-short w (Err k) h l = omega (arith, place_short k (letters "\n") h)
 
 -- So sixteen lamps have at most 400 bytes.
-pub lamp-short : (i k v : ℕ) → i < 100 → k < 100 → length (lamp_line i k v) ≤ 25
-lamp-short i k v h l =
-    omega (arith, place_short i (joined (outcome_words (letters " share ") k v)) h, outcome-short (letters " share ") k v l (lit≤ tt))
+pub lamp-short : (i : ℕ) (r : Result ℕ ℕ) → i < 100 → FewDigits r → length (lamp_line i r) ≤ 25
+lamp-short i r h l =
+    omega (arith, place_short i (joined (outcome_words (letters " share ") r)) h, outcome-short (letters " share ") r l (lit≤ tt))
 
-pub opened-short : (k v : ℕ) → k < 100 → length (opened_line k v) ≤ 18
-opened-short k v h = omega (arith, outcome-short (letters " ") k v h (lit≤ tt))
+pub opened-short : (r : Result ℕ ℕ) → FewDigits r → length (opened_line r) ≤ 18
+opened-short r h = omega (arith, outcome-short (letters " ") r h (lit≤ tt))
 
 name-short : (set k : ℕ) → k < 99 → length (joined (name set k)) ≤ 3
 unfolding name

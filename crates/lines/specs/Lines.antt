@@ -2,9 +2,9 @@
 -- words in the order in which they are put, and the text that they make.
 --   size_words, happy_words, verdict_words, lamp_words, opened_words, refused_words   the words of a line
 --   size_line, happy_line, verdict_lines, lamp_line, opened_line, refused_line        its text
---   outcome_words word refusal value   a value behind the word, or a refusal; the refusal 0 stands for none
+--   outcome_words word outcome   a value behind the word, or the number of a refusal; FewDigits outcome: that number is below 100
 -- Laws: proofs/Lines.
-use Rattle.std.specs.Prelude.{Bool, cond, List, [], ◌∷◌, ◌++◌, ℕ, zero, suc, eqb}
+use Rattle.std.specs.Prelude.{Bool, cond, List, [], ◌∷◌, ◌++◌, ℕ, ◌<◌, zero, suc, Result, Ok, Err}
 use Rattle.lists.specs.Masks.{bit}
 use Rattle.text.specs.Letters.{letters, decimal, joined}
 
@@ -45,28 +45,31 @@ verdict_lines accepted set n = joined (verdict_words accepted set n)
 
 -- ---- a value or a refusal
 
--- The word and the value where the refusal is 0, otherwise " refused k".
-abbrev pub outcome_words : List ℕ → ℕ → ℕ → List (List ℕ)
-outcome_words word refusal value =
-    cond (eqb refusal 0)
-    (word ∷ decimal value ∷ letters "\n" ∷ [])
-    (letters " refused " ∷ decimal refusal ∷ letters "\n" ∷ [])
+-- The word and the value, or " refused k".
+abbrev pub outcome_words : List ℕ → Result ℕ ℕ → List (List ℕ)
+outcome_words word (Ok value) = word ∷ decimal value ∷ letters "\n" ∷ []
+outcome_words word (Err k) = letters " refused " ∷ decimal k ∷ letters "\n" ∷ []
+
+-- A refusal's number has at most two digits, as all of the protocol's have.
+abbrev pub FewDigits : Result ℕ ℕ → Type 0
+FewDigits (Ok value) = Unit
+FewDigits (Err k) = k < 100
 
 -- "lamp i share v" or "lamp i refused k".
-abbrev pub lamp_words : ℕ → ℕ → ℕ → List (List ℕ)
-lamp_words i refusal share = letters "lamp " ∷ decimal i ∷ outcome_words (letters " share ") refusal share
+abbrev pub lamp_words : ℕ → Result ℕ ℕ → List (List ℕ)
+lamp_words i outcome = letters "lamp " ∷ decimal i ∷ outcome_words (letters " share ") outcome
 
 -- Their text.
-abbrev pub lamp_line : ℕ → ℕ → ℕ → List ℕ
-lamp_line i refusal share = joined (lamp_words i refusal share)
+abbrev pub lamp_line : ℕ → Result ℕ ℕ → List ℕ
+lamp_line i outcome = joined (lamp_words i outcome)
 
 -- "opened v" or "opened refused k".
-abbrev pub opened_words : ℕ → ℕ → List (List ℕ)
-opened_words refusal value = letters "opened" ∷ outcome_words (letters " ") refusal value
+abbrev pub opened_words : Result ℕ ℕ → List (List ℕ)
+opened_words outcome = letters "opened" ∷ outcome_words (letters " ") outcome
 
 -- Their text.
-abbrev pub opened_line : ℕ → ℕ → List ℕ
-opened_line refusal value = joined (opened_words refusal value)
+abbrev pub opened_line : Result ℕ ℕ → List ℕ
+opened_line outcome = joined (opened_words outcome)
 
 -- "record refused k".
 abbrev pub refused_words : ℕ → List (List ℕ)

@@ -1,6 +1,5 @@
 // The lines of a record's text, each from numbers alone, put into a buffer that the caller lends. A word that has no room is left out, as
-// in `text`.
-// Where a line may say a refusal, 0 stands for none.
+// in `text`. Where a line may say a refusal, it is given the refusal's number in the place of the value.
 #![tactic(auto)]
 
 ghost use Rattle.std.specs.Prelude.{◌≡◌};
@@ -30,7 +29,7 @@ fn put_name(out: &mut [u8], at: usize, set: u16, k: u8) -> usize
     at
 }
 
-// Puts the numbers of the first n lamps that are in the set.
+// Puts the numbers of the first n lamps that are in the set. It counts places of a set: there is no list to go over.
 fn put_names(out: &mut [u8], at: usize, set: u16, n: u8) -> usize
     ensures { (out.new, result) ≡ puts out.old at (names set n) }
 {
@@ -61,30 +60,30 @@ pub fn put_verdict(out: &mut [u8], at: usize, accepted: bool, set: u16, n: u8) -
     put_happy(out, verdict, set, n)
 }
 
-// Puts the word and the value, or the refusal where there is one.
-fn put_outcome(out: &mut [u8], at: usize, word: &[u8], refusal: u8, value: u32) -> usize
-    ensures { (out.new, result) ≡ puts out.old at (outcome_words word.now refusal value) }
+// Puts the word and the value, or the refusal.
+fn put_outcome(out: &mut [u8], at: usize, word: &[u8], outcome: Result<u32, u8>) -> usize
+    ensures { (out.new, result) ≡ puts out.old at (outcome_words word.now outcome) }
 {
-    if refusal == 0 {
-        return text::put_line(out, at, word, value);
+    match outcome {
+        Ok(value) => text::put_line(out, at, word, value),
+        Err(k) => text::put_line(out, at, b" refused ", k as u32),
     }
-    text::put_line(out, at, b" refused ", refusal as u32)
 }
 
-// Puts the line of lamp i: its share, or its refusal where there is one.
-pub fn put_lamp(out: &mut [u8], at: usize, i: u8, refusal: u8, share: u32) -> usize
-    ensures { (out.new, result) ≡ puts out.old at (lamp_words i refusal share) }
+// Puts the line of lamp i: its share, or its refusal.
+pub fn put_lamp(out: &mut [u8], at: usize, i: u8, share: Result<u32, u8>) -> usize
+    ensures { (out.new, result) ≡ puts out.old at (lamp_words i share) }
 {
     let next = text::put_field(out, at, b"lamp ", i as u32);
-    put_outcome(out, next, b" share ", refusal, share)
+    put_outcome(out, next, b" share ", share)
 }
 
-// Puts what is opened, or the refusal where there is one.
-pub fn put_opened(out: &mut [u8], at: usize, refusal: u8, value: u32) -> usize
-    ensures { (out.new, result) ≡ puts out.old at (opened_words refusal value) }
+// Puts what is opened, or the refusal.
+pub fn put_opened(out: &mut [u8], at: usize, opened: Result<u32, u8>) -> usize
+    ensures { (out.new, result) ≡ puts out.old at (opened_words opened) }
 {
     let next = text::put(out, at, b"opened");
-    put_outcome(out, next, b" ", refusal, value)
+    put_outcome(out, next, b" ", opened)
 }
 
 // Puts the one line of a refused record.

@@ -4,11 +4,14 @@
 // there.
 #![tactic(auto)]
 
-ghost use Rattle.std.specs.Prelude.{◌≡◌, ◌+◌, ◌*◌, ◌-◌, ◌≤◌, ◌<◌, length, take};
+ghost use Rattle.std.specs.Prelude.{◌≡◌, ◌+◌, ◌*◌, ◌-◌, ◌≤◌, ◌<◌, leb, length, take};
+ghost use Rattle.std.specs.Bool.{then_some};
+ghost use Rattle.lists.specs.All.{Distinct};
 ghost use Rattle.lists.specs.Tabulate.{pad};
 ghost use Rattle.field.specs.Modulus.{prime_of};
 ghost use Rattle.polynomial.specs.Polynomial.{Residues, Points};
-ghost use Rattle.trial.specs.Results.{Bounded, result_of};
+ghost use Rattle.trial.specs.Trial.{hits};
+ghost use Rattle.trial.specs.Results.{result_of};
 ghost use Rattle.fit.specs.Fit.{sent, fit};
 ghost use Rattle.fit.specs.Opening.{needed};
 ghost use Rattle.fit.specs.Admitted.{Admitted, fit_in};
@@ -17,7 +20,8 @@ ghost use Rattle.locator.specs.Answer.{quotient_of, located_by};
 
 use answers::Fitted;
 use field::Width;
-use key_equation::Located;
+use key_equation::{KeyEquation, Located};
+use trial::Received;
 
 // r − h e, in the place of r.
 fn less_times(w: Width, h: u32, e: &[u32], r: &mut [u32])
@@ -43,7 +47,8 @@ fn next_coefficient(w: Width, inverse: u32, e: &[u32], r: &mut [u32]) -> u32
     h
 }
 
-// The n coefficients of q divided by e, with 0 behind them, from the top down. The remainder is left in front of q.
+// The n coefficients of q divided by e, with 0 behind them, from the top down. The remainder is left in front of q. By place: the parts of
+// q that are altered overlap, and no iterator gives such.
 fn divide(w: Width, n: usize, inverse: u32, e: &[u32], q: &mut [u32]) -> [u32; 4]
     requires n_bound { (n ≤ 4) × (0 < length e.now) × (length q.old + 1 ≡ n + length e.now) }
     requires residues { Residues (prime_of w) e.now × Residues (prime_of w) q.old × (inverse < prime_of w) }
@@ -99,52 +104,67 @@ fn quotient(w: Width, t: usize, solved: Located) -> Option<[u32; 4]>
     )
 }
 
+// f, if enough of all points agree with it. The count stands in a function of its own: beside the loops of the division a compiler would
+// no longer choose between the two primes once for all points.
+fn if_enough(received: &Received, f: [u32; 4]) -> Option<[u32; 4]>
+    requires { Residues (prime_of received.now.w) f }
+    ensures { result ≡ then_some (leb received.now.need
+        (hits (prime_of received.now.w) f received.now.xs.now received.now.ys.now)) f }
+{
+    received.enough(f).then_some(f)
+}
+
 // The answer for a solution: the numerator divided by the locator, if this is of no higher degree than points may be wrong, nothing
 // remains, and enough of all points agree.
-fn judged(
-    w: Width,
-    t: usize,
-    need: usize,
-    spare: usize,
-    xs: &[u32],
-    ys: &[u32],
-    solved: Located,
-) -> Option<[u32; 4]>
-    requires t_bound { (t ≤ 3) × (spare ≤ 3) × (length xs.now ≡ length ys.now) × Residues (prime_of w) xs.now }
-    requires residues { Residues (prime_of w) (take (solved.degree + t + 1) solved.numerator)
-        × Residues (prime_of w) (take (solved.degree + 1) solved.locator) }
-    ensures { result
-        ≡ result_of (located_by (prime_of w) t need spare xs.now ys.now solved.degree solved.numerator solved.locator) }
+fn judged(received: &Received, t: usize, spare: usize, solved: Located) -> Option<[u32; 4]>
+    requires t_bound { (t ≤ 3) × (spare ≤ 3) }
+    requires residues { Residues (prime_of received.now.w) (take (solved.degree + t + 1) solved.numerator)
+        × Residues (prime_of received.now.w) (take (solved.degree + 1) solved.locator) }
+    ensures { result ≡ result_of (located_by (prime_of received.now.w) t received.now.need spare received.now.xs.now received.now.ys.now
+        solved.degree solved.numerator solved.locator) }
 {
     if spare < solved.degree {
         return None;
     }
-    let f = quotient(w, t, solved)?;
-    trial::enough(w, f, xs, ys, need).then_some(f)
+    let f = quotient(received.w, t, solved)?;
+    if_enough(received, f)
 }
 
 // The search where at most `spare` of the points sent are wrong. The first t + 1 + 2 spare of them are solved for: of these so many are
 // right that the locator is of no higher degree than points are wrong.
-fn by_locator(
-    w: Width,
-    t: usize,
-    need: usize,
-    spare: usize,
-    xs: &[u32],
-    ys: &[u32],
-) -> Option<[u32; 4]>
-    requires t_bound { (t ≤ 3) × Bounded xs.now ys.now × Points (prime_of w) xs.now }
-    requires ys_value { (sent (prime_of w) ys.now ≡ need + spare) × (2 * t + 1 ≤ need) × (spare ≤ t) }
-    ensures { result ≡ result_of (fit (prime_of w) t need xs.now ys.now) }
+fn by_locator(received: &Received, t: usize, spare: usize) -> Option<[u32; 4]>
+    requires t_bound { (t ≤ 3) × Distinct received.now.xs.now }
+    requires ys_value { (sent (prime_of received.now.w) received.now.ys.now ≡ received.now.need + spare)
+        × (2 * t + 1 ≤ received.now.need) × (spare ≤ t) }
+    ensures { result ≡ result_of (fit (prime_of received.now.w) t received.now.need received.now.xs.now received.now.ys.now) }
 {
+    let w = received.w;
     let m = t + 1 + 2 * spare;
     let mut px = [0u32; 10];
     let mut py = [0u32; 10];
-    fit::first_sent(field::modulus(w), xs, ys, &mut px[..m], &mut py[..m]);
+    fit::first_sent(
+        field::modulus(w),
+        received.xs,
+        received.ys,
+        &mut px[..m],
+        &mut py[..m],
+    );
     // Of no more points than it goes through, none need agree: this is interpolation, and always finds.
-    let f = trial::next(w, &px[..t + 1], &py[..t + 1], 0, 0, t + 1)?;
-    let solved = key_equation::solve(w, t, &px[..m], &py[..m], f);
-    judged(w, t, need, spare, xs, ys, solved)
+    let first = Received {
+        w,
+        xs: &px[..t + 1],
+        ys: &py[..t + 1],
+        need: 0,
+    };
+    let f = first.next(0, t + 1)?;
+    let equation = KeyEquation {
+        w,
+        t,
+        xs: &px[..m],
+        ys: &py[..m],
+        f,
+    };
+    judged(received, t, spare, equation.solve())
 }
 
 // The search where the arguments are admitted.
@@ -158,7 +178,8 @@ fn admitted(w: Width, t: usize, least: usize, xs: &[u32], ys: &[u32]) -> Option<
     if s < need {
         return None;
     }
-    by_locator(w, t, need, s - need, xs, ys)
+    let received = Received { w, xs, ys, need };
+    by_locator(&received, t, s - need)
 }
 
 // What decoding by trial answers, by an error locator: for either prime, any distinct points, and whatever is missing.

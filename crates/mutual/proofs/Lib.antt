@@ -1,4 +1,3 @@
 pub mod Agreement
 pub mod Octets
-pub mod Places
 pub mod Rows

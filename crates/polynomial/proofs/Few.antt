@@ -9,6 +9,7 @@ use Prim.Native.Nat.{ℕ, zero, suc, ◌≤◌, ◌<◌}
 use native.Mathlib.Omega.{arith}
 use lib.ListN.{length, get_or, replicate}
 use Rattle.lists.specs.Tabulate.{pad}
+use Rattle.field.proofs.Primes.{positive}
 use Rattle.field.specs.Arithmetic.{add, mul, cubic_value, cubic_scheme}
 use Rattle.polynomial.specs.declared.Scheme.{Scheme}
 use Rattle.polynomial.specs.Polynomial.{Residues, value, quotient, scheme_of}
@@ -71,3 +72,6 @@ module _ (p : ℕ) where
       let top : b ≡ add p b (mul p x 0) = sym (value-alone p x b r.1.0) in
       ap₂ scheme_from (e ∙ ap (λ z. add p a (mul p x z)) top) (ap (λ z. z ∷ replicate 10 0) top)
   scheme-pair (a ∷ b ∷ c ∷ f) x v r l e = absurd (omega arith)
+
+-- What dividing few coefficients needs.
+pub ruleset few = (positive, scheme-few, scheme-pair, scheme-below)

@@ -13,7 +13,8 @@ use lib.ListN.{length, get_or, take, drop, set, replicate, length-append, length
 use lib.Seq.{ext_get_or, get_or-set_same, get_or-set_other, take_at}
 use Rattle.lists.specs.Tabulate.{pad}
 use Rattle.lists.proofs.All.{all-get_or}
-use Rattle.lists.proofs.InPlace.{drop-end, drop-next, drop-back}
+use Rattle.lists.proofs.InPlace.{drop-back}
+use Rattle.std.proofs.lemmas.List.{drop_all, drop_more}
 use Rattle.lists.proofs.Padded.{get_or-zeros}
 use Rattle.field.specs.Arithmetic.{add, mul}
 use Rattle.polynomial.specs.declared.Scheme.{Scheme}
@@ -28,14 +29,14 @@ scheme_from v q = record { value = v; quotient = q }
 module _ (p : ℕ) (x : ℕ) where
   pub place : (f : List ℕ) (k : ℕ) → get_or (quotient p f x) k 0 ≡ value p (drop (suc k) f) x
   place [] k = refl
-  place (c ∷ []) k = ap (λ z. value p z x) (sym (drop-end [] k (omega arith)))
+  place (c ∷ []) k = ap (λ z. value p z x) (sym (drop_all k [] (omega arith)))
   place (c ∷ d ∷ f) zero = refl
   place (c ∷ d ∷ f) (suc k) = place (d ∷ f) k
 
   pub last-value : (f : List ℕ) → Residues p f → 0 < length f → get_or f (length f - 1) 0 ≡ value p (drop (length f - 1) f) x
   last-value f r h =
       let i : ℕ = length f - 1 in
-      sym (ap (λ z. value p z x) (drop-next f i 0 (omega arith) ∙ ap (λ z. get_or f i 0 ∷ z) (drop-end f (i + 1) (omega arith)))
+      sym (ap (λ z. value p z x) (drop_more f i 0 (omega arith) ∙ ap (λ z. get_or f i 0 ∷ z) (drop_all (i + 1) f (omega arith)))
       ∙ value-alone p x (get_or f i 0) (all-get_or (λ c. c < p) f i 0 (omega arith) r))
 
   pub one_more : (f : List ℕ) (i v : ℕ) → 0 < i → i ≤ length f → v ≡ value p (drop i f) x
@@ -51,7 +52,7 @@ module _ (p : ℕ) (x : ℕ) where
   pub written_start : (f : List ℕ) → Written f (replicate 11 0) (length f - 1)
   written_start f = record {
     room = refl;
-    behind = λ k h. get_or-zeros [] 11 k ∙ ap (λ z. value p z x) (sym (drop-end f (suc k) (omega arith)));
+    behind = λ k h. get_or-zeros [] 11 k ∙ ap (λ z. value p z x) (sym (drop_all (suc k) f (omega arith)));
   }
 
   pub written_next : (f q : List ℕ) (i v : ℕ) → 0 < i → i ≤ 11 → v ≡ value p (drop i f) x → Written f q i

@@ -1,6 +1,6 @@
 -- One of two polynomials that are divided by X − x together: its sum and its quotient, from the last place on down, by laws for the start,
 -- a turn and the end of the loop, which goes from place `top` on whatever the polynomial's own length is.
---   padded-value, padded-residues, padded-test   zeros behind the coefficients change no value, and are residues, also by the test
+--   padded-value, padded-test   zeros behind the coefficients change no value, and are residues by the test
 --   value-at        the coefficient at a place, 0 behind the last, and the value of those behind it
 --   Summed          the sum has the residue of the value of the coefficients from i on, and room for those to come
 --   summed-start, summed-room, summed-next, summed-end   the start, that one more fits, a turn and the end of the loop
@@ -13,8 +13,7 @@ use native.Mathlib.Omega.{arith}
 use lib.Dec.{ltb}
 use lib.ListN.{length, get_or, drop, set, replicate}
 use Rattle.lists.specs.Tabulate.{pad}
-use Rattle.lists.proofs.All.{all_append}
-use Rattle.lists.proofs.InPlace.{drop-end}
+use Rattle.std.proofs.lemmas.List.{drop_all}
 use Rattle.field.specs.Arithmetic.{add, mul}
 use Rattle.field.specs.Modulus.{prime_of}
 use Rattle.field.specs.Sums.{sum_below}
@@ -31,9 +30,6 @@ use Rattle.polynomial.proofs.Schemes.{scheme_from, Written, written_start, writt
 module _ (p : ℕ) where
   pub padded-value : (n : ℕ) (f : List ℕ) (x : ℕ) → value p (pad n f) x ≡ value p f x
   padded-value n f x = value-zeros p f (n - length f) x
-
-  pub padded-residues : (n : ℕ) (f : List ℕ) → 0 < p → Residues p f → Residues p (pad n f)
-  padded-residues n f h r = all_append (λ c. c < p) f (replicate (n - length f) 0) r (zeros-residues p (n - length f) h)
 
   pub padded-test : (n : ℕ) (f : List ℕ) → 0 < p → residues p (pad n f) ≡ residues p f
   padded-test n f h = rest f
@@ -63,7 +59,7 @@ module _ (w : Width) (x top : ℕ) where
   summed-start f u r l e =
       let p : ℕ = prime_of w in
       let small : get_or f top 0 < p = coefficient-below p f top (positive w) r in
-      let none : value p (drop (suc top) f) x ≡ 0 = ap (λ z. value p z x) (drop-end f (suc top) l) in
+      let none : value p (drop (suc top) f) x ≡ 0 = ap (λ z. value p z x) (drop_all (suc top) f l) in
       let one : suc top - top ≡ 1 = omega arith in record {
         sum =
             ap (λ z. z % p) e

@@ -46,6 +46,7 @@ pub fn coefficient(f: &[u32], k: usize) -> u32
 // f divided by X − x: the value at x, which is the remainder, and the quotient. At most four coefficients, as rows and columns have, need
 // no loop, and their value one reduction, that of two a quicker one. This is so small that a compiler writes it out where it is called,
 // and drops the quotient where nobody asks for it; with a way for more coefficients in it, it would be called, and twice as slow.
+#[tactic(auto, using(crate::proofs::Few::few))]
 pub fn divided_at_once(w: Width, f: &[u32], x: u32) -> Scheme
     requires { Residues (prime_of w) f.now × (x < prime_of w) × (length f.now ≤ 4) }
     ensures { (result ≡ scheme_of (prime_of w) f.now x) × (result.value < prime_of w) }
@@ -77,6 +78,7 @@ fn divided_by_turns(w: Width, f: &[u32], x: u32) -> Scheme
     let mut quotient = [0u32; 11];
     let last = f.len() - 1;
     let mut value = f[last];
+    // By place: `iter_mut().zip(f).rev()` was tried, and the library has no law of what it yields and leaves written.
     for i in (0..last).rev() {
         quotient[i] = value;
         value = field::mul_add(w, x, value, f[i]);
@@ -135,6 +137,7 @@ pub fn both(w: Width, f: &[u32], g: &[u32], x: u32) -> SchemePair
     let last = count - 1;
     let mut u = coefficient(f, last) as u64;
     let mut v = coefficient(g, last) as u64;
+    // By place, as in `divided_by_turns`; f and g may also differ in length.
     for i in (0..last).rev() {
         f_quotient[i] = field::reduced(w, u);
         g_quotient[i] = field::reduced(w, v);

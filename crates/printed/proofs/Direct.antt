@@ -13,7 +13,6 @@ use lib.Seq.{take_at, take_all, length-take-le}
 use borrow.Author.Tests.{eq-eqb}
 use Rattle.std.specs.Prelude.{Ok}
 use Rattle.lists.specs.Masks.{bit}
-use Rattle.lists.specs.Options.{or_zero}
 use Rattle.lists.specs.Tabulate.{tabulate, pad}
 use Rattle.lists.specs.Choices.{select}
 use Rattle.lists.proofs.Tabulate.{length-tabulate}
@@ -38,11 +37,11 @@ use Rattle.record.specs.Record.{width_of, n_of, t_of, reading, IsRecord, numbers
 use Rattle.record.proofs.Answers.{record-fine}
 use Rattle.text.specs.Letters.{letters, field, line, joined}
 use Rattle.lines.specs.Lines.{size_line, verdict_lines, outcome_words}
-use Rattle.transcript.specs.Outcomes.{reply_line, last_line}
+use Rattle.transcript.specs.Outcomes.{outcome, reply_line, last_line}
 use Rattle.transcript.specs.Transcript.{run, lamp_lines, text_of, text_by, text}
 use Rattle.transcript.proofs.Runs.{fine-legal, fine-facts, deals-count, pairs-count, reports-count, plain-table, part_room}
 use Rattle.agreement.specs.Plain.{plain}
-use Rattle.agreement.proofs.Runs.{by_cond}
+use Rattle.std.proofs.lemmas.Bool.{cond_both}
 use Rattle.agreement.proofs.Steps.{fits, takes, hears, looks}
 use Rattle.agreement.proofs.Collapse.{Ready, made_table, made-valid}
 use Rattle.printed.specs.Direct.{the_prime, its_deal, its_pairs, its_report, happy, is_accepted_in, refuses, mended}
@@ -50,7 +49,7 @@ use Rattle.printed.specs.Direct.{lamp_says, lamps_say, direct}
 
 -- What a reply prints behind "lamp i".
 abbrev shown : Reply → List ℕ
-shown r = joined (outcome_words (letters " share ") (or_zero (number_of r.answer)) r.lamp.sharing.share)
+shown r = joined (outcome_words (letters " share ") (outcome (number_of r.answer) r.lamp.sharing.share))
 
 -- The heard numbers behind the n-th are not looked at.
 repair-padded : (p n t : ℕ) (T : List ℕ) (S : ℕ) (xs : List ℕ) → length xs ≡ n → repair p n t T S (pad 16 xs) ≡ repair p n t T S xs
@@ -77,8 +76,8 @@ Rejecting r = number_of r.answer ≡ some (refusal_number DealerRejected)
 not-rejecting : (l : Lamp) (S : ℕ) → leb (l.party.n - l.party.t) (ones S) ≡ true → Rejecting (settled l S) → ⊥
 unfolding settled
 not-rejecting l S e =
-    rw e (by_cond (λ r. Rejecting r → ⊥) (member S l.party.number) _ _ (none-ne-some _)
-    (mended-not (repair (its_prime l.party) l.party.n l.party.t (table_of l.party) S l.sharing.heard)))
+    rw e (cond_both (member S l.party.number) _ _ (λ r. Rejecting r → ⊥) (λ in_it. none-ne-some _)
+    (λ out. mended-not (repair (its_prime l.party) l.party.n l.party.t (table_of l.party) S l.sharing.heard)))
   where
     mended-not : (o : Option (List ℕ)) → Rejecting (repaired l S o) → ⊥
     mended-not none q = let z = some-injective (refusal_number NoColumn) (refusal_number DealerRejected) q in omega arith

@@ -14,7 +14,8 @@ use Rattle.lists.specs.Masks.{bit}
 use Rattle.lists.specs.Tabulate.{tabulate}
 use Rattle.lists.specs.Choices.{keep}
 use Rattle.lists.proofs.All.{all_append}
-use Rattle.lists.proofs.Cases.{true-or-false, le-or-lt}
+use Rattle.lists.proofs.Cases.{le-or-lt}
+use Rattle.std.proofs.lemmas.Bool.{cases_Bool}
 use Rattle.field.specs.declared.Width.{Width}
 use Rattle.field.specs.Modulus.{prime_of}
 use Rattle.field.proofs.Primes.{prime-of}
@@ -110,7 +111,7 @@ listed-append (x ∷ xs) ys =
 keep_append : (test : ℕ → Bool) (xs ys : List ℕ) → keep test (xs ++ ys) ≡ keep test xs ++ keep test ys
 keep_append test [] ys = refl
 keep_append test (x ∷ xs) ys =
-    ⊎_elim (λ e. rw e (ap (λ z. x ∷ z) (keep_append test xs ys))) (λ e. rw e (keep_append test xs ys)) (true-or-false (test x))
+    ⊎_elim (λ e. rw e (ap (λ z. x ∷ z) (keep_append test xs ys))) (λ e. rw e (keep_append test xs ys)) (cases_Bool (test x))
 
 -- The happy line names the members of the set, in order.
 pub names-members : (set n : ℕ) → joined (names set n) ≡ listed (keep (member set) (parties n))
@@ -119,7 +120,7 @@ names-members set zero = refl
 names-members set (suc n) =
     let place : suc n - 1 ≡ n = omega arith in
     let last : joined (name set n) ≡ listed (keep (member set) (suc n ∷ [])) =
-    rw place (⊎_elim (λ e. rw e refl) (λ e. rw e refl) (true-or-false (bit set n))) in
+    rw place (⊎_elim (λ e. rw e refl) (λ e. rw e refl) (cases_Bool (bit set n))) in
     joined-append (names set n) (name set n)
     ∙ ap₂ (λ xs ys. xs ++ ys) (names-members set n) last
     ∙ sym (listed-append (keep (member set) (parties n)) (keep (member set) (suc n ∷ [])))

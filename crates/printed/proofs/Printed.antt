@@ -11,8 +11,7 @@ use native.Mathlib.Omega.{arith}
 use borrow.Author.Tests.{lt-ltb}
 use lib.Dec.{ltb}
 use Rattle.std.specs.Prelude.{Ok}
-use Rattle.lists.specs.Options.{or_zero}
-use Rattle.lists.proofs.Cases.{true-or-false}
+use Rattle.std.proofs.lemmas.Bool.{cases_Bool}
 use Rattle.field.specs.declared.Width.{Width}
 use Rattle.field.specs.Modulus.{prime_of}
 use Rattle.field.proofs.Primes.{prime-of, positive}
@@ -32,7 +31,7 @@ use Rattle.record.specs.Record.{width_of, n_of, t_of, reading, IsRecord, numbers
 use Rattle.record.proofs.Answers.{record-fine}
 use Rattle.text.specs.Letters.{letters, field, line}
 use Rattle.lines.specs.Lines.{verdict_words, verdict_lines, lamp_line, opened_line}
-use Rattle.transcript.specs.Outcomes.{reply_line, opening_line, last_line}
+use Rattle.transcript.specs.Outcomes.{outcome, reply_line, opening_line, last_line}
 use Rattle.transcript.specs.Transcript.{run, text_of, text_by, text}
 use Rattle.transcript.proofs.Runs.{reports-count, shares-count, plain-table}
 use Rattle.agreement.specs.Setting.{Setting, Legal, prime, point, value_of, zero_row}
@@ -107,14 +106,14 @@ module _ (honest : ℕ → Bool) (bytes : List ℕ) (is : IsRecord bytes) (f : F
   refused-line : (i : ℕ) → Rejects s (story honest bytes) s i
       → printed_line honest bytes i ≡ field (letters "lamp ") i ++ line (letters " refused ") (refusal_number DealerRejected)
   unfolding reply_line run
-  refused-line i r = ap (λ a. lamp_line i (or_zero a) (run bytes w n t i).lamp.sharing.share) r.answered
+  refused-line i r = ap (λ a. lamp_line i (outcome a (run bytes w n t i).lamp.sharing.share)) r.answered
 
   share-line : (F : List ℕ) (i : ℕ) → is_party n i ≡ true → Accepts s (story honest bytes) s i F
       → printed_line honest bytes i ≡ field (letters "lamp ") i ++ line (letters " share ") (value_of s F i 0)
   unfolding reply_line run
   share-line F i party a =
-      ap (λ z. lamp_line i (or_zero z) (run bytes w n t i).lamp.sharing.share) a.answered.0
-      ∙ ap (lamp_line i 0) (a.stays.shares [] ((told bytes i).rest, refl) ∙ share-at F i party)
+      ap (λ z. lamp_line i (outcome z (run bytes w n t i).lamp.sharing.share)) a.answered.0
+      ∙ ap (λ v. lamp_line i (Ok v)) (a.stays.shares [] ((told bytes i).rest, refl) ∙ share-at F i party)
 
   -- ---- the verdict: what an honest lamp says is what is printed
   module _ (i : ℕ) (h : IsHonest honest bytes i) where
@@ -122,14 +121,14 @@ module _ (honest : ℕ → Bool) (bytes : List ℕ) (is : IsRecord bytes) (f : F
     verdict-no said =
         let range = party-facts n i h.party in
         ⊎_elim (λ yes. absurd (says-accepted bytes is i range.0 range.1 (f.own i h) yes said)) (λ no. no)
-        (true-or-false (is_accepted_in bytes))
+        (cases_Bool (is_accepted_in bytes))
 
     verdict-yes : number_of (run bytes w n t i).answer ≡ none → is_accepted_in bytes ≡ true
     verdict-yes said =
         let range = party-facts n i h.party in
         let never : is_accepted_in bytes ≡ false → ⊥ = λ no.
         none-ne-some _ (sym said ∙ says-rejected bytes is i range.0 range.1 (f.own i h) no) in
-        ⊎_elim (λ yes. yes) (λ no. absurd (never no)) (true-or-false (is_accepted_in bytes))
+        ⊎_elim (λ yes. yes) (λ no. absurd (never no)) (cases_Bool (is_accepted_in bytes))
 
   -- ---- all of them
   someone : (i : ℕ) × IsHonest honest bytes i
@@ -173,7 +172,7 @@ module _ (honest : ℕ → Bool) (bytes : List ℕ) (is : IsRecord bytes) (f : F
 
     found : opening_of (prime_of w) t (one_to n) shares ≡ some (zero_row s F) → last_line true w n t shares ≡ secret_line
     unfolding last_line
-    found is = ap opening_line is ∙ ap (opened_line 0) (row-constant s legal F a.on.poly.size)
+    found is = ap opening_line is ∙ ap (λ v. opened_line (Ok v)) (row-constant s legal F a.on.poly.size)
 
     module _ (published : PublishedOrNot honest bytes F) where
       on-f : (j : ℕ) → is_party n j ≡ true → honest j ≡ true → entry shares j < prime_of w

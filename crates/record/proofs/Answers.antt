@@ -11,7 +11,7 @@ use lib.ListN.{length, get_or, take, drop, length-drop}
 use lib.Seq.{take_all, length-take-le}
 use borrow.Author.Tests.{leb-true, le-leb, lt-leb, eqb-true, eq-eqb, ne_eqb}
 use Rattle.lists.proofs.Cases.{le-or-lt}
-use Rattle.lists.proofs.InPlace.{drop-end}
+use Rattle.std.proofs.lemmas.List.{drop_all}
 use Rattle.answers.specs.declared.Refusal.TheVariants.{WrongSize, WrongDirectory}
 use Rattle.answers.specs.Refusals.{refusal_number, lowest, Admission, number_of}
 use Rattle.answers.proofs.Tests.{lowest-pass}
@@ -182,10 +182,10 @@ module _ (bytes : List ℕ) (from end offset count : ℕ) (f : from ≡ min offs
   -- The offset lies behind the bytes.
   none-reached : length bytes ≤ offset → Reached
   none-reached h =
-      ap (take (end - from)) (drop-end bytes from (omega arith))
+      ap (take (end - from)) (drop_all from bytes (omega arith))
       ∙ take_all (end - from) [] (omega arith)
       ∙ sym (take_all count [] (omega arith))
-      ∙ ap (take count) (sym (drop-end bytes offset h))
+      ∙ ap (take count) (sym (drop_all offset bytes h))
 
   -- The end does.
   some-reached : offset < length bytes → length bytes ≤ offset + count → Reached

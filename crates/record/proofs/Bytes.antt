@@ -13,7 +13,8 @@ use Rattle.lists.specs.All.{All}
 use Rattle.field.specs.declared.Width.{Width}
 use Rattle.field.specs.declared.Width.TheVariants.{Narrow, Wide}
 use Rattle.record.specs.Bytes.{paired, number_at, numbers, number_in, wide_number_at, wide_numbers, wide_number_in}
-use Rattle.record.specs.Bytes.{number_bytes, limit_of, number_at_by, numbers_by, number_by, stand_at, over}
+use Rattle.arrays.specs.Limits.{limit_of}
+use Rattle.record.specs.Bytes.{number_bytes, number_at_by, numbers_by, number_by, stand_at, over}
 
 -- ---- Two as one, for any weight b of the first
 module _ (b : ℕ) where

@@ -11,9 +11,8 @@ use native.Mathlib.Omega.{arith}
 use lib.ListN.{length, get_or, take, drop, set}
 use lib.Seq.{take_all, take-suc, take-suc-set}
 use borrow.Author.Tests.{ne_eqb}
-use Rattle.std.proofs.lemmas.List.{map-append, drop-map, length-map}
+use Rattle.std.proofs.lemmas.List.{map-append, drop-map, length-map, drop_more, drop_all}
 use Rattle.lists.proofs.Cases.{le-or-lt}
-use Rattle.lists.proofs.InPlace.{drop-end, drop-next}
 use Rattle.record.specs.Bytes.{number_at, stand_at, over}
 use Rattle.record.proofs.Bytes.{stand-first, over-room, over-full}
 
@@ -26,15 +25,15 @@ module _ (bytes : List ℕ) (at : ℕ) (list : List ℕ) (i : ℕ) where
         let there : at + 2 * (i + 1) ≡ at + 2 * i + 2 = omega arith in
         ap (λ p. stand_at bytes p (drop (i + 1) list)) there
         ∙ sym (stand-first bytes (at + 2 * i) (get_or list i 0) (drop (i + 1) list) e)
-        ∙ ap (stand_at bytes (at + 2 * i)) (sym (drop-next list i 0 h))
+        ∙ ap (stand_at bytes (at + 2 * i)) (sym (drop_more list i 0 h))
 
     pub stand-no : (number_at bytes (at + 2 * i) ≡ get_or list i 0 → ⊥) → stand_at bytes (at + 2 * i) (drop i list) ≡ false
     unfolding stand_at
-    stand-no d = ap (stand_at bytes (at + 2 * i)) (drop-next list i 0 h) ∙ rw (ne_eqb _ _ d)
+    stand-no d = ap (stand_at bytes (at + 2 * i)) (drop_more list i 0 h) ∙ rw (ne_eqb _ _ d)
 
   pub stand-end : length list ≤ i → stand_at bytes (at + 2 * i) (drop i list) ≡ true
   unfolding stand_at
-  stand-end h = ap (stand_at bytes (at + 2 * i)) (drop-end list i h)
+  stand-end h = ap (stand_at bytes (at + 2 * i)) (drop_all i list h)
 
 -- ---- `numbers_by`
 module _ {A : Type 0} (f : A → ℕ) (xs : List ℕ) where
@@ -55,7 +54,7 @@ module _ {A : Type 0} (f : A → ℕ) (xs : List ℕ) where
       (λ (h : length old < length xs).
       let all : count ≡ length old = omega arith in
       ap (λ k. take k xs ++ drop k old) all
-      ∙ ap (λ l. take (length old) xs ++ l) (drop-end old (length old) (omega arith))
+      ∙ ap (λ l. take (length old) xs ++ l) (drop_all (length old) old (omega arith))
       ∙ append-nil (take (length old) xs)
       ∙ sym (over-full xs old (omega arith)))
       (le-or-lt (length xs) (length old))

@@ -9,7 +9,8 @@ use Prim.Native.Nat.{ℕ, ◌+◌, ◌-◌, ◌≤◌, ◌<◌}
 use native.Mathlib.Omega.{arith}
 use lib.ListN.{length, get_or}
 use borrow.Author.Tests.{lt-ltb, le-ltb}
-use Rattle.lists.proofs.Cases.{true-or-false, le-or-lt}
+use Rattle.lists.proofs.Cases.{le-or-lt}
+use Rattle.std.proofs.lemmas.Bool.{cases_Bool}
 use Rattle.field.specs.declared.Width.{Width}
 use Rattle.field.specs.declared.Width.TheVariants.{Narrow, Wide}
 use Rattle.answers.specs.declared.Refusal.TheVariants.{WrongSize}
@@ -78,7 +79,7 @@ narrow-same bytes h = read-as-narrow bytes h
 above-sizes : (n t : ℕ) → 128 ≤ n → sizes n t ≡ false
 above-sizes n t h =
     ⊎_elim (λ (e : sizes n t ≡ true). let (low, high, four, most) = sizes-facts n t e in absurd (omega arith)) (λ e. e)
-    (true-or-false (sizes n t))
+    (cases_Bool (sizes n t))
 
 pub narrow-refuses : (bytes : List ℕ) → 2 ≤ length bytes → 128 ≤ get_or bytes 0 0 → reading_narrow bytes ≡ Err WrongSize
 unfolding reading_narrow

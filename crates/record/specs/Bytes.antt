@@ -3,7 +3,7 @@
 --   number_at bytes at         the number of two bytes at a place; wide_number_at that of four
 --   numbers bytes              all numbers of two bytes each; wide_numbers of four
 --   number_in bytes k          the k-th of them, 0 behind the last; wide_number_in of four bytes
---   number_bytes w, limit_of w   how many bytes a number of a width has, and what it is below
+--   number_bytes w             how many bytes a number of a width has
 --   number_at_by w bytes at    the number of a width at a place
 --   numbers_by w bytes         all numbers of a width; number_by w bytes k the k-th of them, 0 behind the last
 --   stand_at bytes at xs       the numbers xs stand in the bytes from a place on, two bytes for each
@@ -53,11 +53,6 @@ wide_number_in bytes k = get_or (wide_numbers bytes) k 0
 abbrev pub number_bytes : Width → ℕ
 number_bytes Narrow = 2
 number_bytes Wide = 4
-
--- What it is below.
-abbrev pub limit_of : Width → ℕ
-limit_of Narrow = 65536
-limit_of Wide = 4294967296
 
 -- The number at a place.
 abbrev pub number_at_by : Width → List ℕ → ℕ → ℕ

@@ -3,8 +3,7 @@
 
 ghost use Rattle.std.specs.Prelude.{◌≡◌, true, ◌+◌, ◌*◌, ◌≤◌, length, map};
 ghost use Rattle.parties.specs.Parties.{sizes};
-ghost use Rattle.record.specs.Bytes.{number_at, numbers, number_in, wide_numbers, wide_number_in, number_bytes};
-ghost use Rattle.record.specs.Bytes.{number_at_by, numbers_by, number_by, stand_at, over};
+ghost use Rattle.record.specs.Bytes.{number_at, number_bytes, number_at_by, numbers_by, number_by, stand_at, over};
 ghost use Rattle.record.specs.Record.{directory_or_zeros, directory_right, reading_as, reading, reading_narrow, section_of};
 
 use answers::{Refusal, refuse_unless};
@@ -125,7 +124,7 @@ pub fn read(bytes: &[u8]) -> Reading
     read_as(bytes, Width::Wide, first - 128, t)
 }
 
-// The same for a reader that knows two-byte numbers alone: it takes byte 0 as n, so that a wide record has no legal size.
+// The same for a reader that knows two-byte numbers alone. It is no twin: it takes byte 0 as n, so that a wide record has no legal size.
 #[tactic(auto, unfolding(crate::specs::Record::reading_narrow, crate::specs::Record::reading_as))]
 pub fn read_narrow(bytes: &[u8]) -> Reading
     ensures { result ≡ reading_narrow bytes.now }
@@ -144,8 +143,8 @@ fn head_number(bytes: &[u8], at: usize) -> usize
     usize::from(u16::from_be_bytes([high, low]))
 }
 
-// Section k (deals, round two, reports, published shares): a part of the caller's bytes, as far as these reach. Whether they are a record
-// is not asked: `read` does that, once.
+// Section k (deals, round two, reports, published shares; by its place, and nothing behind the last): a part of the caller's bytes, as far
+// as these reach. Whether they are a record is not asked: `read` does that, once.
 pub fn section(bytes: &[u8], k: usize) -> &[u8]
     ensures { result.now ≡ section_of bytes.now k }
 {
@@ -180,29 +179,4 @@ pub fn numbers_by<N: Recorded>(part: &[u8], out: &mut [N])
     for (k, place) in out[..count].iter_mut().enumerate() {
         *place = N::at(part, each * k);
     }
-}
-
-// Each width by itself: the project's pages fix that lists are lent as `&[u16]` and `&mut [u16]`, and wide ones as those of u32.
-pub fn number(part: &[u8], k: usize) -> u16
-    ensures { result ≡ number_in part.now k }
-{
-    number_by(part, k)
-}
-
-pub fn wide_number(part: &[u8], k: usize) -> u32
-    ensures { result ≡ wide_number_in part.now k }
-{
-    number_by(part, k)
-}
-
-pub fn numbers(part: &[u8], out: &mut [u16])
-    ensures { out.new ≡ over (numbers part.now) out.old }
-{
-    numbers_by(part, out);
-}
-
-pub fn wide_numbers(part: &[u8], out: &mut [u32])
-    ensures { out.new ≡ over (wide_numbers part.now) out.old }
-{
-    numbers_by(part, out);
 }

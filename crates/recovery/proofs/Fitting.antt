@@ -2,7 +2,7 @@
 --   fit-lent, repair-hidden   what is lent to the fit
 --   repair-size, repair-number, repair-few; published-size, published-length; opening-size, opening-number, opening-length   refusals
 --   repair-admitted, published-admitted, opening-admitted   otherwise what is decoded
-use mathlib.Core.Path.{◌≡◌, refl, sym, ap, ◌∙◌}
+use mathlib.Core.Path.{◌≡◌, sym, ap, ◌∙◌}
 use mathlib.Core.Bool.{Bool, true, false, cond}
 use mathlib.Core.List.{List}
 use Prim.Native.Nat.{ℕ, ◌+◌, ◌*◌, ◌-◌, ◌^◌, ◌≤◌, ◌<◌}
@@ -45,10 +45,10 @@ repair-hidden p n t T S heard positive =
     fit-hide p (not_sent p) (not-sent-above p) positive (tabulate (bit S) n) T (take n heard) t (ones S - t)
 
 -- ---- what the code answers
--- A test that is not refused has passed.
-pub passed : (why : Refusal) (pass : Bool) (r : Admission) → r ≡ cond pass (Ok tt) (Err why) → r ≡ Ok tt → pass ≡ true
-passed why true r e same = refl
-passed why false r e same = fail-pass {why = why} (sym e ∙ same)
+-- A test that is not refused has passed, as it was counted.
+pub passed : (why : Refusal) {pass asked : Bool} {r : Admission} → pass ≡ asked → r ≡ cond pass (Ok tt) (Err why) → r ≡ Ok tt → asked ≡ true
+passed why {pass = true} e h same = sym e
+passed why {pass = false} e h same = sym e ∙ fail-pass {why = why} (sym h ∙ same)
 
 module _ (p n t : ℕ) (T : List ℕ) where
   module _ (S : ℕ) (heard : List ℕ) where

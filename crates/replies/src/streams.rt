@@ -7,7 +7,8 @@ use std::io;
 use std::io::{ErrorKind, Read, Write};
 use std::process::ExitCode;
 
-// Reads until the buffer is full, the input ends or a read fails, and answers how many bytes stand at the buffer's front.
+// Reads until the buffer is full, the input ends or a read fails, and answers how many bytes stand at the buffer's front. A `while`: what a
+// read gives is added, and no index is counted.
 pub fn read_full<R: Read>(input: &mut R, buffer: &mut [u8]) -> usize
     ensures bound { result ≤ length buffer.new }
     ensures bytes { Consumes (R.remaining input.old) (R.remaining input.new) (take result buffer.new) }

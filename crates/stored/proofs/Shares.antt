@@ -17,7 +17,8 @@ use Rattle.field.specs.declared.Width.TheVariants.{Narrow, Wide}
 use Rattle.field.specs.Modulus.{prime_of, width_number}
 use Rattle.answers.specs.Refusals.{lowest, Admission}
 use Rattle.answers.proofs.Tests.{lowest-pass}
-use Rattle.record.specs.Bytes.{limit_of, wide_numbers}
+use Rattle.arrays.specs.Limits.{limit_of}
+use Rattle.record.specs.Bytes.{wide_numbers}
 use Rattle.record.proofs.Bytes.{length-numbers}
 use Rattle.writer.specs.Writer.{bytes_of, wide_bytes_of}
 use Rattle.writer.proofs.Bytes.{length-bytes, numbers-bytes, bytes-numbers}

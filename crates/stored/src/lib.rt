@@ -1,9 +1,8 @@
 // A share as it is stored between runs: six bytes, which carry the share's prime; and the two bytes of an old share, read as narrow.
 #![tactic(auto)]
 
-ghost use Rattle.std.specs.Prelude.{◌≡◌, Ok, Err, cond, leb};
-ghost use Rattle.answers.specs.declared.Refusal.TheVariants.{WrongDirectory};
-ghost use Rattle.stored.specs.Stored.{width_named, write_share, share_of, read_share, old_share};
+ghost use Rattle.std.specs.Prelude.{◌≡◌};
+ghost use Rattle.stored.specs.Stored.{write_share, share_of, read_share, old_share};
 
 use answers::{Refusal, refuse_unless};
 use field::Width;
@@ -32,17 +31,6 @@ pub fn write_share(w: Width, share: u32, out: &mut [u8]) -> Result<usize, Refusa
     Ok(6)
 }
 
-// The width that the first byte names, or that it names none.
-fn width_named(byte: u8) -> Result<Width, Refusal>
-    ensures { result ≡ cond (leb byte 1) (Ok (width_named byte)) (Err WrongDirectory) }
-{
-    match byte {
-        0 => Ok(Width::Narrow),
-        1 => Ok(Width::Wide),
-        _ => Err(Refusal::WrongDirectory),
-    }
-}
-
 // A stored number is a share where it is a residue.
 fn share_of(w: Width, v: u32) -> Stored
     ensures { result ≡ share_of w v }
@@ -60,9 +48,11 @@ pub fn read_share(bytes: &[u8]) -> Stored
     ensures { result ≡ read_share bytes.now }
 {
     refuse_unless(bytes.len() == 6, Refusal::WrongLength)?;
-    let w = width_named(bytes[0])?;
+    let Ok(w) = Width::try_from(bytes[0]) else {
+        return Err(Refusal::WrongDirectory);
+    };
     refuse_unless(bytes[1] == 0, Refusal::WrongDirectory)?;
-    share_of(w, record::wide_number(&bytes[2..], 0))
+    share_of(w, record::number_by::<u32>(&bytes[2..], 0))
 }
 
 // What the two bytes of an old share say: it keeps its number, and its prime is the narrow one.
@@ -71,5 +61,5 @@ pub fn old_share(bytes: &[u8]) -> Stored
     ensures { result ≡ old_share bytes.now }
 {
     refuse_unless(bytes.len() == 2, Refusal::WrongLength)?;
-    share_of(Width::Narrow, u32::from(record::number(bytes, 0)))
+    share_of(Width::Narrow, u32::from(record::number_by::<u16>(bytes, 0)))
 }

@@ -12,6 +12,7 @@ use lib.Dec.{ltb, eqb}
 use lib.ListN.{length, get_or, drop}
 use lib.Seq.{drop-length}
 use borrow.Author.Tests.{lt-ltb, le-ltb, eq-eqb, ne_eqb}
+use Rattle.std.proofs.lemmas.List.{take_rest}
 use Rattle.lists.specs.All.{All}
 use Rattle.lists.proofs.InPlace.{drop-back}
 use Rattle.lists.proofs.FromEnd.{Passed, passed_start, passed-next, passed-not, passed-end}
@@ -126,3 +127,6 @@ rising-start p xs = record {
   above = subst (Above p) (sym (drop-length xs)) tt;
   there = λ h. absurd (omega arith);
 }
+
+-- What the loop needs at each turn and at its end.
+pub ruleset entries = (take_rest, lower, higher, large-entry, twice-there, all-looked-at, rising-start)

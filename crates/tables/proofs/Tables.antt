@@ -1,10 +1,11 @@
 -- Laws of the tables of points: the test is right, 1 to n is a table, and what a lamp keeps of one.
---   table-facts, table-true, length-not, short-not, table-points   what the test says of a list
+--   table-facts, table-true, short-not, table-points   what the test says of a list
 --   tests-pass, tests-length                what the tests of a lent one say
 --   points-of, point_at_lem                 the table is the list of its parties' points
 --   point-not-zero, point-once              no party's point is 0, and no two parties have one
 --   point-below                             a point is a residue, also that of none
---   length-one-to, one-to-table, one-to-point   1 to n has n numbers, is a table, and i is party i's point in it
+--   length-one-to, one-to-table, one-to-point   1 to n has n numbers, is a table, and i is party i's point in it; above-sixteen: so many
+--                                           are residues
 --   sixteen-front, one-to-padded            1 to n as the front of 1 to 16, and with zeros behind it
 --   kept-front, kept_whole                  the array that holds a table
 --   kept-many, kept-not                     zeros, where there are more than sixteen parties or the length is another
@@ -15,7 +16,7 @@ use mathlib.Core.List.{List, [], ◌∷◌, map}
 use Prim.Native.Nat.{ℕ, suc, ◌+◌, ◌-◌, ◌<◌, ◌≤◌}
 use native.Mathlib.Decide.{dec_lt}
 use native.Mathlib.Omega.{arith}
-use lib.Dec.{ltb, eqb}
+use lib.Dec.{ltb, eqb, lit<}
 use Rattle.std.specs.List.{list_any}
 use lib.ListN.{length, get_or, take, replicate, length-append, length-replicate, get_or-eq_default}
 use lib.Seq.{ext_get_or, take_at, take_all, get_or-take, length-take-le}
@@ -26,6 +27,9 @@ use Rattle.lists.proofs.All.{all-get_or, distinct-get_or}
 use Rattle.lists.proofs.Padded.{get_or-zeros}
 use Rattle.lists.proofs.Tabulate.{length-tabulate, get_or-tabulate, all-tabulate, map-tabulate, distinct-tabulate}
 use Rattle.answers.specs.declared.Refusal.TheVariants.{WrongLength}
+use Rattle.field.specs.declared.Width.{Width}
+use Rattle.field.specs.declared.Width.TheVariants.{Narrow, Wide}
+use Rattle.field.specs.Modulus.{prime_of}
 use Rattle.answers.specs.Refusals.{lowest}
 use Rattle.polynomial.specs.Polynomial.{Residues, Points}
 use Rattle.parties.specs.Parties.{is_party, parties}
@@ -82,11 +86,6 @@ module _ (p n : ℕ) (T : List ℕ) where
   unfolding is_table
   table-true h =
       rw (eq-eqb (length T) n h.size, distinct-residues-true p T (h.below, h.once), absent-true 0 T h.not_zero)
-
-  -- A list of another length is none.
-  pub length-not : (length T ≡ n → ⊥) → false ≡ is_table p n T
-  unfolding is_table
-  length-not d = rw (ne_eqb (length T) n d)
 
   -- A shorter list has no front that is one.
   pub short-not : length T < n → false ≡ is_table p n (take n T)
@@ -152,6 +151,11 @@ one-to-table p n h = record {
   not_zero = all-tabulate suc (λ x. x ≡ 0 → ⊥) n (λ k b e. omega arith);
   once = distinct-tabulate suc (λ i j e. omega arith) n;
 }
+
+-- The prime leaves room for sixteen parties.
+pub above-sixteen : (w : Width) → 16 < prime_of w
+above-sixteen Narrow = lit< tt
+above-sixteen Wide = lit< tt
 
 pub one-to-point : (n i : ℕ) → is_party n i ≡ true → point_at (one_to n) i ≡ i
 unfolding point_at

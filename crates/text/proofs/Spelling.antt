@@ -1,13 +1,16 @@
--- Laws of the digits of a number: how many there are, and that the code's five or ten without the zeros in front are they.
+-- Laws of the digits of a number: how many there are, that the code's five or ten without the zeros in front are they, and that the library
+-- writes the same.
 use mathlib.Core.Path.{◌≡◌, refl, sym, ap, ap₂, ◌∙◌}
 use mathlib.Core.Bool.{Bool, true, false}
 use mathlib.Core.List.{List, [], ◌∷◌, ◌++◌, append_assoc}
-use Prim.Native.Nat.{ℕ, zero, suc, ◌*◌, ◌-◌, ◌/◌, ◌^◌, ◌≤◌, ◌<◌}
-use native.Mathlib.Nat.{div-div-eq-div-mul}
+use Prim.Native.Nat.{ℕ, zero, suc, ◌+◌, ◌*◌, ◌-◌, ◌/◌, ◌^◌, ◌≤◌, ◌<◌}
+use native.Mathlib.Nat.{div-div-eq-div-mul, mod-eq_of_lt}
 use native.Mathlib.Omega.{arith}
 use borrow.Author.Tests.{lt-ltb, le-ltb, ltb-true, ltb-false}
 use lib.Dec.{ltb}
 use lib.ListN.{length, take, drop, length-append}
+use Rattle.std.specs.Prelude.{decimal as written}
+use Rattle.std.proofs.lemmas.Fmt.{decimal_from_appends, length-decimal-le}
 use Rattle.text.specs.Letters.{letters, digit, spell, decimal, five, ten, zeros}
 
 -- A number is below another or not.
@@ -132,6 +135,14 @@ decimal-long digits from x e f l h u =
     ∙ ap (λ z. take (5 - z) (drop z (five (x / 100000))) ++ five x) f
     ∙ ap (λ z. z ++ five x) (below-spelt 0 (x / 100000) (omega arith))
     ∙ sym (five-more 5 x h)
+
+-- ---- what the library writes of a number is the same, as long as ten digits are enough
+pub decimal-written : (x : ℕ) → x < 10 ^ 10 → decimal x ≡ written x
+decimal-written x h =
+    decimal_from_appends spell (record {
+      one = λ k n l. spell_last k n l ∙ ap (λ d. (48 + d) ∷ []) (mod-eq_of_lt l);
+      more = λ k n l. spell-more k n l;
+    }) 10 x (omega arith) (length-decimal-le 10 x (omega arith) h (omega arith))
 
 -- ---- computed
 pub decimal-zero : decimal 0 ≡ letters "0"

@@ -27,7 +27,8 @@ unfoldable pub spell : ℕ → ℕ → List ℕ
 spell zero x = []
 spell (suc k) x = cond (ltb x 10) (digit x ∷ []) (spell k (x / 10) ++ digit x ∷ [])
 
--- 4,294,967,295, the largest number of 32 bits, has ten digits.
+-- 4,294,967,295, the largest number of 32 bits, has ten digits. Not the library's `decimal`, which is the same below 10 to the 10
+-- (`decimal-written`): no number has more than ten digits here, so that the lengths of lines (`refused-short`, `lamp-short`) need no bound.
 abbrev pub decimal : ℕ → List ℕ
 decimal x = spell 10 x
 

@@ -9,15 +9,11 @@ ghost use Rattle.timing.specs.Timing.{width_for, admitted, pairing, reporting};
 use consistency::NO_REPORT;
 use field::Width;
 
-// The width that a number stands for: 0 for the narrow one, any other for the wide one.
+// The width that a number stands for, C having no such type: 0 for the narrow one, any other for the wide one.
 fn width_for(wide: u8) -> Width
     ensures { result ≡ width_for wide }
 {
-    if wide == 0 {
-        Width::Narrow
-    } else {
-        Width::Wide
-    }
+    Width::try_from(wide).unwrap_or(Width::Wide)
 }
 
 // Whether this is what `consistency` asks for: a table of residues, and row and column of at most four numbers.

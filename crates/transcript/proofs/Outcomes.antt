@@ -1,6 +1,5 @@
 -- Laws of the outcomes: each line is what the code puts in the case that applies.
---   reply-by   the line of a lamp, by the number of its answer
---   refusal-small, answer-small   a refusal has at most two digits
+--   refusal-small, answer-small   a refusal has at most two digits, and so what is printed in the place of a value
 --   last-rejected, last_found, last-nothing   the last line, by the verdict and what the decoding answers
 use mathlib.Core.Path.{◌≡◌, refl, sym, ap, ◌∙◌}
 use mathlib.Core.Bool.{Bool, true, false, true≢false, false≢true}
@@ -9,7 +8,6 @@ use mathlib.Core.List.{List}
 use Prim.Native.Nat.{ℕ, ◌<◌}
 use native.Mathlib.Omega.{arith}
 use lib.ListN.{get_or}
-use Rattle.lists.specs.Options.{or_zero}
 use Rattle.field.specs.declared.Width.{Width}
 use Rattle.field.specs.Modulus.{prime_of}
 use Rattle.answers.specs.declared.Refusal.{Refusal}
@@ -21,9 +19,8 @@ use Rattle.answers.specs.Fits.{decoded, Fitted}
 use Rattle.answers.proofs.Fits.{found-is, nothing_is}
 use Rattle.tables.specs.Tables.{one_to}
 use Rattle.fit.specs.Opening.{opening_of}
-use Rattle.lamp.specs.declared.Reply.{Reply}
-use Rattle.lines.specs.Lines.{lamp_line, opened_line}
-use Rattle.transcript.specs.Outcomes.{reply_line, opening_line, last_line}
+use Rattle.lines.specs.Lines.{FewDigits, opened_line}
+use Rattle.transcript.specs.Outcomes.{outcome, opening_line, last_line}
 use Rattle.std.specs.Prelude.{Ok, Err, Some, None}
 
 -- ---- a refusal has at most two digits
@@ -41,22 +38,17 @@ refusal-small NoOpening = omega arith
 refusal-small WrongTable = omega arith
 refusal-small WrongWidth = omega arith
 
-pub answer-small : (a : Answered) → or_zero (number_of a) < 100
-answer-small (Ok a) = omega arith
-answer-small (Err why) = refusal-small why
-
--- ---- a lamp
-pub reply-by : (i k : ℕ) (r : Reply) → k ≡ or_zero (number_of r.answer) → lamp_line i k r.lamp.sharing.share ≡ reply_line i r
-unfolding reply_line
-reply-by i k r e = ap (λ m. lamp_line i m r.lamp.sharing.share) e
+pub answer-small : (a : Answered) (value : ℕ) → FewDigits (outcome (number_of a) value)
+answer-small (Ok a) value = tt
+answer-small (Err why) value = refusal-small why
 
 -- ---- the opening
 module _ (w : Width) (n t : ℕ) (shares : List ℕ) (b : Bool) where
-  pub last-rejected : b ≡ false → (k : ℕ) → k ≡ refusal_number DealerRejected → opened_line k 0 ≡ last_line b w n t shares
+  pub last-rejected : b ≡ false → (k : ℕ) → k ≡ refusal_number DealerRejected → opened_line (Err k) ≡ last_line b w n t shares
   unfolding last_line
-  last-rejected e k is = ap (λ m. opened_line m 0) is ∙ by b e
+  last-rejected e k is = ap (λ m. opened_line (Err m)) is ∙ by b e
     where
-      by : (b : Bool) → b ≡ false → opened_line (refusal_number DealerRejected) 0 ≡ last_line b w n t shares
+      by : (b : Bool) → b ≡ false → opened_line (Err (refusal_number DealerRejected)) ≡ last_line b w n t shares
       by true e = absurd (true≢false e)
       by false e = refl
 
@@ -73,10 +65,10 @@ module _ (w : Width) (n t : ℕ) (shares : List ℕ) (b : Bool) where
     abbrev opened : Option (List ℕ)
     opened = opening_of (prime_of w) t (one_to n) shares
 
-    pub last_found : (f : List ℕ) → r ≡ Ok (Some f) → opened_line 0 (get_or f 0 0) ≡ last_line b w n t shares
+    pub last_found : (f : List ℕ) → r ≡ Ok (Some f) → opened_line (Ok (get_or f 0 0)) ≡ last_line b w n t shares
     last_found f h =
         let finds = found-is opened f (sym is ∙ h) in
-        ap (opened_line 0) finds.first ∙ ap opening_line (sym finds.is) ∙ accepted-line
+        ap (λ v. opened_line (Ok v)) finds.first ∙ ap opening_line (sym finds.is) ∙ accepted-line
 
-    pub last-nothing : r ≡ Ok None → (k : ℕ) → k ≡ refusal_number NoOpening → opened_line k 0 ≡ last_line b w n t shares
-    last-nothing h k e = ap (λ m. opened_line m 0) e ∙ ap opening_line (sym (nothing_is opened (sym is ∙ h))) ∙ accepted-line
+    pub last-nothing : r ≡ Ok None → (k : ℕ) → k ≡ refusal_number NoOpening → opened_line (Err k) ≡ last_line b w n t shares
+    last-nothing h k e = ap (λ m. opened_line (Err m)) e ∙ ap opening_line (sym (nothing_is opened (sym is ∙ h))) ∙ accepted-line

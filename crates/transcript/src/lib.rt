@@ -4,20 +4,23 @@
 ghost use Rattle.std.specs.Prelude.{◌≡◌, Ok, [], ◌∷◌, map, ◌+◌, ◌≤◌, length, take, drop};
 ghost use Rattle.field.specs.Modulus.{prime_of};
 ghost use Rattle.answers.specs.Fits.{decoded};
+ghost use Rattle.answers.specs.Refusals.{number_of};
 ghost use Rattle.tables.specs.Tables.{one_to};
 ghost use Rattle.fit.specs.Opening.{opening_of};
 ghost use Rattle.lamp.specs.Lamp.{made, after};
 ghost use Rattle.record.specs.Bytes.{numbers_by};
 ghost use Rattle.record.specs.Record.{reading, section_of, numbers_of};
 ghost use Rattle.text.specs.Letters.{Added};
-ghost use Rattle.transcript.specs.Outcomes.{is_accepted, reply_line, last_line};
+ghost use Rattle.lines.specs.Lines.{FewDigits, opened_line};
+ghost use Rattle.transcript.specs.Outcomes.{outcome, is_accepted, reply_line, last_line};
 ghost use Rattle.transcript.specs.Transcript.{deal_call, pairs_call, run, lamp_lines, text_of, text, rendering, bytes_written};
 
-use answers::{Fitted, Refusal, answer_number};
+use answers::{Fitted, Refusal};
 use arrays::Number;
 use field::Width;
 use lamp::{Lamp, Reply};
 use record::{Head, Recorded};
+use recovery::Group;
 
 // ---- the numbers of a record
 
@@ -33,130 +36,179 @@ fn part<N: Recorded>(bytes: &[u8], k: usize, from: usize, list: &mut [N])
     record::numbers_by(&whole[start..end], list);
 }
 
-// ---- the lamps
+// ---- the record
+
+// What a text is made of: a record that was read, by its bytes and its head, and its reports, read once for the verdict and all lamps.
+#[derive(Clone, Copy)]
+struct Source<'a> {
+    bytes: &'a [u8],
+    head: Head,
+    reports: &'a [u16],
+    ghost fine: { reading bytes.now ≡ Ok head },
+    ghost its_reports: { reports.now ≡ numbers_of bytes.now 2 },
+}
 
 // What is read of a record goes over a lent list of 32 numbers. An array of a type parameter has no known size, so that no part of it can
 // be lent: it is made where the width is told.
+impl<'a> Source<'a> {
+    // Lamp i with its own part of the deals taken.
+    fn dealt<N: Recorded>(&self, i: u8, list: &mut [N]) -> Lamp
+        requires { (self.now.head.width ≡ N.WIDTH) × (1 ≤ i) × (i ≤ self.now.head.n) × (length list.old ≡ 32) }
+        ensures { result ≡ after (made self.now.head.width self.now.head.n self.now.head.t i)
+            (deal_call self.now.bytes.now self.now.head.width self.now.head.t i ∷ []) }
+    {
+        let head = self.head;
+        let count = 2 * (head.t as usize + 1);
+        let deal = &mut list[..count];
+        part(self.bytes, 0, (i as usize - 1) * count, deal);
+        let made = Lamp::make_in::<N>(head.n, head.t, i);
+        made.lamp.take_deal_in(deal).lamp
+    }
 
-// Lamp i with its own part of the deals taken.
-fn dealt<N: Recorded>(bytes: &[u8], head: Head, i: u8, list: &mut [N]) -> Lamp
-    requires { (reading bytes.now ≡ Ok head) × (head.width ≡ N.WIDTH) × (1 ≤ i) × (i ≤ head.n) × (length list.old ≡ 32) }
-    ensures { result ≡ after (made head.width head.n head.t i) (deal_call bytes.now head.width head.t i ∷ []) }
-{
-    let count = 2 * (head.t as usize + 1);
-    let deal = &mut list[..count];
-    part(bytes, 0, (i as usize - 1) * count, deal);
-    let made = Lamp::make_in::<N>(head.n, head.t, i);
-    made.lamp.take_deal_in(deal).lamp
-}
+    // Lamp i with its own part of round two heard.
+    fn reported<N: Recorded>(&self, i: u8, list: &mut [N]) -> Lamp
+        requires { (self.now.head.width ≡ N.WIDTH) × (1 ≤ i) × (i ≤ self.now.head.n) × (length list.old ≡ 32) }
+        ensures { result ≡ after (made self.now.head.width self.now.head.n self.now.head.t i)
+            (deal_call self.now.bytes.now self.now.head.width self.now.head.t i
+            ∷ pairs_call self.now.bytes.now self.now.head.width self.now.head.n i ∷ []) }
+    {
+        let lamp = self.dealt(i, list);
+        let count = 2 * self.head.n as usize;
+        let pairs = &mut list[..count];
+        part(self.bytes, 1, (i as usize - 1) * count, pairs);
+        lamp.hear_pairs_in(pairs).lamp
+    }
 
-// Lamp i with its own part of round two heard.
-fn reported<N: Recorded>(bytes: &[u8], head: Head, i: u8, list: &mut [N]) -> Lamp
-    requires { (reading bytes.now ≡ Ok head) × (head.width ≡ N.WIDTH) × (1 ≤ i) × (i ≤ head.n) × (length list.old ≡ 32) }
-    ensures { result ≡ after (made head.width head.n head.t i)
-        (deal_call bytes.now head.width head.t i ∷ pairs_call bytes.now head.width head.n i ∷ []) }
-{
-    let lamp = dealt(bytes, head, i, list);
-    let count = 2 * head.n as usize;
-    let pairs = &mut list[..count];
-    part(bytes, 1, (i as usize - 1) * count, pairs);
-    lamp.hear_pairs_in(pairs).lamp
-}
+    // The same by the record's width.
+    fn reported_by(&self, i: u8) -> Lamp
+        requires { (1 ≤ i) × (i ≤ self.now.head.n) }
+        ensures { result ≡ after (made self.now.head.width self.now.head.n self.now.head.t i)
+            (deal_call self.now.bytes.now self.now.head.width self.now.head.t i
+            ∷ pairs_call self.now.bytes.now self.now.head.width self.now.head.n i ∷ []) }
+    {
+        match self.head.width {
+            Width::Narrow => self.reported(i, &mut [0u16; 32]),
+            Width::Wide => self.reported(i, &mut [0u32; 32]),
+        }
+    }
 
-// The same by the record's width.
-fn reported_by(bytes: &[u8], head: Head, i: u8) -> Lamp
-    requires { (reading bytes.now ≡ Ok head) × (1 ≤ i) × (i ≤ head.n) }
-    ensures { result ≡ after (made head.width head.n head.t i)
-        (deal_call bytes.now head.width head.t i ∷ pairs_call bytes.now head.width head.n i ∷ []) }
-{
-    match head.width {
-        Width::Narrow => reported(bytes, head, i, &mut [0u16; 32]),
-        Width::Wide => reported(bytes, head, i, &mut [0u32; 32]),
+    // What lamp i answers to settling on the reports.
+    #[tactic(auto, unfolding(crate::specs::Transcript::run))]
+    fn run(&self, i: u8) -> Reply
+        requires { (1 ≤ i) × (i ≤ self.now.head.n) }
+        ensures { result ≡ run self.now.bytes.now self.now.head.width self.now.head.n self.now.head.t i }
+    {
+        self.reported_by(i).settle(self.reports)
+    }
+
+    // Puts the lines of all lamps. It counts lamps: there is no list to go over.
+    fn put_lamps(&self, out: &mut [u8], at: usize) -> usize
+        requires { at + 400 ≤ length out.old }
+        ensures added { Added out.old at
+            (lamp_lines self.now.bytes.now self.now.head.width self.now.head.n self.now.head.t self.now.head.n) out.new result }
+        ensures short { result ≤ at + 400 }
+    {
+        let mut next = at;
+        for k in 0..self.head.n {
+            let reply = self.run(k + 1);
+            next = put_lamp(out, next, k + 1, reply);
+        }
+        next
+    }
+
+    // The polynomial that the published shares open.
+    fn fitted<N: Recorded>(&self, list: &mut [N]) -> Fitted
+        requires { (self.now.head.width ≡ N.WIDTH) × (length list.old ≡ 32) }
+        ensures { result ≡ decoded (opening_of (prime_of self.now.head.width) self.now.head.t (one_to self.now.head.n)
+            (numbers_of self.now.bytes.now 3)) }
+    {
+        let head = self.head;
+        let count = head.n as usize;
+        let published = &mut list[..count];
+        part(self.bytes, 3, 0, published);
+        let shares = arrays::padded::<16, N>(published);
+        let group = Group {
+            table: tables::sixteen(),
+            n: head.n,
+            t: head.t,
+            width: head.width,
+        };
+        group.published(&shares[..count])
+    }
+
+    // The same by the record's width.
+    fn fitted_by(&self) -> Fitted
+        ensures { result ≡ decoded (opening_of (prime_of self.now.head.width) self.now.head.t (one_to self.now.head.n)
+            (numbers_of self.now.bytes.now 3)) }
+    {
+        match self.head.width {
+            Width::Narrow => self.fitted(&mut [0u16; 32]),
+            Width::Wide => self.fitted(&mut [0u32; 32]),
+        }
+    }
+
+    // What the published shares open, or the number of a refusal, as after a rejected dealer.
+    fn opened(&self, accepted: bool) -> Result<u32, u8>
+        ensures line { opened_line result
+            ≡ last_line accepted self.now.head.width self.now.head.n self.now.head.t (numbers_of self.now.bytes.now 3) }
+        ensures short { FewDigits result }
+    {
+        if !accepted {
+            return Err(u8::from(Refusal::DealerRejected));
+        }
+        match self.fitted_by() {
+            Ok(Some(f)) => Ok(f[0]),
+            Ok(None) => Err(u8::from(Refusal::NoOpening)),
+            // It does not come to this: the record has legal sizes and a share for each lamp.
+            Err(why) => Err(u8::from(why)),
+        }
+    }
+
+    // Puts what the published shares open, or the refusal.
+    fn put_last(&self, out: &mut [u8], at: usize, accepted: bool) -> usize
+        requires { at + 18 ≤ length out.old }
+        ensures added { Added out.old at
+            (last_line accepted self.now.head.width self.now.head.n self.now.head.t (numbers_of self.now.bytes.now 3)) out.new result }
+        ensures short { result ≤ at + 18 }
+    {
+        lines::put_opened(out, at, self.opened(accepted))
+    }
+
+    // Puts the text of a record that is not refused.
+    fn put(&self, out: &mut [u8]) -> usize
+        requires { 512 ≤ length out.old }
+        ensures added { Added out.old 0
+            (text_of self.now.bytes.now self.now.head.width self.now.head.n self.now.head.t) out.new result }
+        ensures short { result ≤ 512 }
+    {
+        let head = self.head;
+        let set = happy::happy_set(self.reports);
+        let good = accepted(set, head.n, head.t);
+        let size = lines::put_size(out, 0, head.n, head.t);
+        let verdict = lines::put_verdict(out, size, good, set, head.n);
+        let lamps = self.put_lamps(out, verdict);
+        self.put_last(out, lamps, good)
     }
 }
 
-// What lamp i answers to settling on the reports.
-#[tactic(auto, unfolding(crate::specs::Transcript::run))]
-fn run(bytes: &[u8], reports: &[u16], head: Head, i: u8) -> Reply
-    requires { (reading bytes.now ≡ Ok head) × (reports.now ≡ numbers_of bytes.now 2) × (1 ≤ i) × (i ≤ head.n) }
-    ensures { result ≡ run bytes.now head.width head.n head.t i }
+// The share that a lamp holds, or the number of its refusal.
+fn share_of(reply: Reply) -> Result<u32, u8>
+    ensures { result ≡ outcome (number_of reply.answer) reply.lamp.sharing.share }
 {
-    reported_by(bytes, head, i).settle(reports)
+    match reply.answer {
+        Ok(_) => Ok(reply.lamp.sharing.share),
+        Err(why) => Err(u8::from(why)),
+    }
 }
 
-// Puts the line of lamp i: its share, or the number of its refusal.
+// Puts the line of lamp i.
 fn put_lamp(out: &mut [u8], at: usize, i: u8, reply: Reply) -> usize
     requires { (i ≤ 16) × (at + 25 ≤ length out.old) }
     ensures added { Added out.old at (reply_line i reply) out.new result }
     ensures short { result ≤ at + 25 }
 {
-    let refusal = answer_number(reply.answer);
-    lines::put_lamp(out, at, i, refusal, reply.lamp.sharing.share)
+    lines::put_lamp(out, at, i, share_of(reply))
 }
-
-// Puts the lines of all lamps, by the reports.
-fn put_lamps(out: &mut [u8], at: usize, bytes: &[u8], reports: &[u16], head: Head) -> usize
-    requires { (reading bytes.now ≡ Ok head) × (reports.now ≡ numbers_of bytes.now 2) × (head.n ≤ 16) × (at + 400 ≤ length out.old) }
-    ensures added { Added out.old at (lamp_lines bytes.now head.width head.n head.t head.n) out.new result }
-    ensures short { result ≤ at + 400 }
-{
-    let mut next = at;
-    for k in 0..head.n {
-        let reply = run(bytes, reports, head, k + 1);
-        next = put_lamp(out, next, k + 1, reply);
-    }
-    next
-}
-
-// ---- the opening
-
-// The polynomial that the published shares open.
-fn fitted<N: Recorded>(bytes: &[u8], head: Head, list: &mut [N]) -> Fitted
-    requires { (reading bytes.now ≡ Ok head) × (head.width ≡ N.WIDTH) × (length list.old ≡ 32) }
-    ensures { result ≡ decoded (opening_of (prime_of head.width) head.t (one_to head.n) (numbers_of bytes.now 3)) }
-{
-    let count = head.n as usize;
-    let published = &mut list[..count];
-    part(bytes, 3, 0, published);
-    let shares = arrays::padded::<16, N>(published);
-    recovery::published(
-        head.width,
-        head.n,
-        head.t,
-        tables::sixteen(),
-        &shares[..count],
-    )
-}
-
-// The same by the record's width.
-fn fitted_by(bytes: &[u8], head: Head) -> Fitted
-    requires { reading bytes.now ≡ Ok head }
-    ensures { result ≡ decoded (opening_of (prime_of head.width) head.t (one_to head.n) (numbers_of bytes.now 3)) }
-{
-    match head.width {
-        Width::Narrow => fitted(bytes, head, &mut [0u16; 32]),
-        Width::Wide => fitted(bytes, head, &mut [0u32; 32]),
-    }
-}
-
-// Puts what the published shares open, or the refusal after a rejected dealer.
-fn put_last(out: &mut [u8], at: usize, accepted: bool, bytes: &[u8], head: Head) -> usize
-    requires { (reading bytes.now ≡ Ok head) × (at + 18 ≤ length out.old) }
-    ensures added { Added out.old at (last_line accepted head.width head.n head.t (numbers_of bytes.now 3)) out.new result }
-    ensures short { result ≤ at + 18 }
-{
-    if !accepted {
-        return lines::put_opened(out, at, u8::from(Refusal::DealerRejected), 0);
-    }
-    match fitted_by(bytes, head) {
-        Ok(Some(f)) => lines::put_opened(out, at, 0, f[0]),
-        Ok(None) => lines::put_opened(out, at, u8::from(Refusal::NoOpening), 0),
-        // It does not come to this: the record has legal sizes and a share for each lamp.
-        Err(why) => lines::put_opened(out, at, u8::from(why), 0),
-    }
-}
-
-// ---- the text
 
 // Whether the dealer is accepted with this happy set.
 fn accepted(set: u16, n: u8, t: u8) -> bool
@@ -166,21 +218,9 @@ fn accepted(set: u16, n: u8, t: u8) -> bool
     (n - t) as u32 <= happy::count(set)
 }
 
-// Puts the text of a record that is not refused, by its reports.
-fn put_by_reports(out: &mut [u8], bytes: &[u8], reports: &[u16], head: Head) -> usize
-    requires { (reading bytes.now ≡ Ok head) × (reports.now ≡ numbers_of bytes.now 2) × (512 ≤ length out.old) }
-    ensures added { Added out.old 0 (text_of bytes.now head.width head.n head.t) out.new result }
-    ensures short { result ≤ 512 }
-{
-    let set = happy::happy_set(reports);
-    let good = accepted(set, head.n, head.t);
-    let size = lines::put_size(out, 0, head.n, head.t);
-    let verdict = lines::put_verdict(out, size, good, set, head.n);
-    let lamps = put_lamps(out, verdict, bytes, reports, head);
-    put_last(out, lamps, good, bytes, head)
-}
+// ---- the text
 
-// The same with the reports of the record, which are read once for the verdict and all lamps.
+// Puts the text of a record that is not refused, whose reports are read first.
 fn put_record(out: &mut [u8], bytes: &[u8], head: Head) -> usize
     requires { (reading bytes.now ≡ Ok head) × (512 ≤ length out.old) }
     ensures added { Added out.old 0 (text_of bytes.now head.width head.n head.t) out.new result }
@@ -190,7 +230,12 @@ fn put_record(out: &mut [u8], bytes: &[u8], head: Head) -> usize
     let mut list = [0u16; 32];
     let reports = &mut list[..count];
     part(bytes, 2, 0, reports);
-    put_by_reports(out, bytes, reports, head)
+    let source = Source {
+        bytes,
+        head,
+        reports,
+    };
+    source.put(out)
 }
 
 // Puts the text by what the reader answers. The record is read here alone: its sections are then taken as they stand.

@@ -8,7 +8,8 @@ use lib.ListN.{length, get_or}
 use Rattle.lists.specs.All.{All}
 use Rattle.field.specs.declared.Width.{Width}
 use Rattle.field.specs.declared.Width.TheVariants.{Narrow, Wide}
-use Rattle.record.specs.Bytes.{paired, number_at, numbers, number_bytes, limit_of, numbers_by}
+use Rattle.arrays.specs.Limits.{limit_of}
+use Rattle.record.specs.Bytes.{paired, number_at, numbers, number_bytes, numbers_by}
 use Rattle.record.proofs.Bytes.{length-paired, paired-below, number-place}
 use Rattle.writer.specs.Writer.{parted, bytes_of, bytes_by}
 

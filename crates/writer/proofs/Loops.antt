@@ -12,7 +12,7 @@ use lib.ListN.{length, get_or, take, drop, set, length-append, length-drop, take
 use lib.Seq.{take-suc, take_at, drop_at, drop-drop, set_at, length-take-le}
 use Rattle.std.specs.Int.{w32, to_be_bytes}
 use borrow.Rule.Slice.PartMut.{put_mid}
-use Rattle.lists.proofs.InPlace.{drop-next}
+use Rattle.std.proofs.lemmas.List.{drop_more}
 use Rattle.field.specs.declared.Width.{Width}
 use Rattle.field.specs.declared.Width.TheVariants.{Narrow, Wide}
 use Rattle.record.specs.Bytes.{number_bytes}
@@ -38,7 +38,7 @@ module _ (front : List ℕ) (at : ℕ) (old new : List ℕ) (b : Begun front at 
     place = length-append front (v ∷ []) ∙ ap (λ z. z + 1) b.place;
     room = omega arith;
     holds =
-        ap (λ z. set z at v) (b.holds ∙ ap (λ z. front ++ z) (drop-next old at 0 h))
+        ap (λ z. set z at v) (b.holds ∙ ap (λ z. front ++ z) (drop_more old at 0 h))
         ∙ set_at front (get_or old at 0) (drop (at + 1) old) v at b.place
         ∙ sym (append_assoc front (v ∷ []) (drop (at + 1) old));
   }

@@ -10,7 +10,8 @@ use borrow.Author.Tests.{eq-eqb}
 use Rattle.lists.specs.All.{All}
 use Rattle.field.specs.declared.Width.{Width}
 use Rattle.field.specs.declared.Width.TheVariants.{Narrow}
-use Rattle.record.specs.Bytes.{number_at, number_bytes, limit_of, numbers_by, stand_at, over}
+use Rattle.arrays.specs.Limits.{limit_of}
+use Rattle.record.specs.Bytes.{number_at, number_bytes, numbers_by, stand_at, over}
 use Rattle.record.specs.Record.{section_width, section_count, section_length, section_start, directory, directory_right, mark, fine}
 use Rattle.record.specs.Record.{width_of, n_of, reading_as, reading, IsRecord, section_of, numbers_of}
 use Rattle.writer.specs.Writer.{bytes_of, bytes_by, record_of, Small, Contents, writable, writing}

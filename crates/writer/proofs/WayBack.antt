@@ -8,10 +8,11 @@ use lib.ListN.{length, get_or, take, drop, length-drop, take-append-drop}
 use lib.Seq.{ext_get_or, get_or-take, get_or-drop, drop-drop, length-take-le}
 use Rattle.lists.specs.All.{All}
 use Rattle.lists.proofs.All.{all_take, all_drop}
-use Rattle.lists.proofs.InPlace.{drop-end}
+use Rattle.std.proofs.lemmas.List.{drop_all}
 use Rattle.field.specs.declared.Width.{Width}
 use Rattle.field.specs.declared.Width.TheVariants.{Narrow, Wide}
-use Rattle.record.specs.Bytes.{number_at, numbers, number_bytes, limit_of}
+use Rattle.arrays.specs.Limits.{limit_of}
+use Rattle.record.specs.Bytes.{number_at, numbers, number_bytes}
 use Rattle.record.specs.Record.{section_width, section_count, section_length, section_start, directory, width_of, n_of, t_of}
 use Rattle.record.specs.Record.{IsRecord, section_of, numbers_of}
 use Rattle.writer.specs.Writer.{bytes_of, bytes_by, record_of, Contents}
@@ -115,7 +116,7 @@ module _ (bytes : List ℕ) (small : All (λ b. b < 256) bytes) (is : IsRecord b
       (numbers_of bytes 0) (numbers_of bytes 1) (numbers_of bytes 2) (numbers_of bytes 3) ≡ bytes
   unfolding record_of
   way_back =
-      let none = drop-end bytes (section_start w n t 4) (omega (arith, is.end)) in
+      let none = drop_all (section_start w n t 4) bytes (omega (arith, is.end)) in
       let sections = onward 0 (omega arith) _ (onward 1 (omega arith) _ (onward 2 (omega arith) _ (onward 3 (omega arith) [] none))) in
       let all = sym (take-append-drop 16 (drop 2 bytes)) ∙ ap₂ ◌++◌ directory-back (drop-drop 16 2 bytes ∙ sections) in
       let flat : bytes_of (directory w n t) ++ bytes_by w (numbers_of bytes 0) ++ bytes_by w (numbers_of bytes 1)

@@ -15,7 +15,8 @@ use Rattle.parties.specs.Parties.{sizes}
 use Rattle.answers.specs.declared.Refusal.TheVariants.{WrongSize, WrongLength}
 use Rattle.answers.specs.Refusals.{Test, lowest, Admission}
 use Rattle.answers.specs.Answers.{Writing}
-use Rattle.record.specs.Bytes.{limit_of, over}
+use Rattle.arrays.specs.Limits.{limit_of}
+use Rattle.record.specs.Bytes.{over}
 use Rattle.record.specs.Record.{section_start, directory, mark}
 
 -- ---- Bytes

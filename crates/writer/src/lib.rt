@@ -3,7 +3,6 @@
 #![tactic(auto)]
 
 ghost use Rattle.std.specs.Prelude.{◌≡◌, true, ◌∷◌, ◌++◌, ◌+◌, ◌*◌, ◌≤◌, length, map, take, drop};
-ghost use Rattle.field.specs.declared.Width.TheVariants.{Narrow, Wide};
 ghost use Rattle.parties.specs.Parties.{sizes};
 ghost use Rattle.record.specs.Bytes.{number_bytes, over};
 ghost use Rattle.record.specs.Record.{section_start, directory, mark};
@@ -59,10 +58,7 @@ fn first_byte(w: Width, n: u8) -> u8
     requires { n ≤ 16 }
     ensures { result ≡ mark w + n }
 {
-    match w {
-        Width::Narrow => n,
-        Width::Wide => 128 + n,
-    }
+    128 * u8::from(w) + n
 }
 
 // Writes the sizes and the directory over the front of the buffer and answers the place behind them.
@@ -94,67 +90,27 @@ fn fill<N: Number>(n: u8, t: u8, lists: &Sections<N>, out: &mut [u8]) -> usize
     put(lists.shares, fourth, out)
 }
 
-// Writes a record of either width.
+// Writes a record over the front of the lent buffer, which may be longer. A refusal leaves the buffer alone.
 #[tactic(auto, unfolding(crate::specs::Writer::writing, crate::specs::Writer::writable))]
-fn write_by<N: Number>(n: u8, t: u8, lists: &Sections<N>, out: &mut [u8]) -> Result<usize, Refusal>
+pub fn write<N: Number>(
+    n: u8,
+    t: u8,
+    deals: &[N],
+    pairs: &[N],
+    reports: &[u16],
+    shares: &[N],
+    out: &mut [u8],
+) -> Result<usize, Refusal>
     ensures { (out.new, result)
-        ≡ writing N.WIDTH n t (map N.value lists.now.deals.now) (map N.value lists.now.pairs.now)
-        lists.now.reports.now (map N.value lists.now.shares.now) out.old }
+        ≡ writing N.WIDTH n t (map N.value deals.now) (map N.value pairs.now) reports.now (map N.value shares.now) out.old }
 {
+    let lists = Sections {
+        deals,
+        pairs,
+        reports,
+        shares,
+    };
     refuse_unless(parties::sizes(n, t), Refusal::WrongSize)?;
-    refuse_unless(lists_fit(n, t, lists, out.len()), Refusal::WrongLength)?;
-    Ok(fill(n, t, lists, out))
-}
-
-// Writes a record over the front of the lent buffer, which may be longer. A refusal leaves the buffer alone. Each width has its own
-// function: the project's pages fix that lists are lent as `&[u16]`, and wide ones as those of u32.
-pub fn write(
-    n: u8,
-    t: u8,
-    deals: &[u16],
-    pairs: &[u16],
-    reports: &[u16],
-    shares: &[u16],
-    out: &mut [u8],
-) -> Result<usize, Refusal>
-    ensures { (out.new, result)
-        ≡ writing Narrow n t deals.now pairs.now reports.now shares.now out.old }
-{
-    write_by(
-        n,
-        t,
-        &Sections {
-            deals,
-            pairs,
-            reports,
-            shares,
-        },
-        out,
-    )
-}
-
-// Writes a wide record, as `write` does one that is not.
-pub fn write_wide(
-    n: u8,
-    t: u8,
-    deals: &[u32],
-    pairs: &[u32],
-    reports: &[u16],
-    shares: &[u32],
-    out: &mut [u8],
-) -> Result<usize, Refusal>
-    ensures { (out.new, result)
-        ≡ writing Wide n t deals.now pairs.now reports.now shares.now out.old }
-{
-    write_by(
-        n,
-        t,
-        &Sections {
-            deals,
-            pairs,
-            reports,
-            shares,
-        },
-        out,
-    )
+    refuse_unless(lists_fit(n, t, &lists, out.len()), Refusal::WrongLength)?;
+    Ok(fill(n, t, &lists, out))
 }

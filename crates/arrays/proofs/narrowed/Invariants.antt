@@ -1,4 +1,4 @@
-use Rattle.std.proofs.Common.{◌≡◌, ℕ, length, map, take, drop, ◌++◌}
+use Rattle.std.proofs.Common.{◌≡◌, map, take}
 use Rattle.arrays.proofs.narrowed.Given as goal
 
 abbrev pub invariant-loop-k : goal.invariant-loop-k

@@ -7,7 +7,7 @@ use Rattle.answers.specs.Refusals.{lowest}
 use Rattle.field.specs.Modulus.{prime_of}
 use Rattle.dealer.specs.Desk.{length_tests, desk_with}
 use Rattle.dealer.proofs.Desk.{lengths-fit, desk-by-lengths}
-use Rattle.dealer.proofs.Writing.{copied-numbers, copied-room, lengths-with}
+use Rattle.dealer.proofs.Writing.{copied-numbers, lengths-with}
 use Rattle.dealer.proofs.deal_in_with.Goals as goal
 
 pub returns-in_err-length_admission : goal.returns-in_err-length_admission
@@ -32,9 +32,6 @@ pub widened-requires : goal.widened-requires
 widened-requires g c =
     let fit = lengths-fit _ _ _ _ _ (sym c.length_admission.ensures ∙ c.in_ok-length_admission.was) in
     sym (length-take-le _ _ (omega arith))
-
-pub slice_bounds-points-end-2 : goal.slice_bounds-points-end-2
-slice_bounds-points-end-2 g c = copied-room g.N.Number.value c.args.table.now _ _ c.widened.ensures
 
 pub dealt-requires : goal.dealt-requires
 dealt-requires g c =

@@ -1,11 +1,10 @@
 use Rattle.std.proofs.Common.{◌≡◌, sym, ap, ap₂, ◌∙◌, ℕ, ◌+◌, length, List}
-use Rattle.std.proofs.lemmas.List.{length-map}
 use Rattle.std.proofs.lemmas.Result.{err_from_is_err_and}
 use lib.Seq.{length-take-le}
 use Rattle.field.specs.Modulus.{prime_of}
 use Rattle.answers.specs.Refusals.{Admission, lowest}
 use Rattle.dealer.specs.Desk.{deals, content_tests}
-use Rattle.dealer.proofs.Desk.{lengths-fit, to_write, desk-by-content, desk-by-bad-content}
+use Rattle.dealer.proofs.Desk.{lengths-fit, lengths-room, to_write, desk-by-content, desk-by-bad-content}
 use Rattle.dealer.proofs.Writing.{copied-numbers, lengths}
 use Rattle.dealer.proofs.dealt.Goals as goal
 
@@ -33,17 +32,21 @@ returns-in_err-content_admission g c =
     (contents _ a.n a.table.now _ (ap prime_of c.WIDTH.ensures) (copied-numbers value a.list.now _ _ c.widened.ensures) c.content_admission.ensures
     c.in_err-content_admission.was))
 
-pub write_deals-requires : goal.write_deals-requires
-write_deals-requires g c =
+pub invariant_of-dealing : goal.invariant_of-dealing
+invariant_of-dealing g c =
     let a = c.args in
     let value = g.N.Number.value in
     let same = copied-numbers value a.list.now _ _ c.widened.ensures in
     let fine = to_write _ a.n a.t a.table.now _ _ (lengths value a.n a.t a.list.now a.out.now (length a.table.now) c.requires)
-    (contents _ a.n a.table.now _ (ap prime_of c.WIDTH.ensures) same c.content_admission.ensures c.in_ok-content_admission.was) in
-    record {
-      n_bound = (fine.0.0, fine.0.1, ap length same ∙ fine.0.2, sym (length-map a.out.now value) ∙ fine.0.3);
-      residues = (fine.1.0, rw same fine.1.1);
-    }
+    (contents _ a.n a.table.now _ (ap prime_of (c.WIDTH.ensures ∙ sym c.WIDTH-2.ensures)) same c.content_admission.ensures
+    c.in_ok-content_admission.was) in
+    record { few = fine.0.1; square = ap length same ∙ fine.0.2; points = fine.1.0; coefficients = rw same fine.1.1 }
+
+pub write_deals-requires : goal.write_deals-requires
+write_deals-requires g c =
+    let a = c.args in
+    let room = lengths-room a.n a.t _ _ _ c.requires in
+    (c.WIDTH-2.ensures, (lengths-fit _ _ _ _ _ c.requires).0, room)
 
 pub returns : goal.returns
 returns g c =
@@ -52,4 +55,4 @@ returns g c =
     let same = copied-numbers value a.list.now _ _ c.widened.ensures in
     desk-by-content _ a.n a.t a.table.now _ _ (lengths value a.n a.t a.list.now a.out.now (length a.table.now) c.requires) _
     (contents _ a.n a.table.now _ (ap prime_of c.WIDTH.ensures) same c.content_admission.ensures c.in_ok-content_admission.was)
-    (c.write_deals.ensures ∙ ap (λ F. deals (prime_of g.N.Number.WIDTH) (a.t + 1) a.table.now F a.n) same)
+    (c.write_deals.ensures ∙ ap₂ (λ w F. deals (prime_of w) (a.t + 1) a.table.now F a.n) c.WIDTH-2.ensures same)

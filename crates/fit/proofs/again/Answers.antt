@@ -3,14 +3,14 @@ use Rattle.std.proofs.Common.{sym, ap, arith}
 use Rattle.field.proofs.Primes.{prime-of}
 use Rattle.trial.specs.Results.{result_of}
 use Rattle.fit.proofs.First.{first-too-few}
-use Rattle.fit.proofs.again.Goals.{then-s-xs-via-then-s-xs, then-s-xs-via-else-s-xs+then-s-need}
+use Rattle.fit.proofs.again.Goals.{then-s-received-via-then-s-received, then-s-received-via-else-s-received+then-s-received-2}
 use Rattle.fit.proofs.again.Goals as goal
 
-pub returns-then-s-xs : goal.returns-then-s-xs
-returns-then-s-xs c =
-    let s = c.args in
-    elim c.then-s-xs.branch [
-      | then-s-xs-via-then-s-xs w ↦ ap result_of (sym (c.requires.4 w.if-s-xs.true))
-      | then-s-xs-via-else-s-xs+then-s-need w ↦
-          ap result_of (sym (first-too-few _ (prime-of s.w) _ s.xs.now _ _ (omega (arith, c.requires.2, w.if-s-need.true))))
+pub returns-then-s-received : goal.returns-then-s-received
+returns-then-s-received c =
+    let s = c.args.received.now in
+    elim c.then-s-received.branch [
+      | then-s-received-via-then-s-received w ↦ ap result_of (sym (c.requires.failed w.if-s-received.true))
+      | then-s-received-via-else-s-received+then-s-received-2 w ↦
+          ap result_of (sym (first-too-few _ (prime-of s.w) _ s.xs.now _ _ (omega (arith, c.requires.few.2, w.if-s-received-2.true))))
     ]

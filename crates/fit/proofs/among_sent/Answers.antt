@@ -9,7 +9,8 @@ use Rattle.fit.proofs.among_sent.Goals as goal
 
 pub returns-then-is_some : goal.returns-then-is_some
 returns-then-is_some c =
-    let s = c.args in
+    let a = c.args in
+    let s = a.all.now in
     fit-first _ _ _ _ _ _ c.again-first.ensures (cc)
-    ∙ ap (λ need. result_of (fit (prime_of s.w) s.t need s.xs.now s.ys.now))
-    (c.needed-need.ensures ∙ ap (needed s.t s.least) (c.sent-s.ensures ∙ ap (λ q. sent q s.ys.now) c.modulus.ensures))
+    ∙ ap (λ need. result_of (fit (prime_of s.w) a.t need s.xs.now s.ys.now))
+    (c.needed-need.ensures ∙ ap (needed a.t a.least) (c.sent-s.ensures ∙ ap (λ q. sent q s.ys.now) c.modulus.ensures))

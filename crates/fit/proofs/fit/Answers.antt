@@ -20,7 +20,7 @@ returns-then-is_some c =
     let a = c.args in
     let admitted = (tests-pass a.t a.least a.xs.now a.ys.now).1 (sym c.admission.ensures ∙ c.in_ok-admission.was) in
     let first = c.next-first.ensures
-    ∙ ap (λ all. result_of (tried (prime_of a.w) all a.xs.now a.ys.now 0 (a.t + 1) 0)) c.needed-all.ensures in
+    ∙ ap (λ need. result_of (tried (prime_of a.w) need a.xs.now a.ys.now 0 (a.t + 1) 0)) c.needed-need.ensures in
     ap Ok (narrowed-first _ (prime-of a.w) _ _ _ _ admitted.bounded.lengths c.requires admitted.enough _ first (cc))
     ∙ answered _ ∙ sym (fit-admitted _ _ _ _ _ admitted)
 

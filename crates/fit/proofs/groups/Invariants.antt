@@ -4,4 +4,4 @@ use Rattle.fit.specs.Grouping.{Grouping}
 use Rattle.fit.proofs.groups.Given as goal
 
 abbrev pub invariant-loop-wrong : goal.invariant-loop-wrong
-invariant-loop-wrong l = Grouping (prime_of l.w) l.t l.need l.xs l.ys l.i l.left l.wrong
+invariant-loop-wrong l = Grouping (prime_of l.received.w) l.t l.received.need l.received.xs.now l.received.ys.now l.i l.left l.wrong

@@ -1,7 +1,7 @@
 -- `fit::sent` meets its contract.
 use Rattle.std.proofs.Common.{refl, arith, rules}
 use Rattle.fit.specs.Fit.{sent}
-use Rattle.fit.proofs.Counting.{sent-next, sent-all}
+use Rattle.fit.proofs.Counting.{sent-next}
 use Rattle.fit.proofs.sent.Goals as goal
 
 pub loop-y-init : goal.loop-y-init
@@ -12,6 +12,3 @@ pub loop-y-preserved : goal.loop-y-preserved
 loop-y-preserved c =
     let k = c.loop-y in
     (search rules, sent-next _ _ k.y-index k.n (omega arith) k.invariant.1 _ (search rules))
-
-pub returns : goal.returns
-returns c = let k = c.loop-y in sent-all _ _ k.y-index k.n (omega arith) k.invariant.1

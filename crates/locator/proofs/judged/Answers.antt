@@ -1,5 +1,5 @@
 -- `locator::judged` meets its contract: each test that fails settles the answer.
-use Rattle.std.proofs.Common.{sym, ◌∙◌, arith, rules}
+use Rattle.std.proofs.Common.{refl, sym, ◌∙◌, arith, rules}
 use Rattle.field.specs.Modulus.{prime_of}
 use Rattle.field.proofs.Primes.{positive}
 use Rattle.locator.proofs.Judging.{judged-high, judged-rest, quotient-fine, judged-given}
@@ -11,22 +11,22 @@ returns-then-spare-solved c = judged-high _ _ _ _ _ _ _ _ _ c.if-spare-solved.tr
 pub returns-in_err-f : goal.returns-in_err-f
 returns-in_err-f c =
     let a = c.args in
-    let rest = judged-rest (prime_of a.w) a.t a.need a.spare a.xs.now a.ys.now a.solved.degree a.solved.numerator a.solved.locator
+    let s = a.received.now in
+    let rest = judged-rest (prime_of s.w) a.t s.need a.spare s.xs.now s.ys.now a.solved.degree a.solved.numerator a.solved.locator
     c.if-spare-solved.false
     (sym c.in_err-f.was ∙ c.quotient.ensures) in
     search rules
 
-pub enough-requires-clause-residues : goal.enough-requires-clause-residues
-enough-requires-clause-residues c =
-    let few = c.if-spare-solved.false in (
-      quotient-fine _ _ c.args.need _ c.args.xs.now c.args.ys.now _ _ _ few _ (sym c.in_ok-f.was ∙ c.quotient.ensures) c.requires.t_bound.0
-          (omega (arith, few)) (omega arith) (omega arith) (positive c.args.w),
-      c.requires.t_bound.3,
-    )
+pub if_enough-requires : goal.if_enough-requires
+if_enough-requires c =
+    let s = c.args.received.now in
+    let few = c.if-spare-solved.false in
+    quotient-fine _ _ s.need _ s.xs.now s.ys.now _ _ _ few _ (sym c.in_ok-f.was ∙ c.quotient.ensures) c.requires.t_bound.0
+    (omega (arith, few)) (omega arith) (omega arith) (positive s.w)
 
 pub returns : goal.returns
 returns c =
     let few = c.if-spare-solved.false in
-    c.then_some.ensures
+    c.if_enough.ensures
     ∙ judged-given _ _ _ _ _ _ _ _ _ few _ (sym c.in_ok-f.was ∙ c.quotient.ensures) c.requires.t_bound.0 (omega (arith, few)) (omega arith)
-    (omega arith) (positive c.args.w) _ c.enough.ensures
+    (omega arith) (positive c.args.received.now.w) _ refl

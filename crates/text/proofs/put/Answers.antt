@@ -10,9 +10,6 @@ returns-then-out-at c = putting-none _ _ _ (omega arith)
 pub returns-then-out-at-2 : goal.returns-then-out-at-2
 returns-then-out-at-2 c = putting-none _ _ _ (omega arith)
 
-pub loop-i-init : goal.loop-i-init
-loop-i-init c = record { text = rw (add-zero, append-nil); rest = refl }
-
 pub loop-i-preserved : goal.loop-i-preserved
 loop-i-preserved c =
     let k = c.loop-i in

@@ -21,11 +21,11 @@ part-requires c =
     part-whole (replicate 32 0) refl a.head.n _ (numbers_of a.bytes.now 2) (omega arith)
     (read_as a.bytes.now a.head c.requires.0 2 Narrow refl) (reports-count a.bytes.now a.head c.requires.0)
 
-pub put_by_reports-requires : goal.put_by_reports-requires
-put_by_reports-requires c =
+pub invariant_of-source-clause-its_reports : goal.invariant_of-source-clause-its_reports
+invariant_of-source-clause-its_reports c =
     let a = c.args in
     let f = fine-facts a.bytes.now a.head c.requires.0 in
     let all =
     part-all (replicate 32 0) refl a.head.n (map (λ x. x) c.part.new.list) _ (numbers_of a.bytes.now 2) (omega arith) c.part.ensures
     (read_as a.bytes.now a.head c.requires.0 2 Narrow refl) (reports-count a.bytes.now a.head c.requires.0) in
-    (c.requires.0, sym (map-id c.part.new.list) ∙ all, c.requires.1)
+    sym (map-id c.part.new.list) ∙ all

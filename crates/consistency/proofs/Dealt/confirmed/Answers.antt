@@ -5,9 +5,8 @@ use native.Mathlib.Omega.{arith}
 use lib.ListN.{length}
 use Rattle.std.proofs.lemmas.List.{length_push}
 use Rattle.field.specs.Modulus.{prime_of}
-use Rattle.consistency.specs.Deal.{report_by}
-use Rattle.consistency.proofs.Reports.{report-start, report-room, report-one, report-zero}
-use Rattle.consistency.proofs.Turns.{BothAt, turn-at, turn-end}
+use Rattle.consistency.proofs.Reports.{report-one}
+use Rattle.lists.proofs.Turns.{BothAt, turn-at}
 use Rattle.consistency.proofs.Dealt.confirmed.Goals.{In-Some}
 use Rattle.consistency.proofs.Dealt.confirmed.Goals as goal
 
@@ -18,20 +17,6 @@ here c =
     turn-at c.args.firsts.now c.args.seconds.now c.loop-k.yielded c.into_iter-k-iterator.result c.loop-k.k-iterator c.next.new.self
     c.next.result (cc) (cc) (cc) c.loop-k.yielded_by c.in-Some.k c.in-Some.first c.in-Some.second c.in-Some.is c.next.ensures.steps
 
-pub loop-k-init : goal.loop-k-init
-loop-k-init c =
-    let s = c.args.self.now in
-    report-start (prime_of s.w) s.table.now s.i s.row s.column c.args.firsts.now c.args.seconds.now
-
-pub overflow_add-bits : goal.overflow_add-bits
-overflow_add-bits c =
-    let s = c.args.self.now in
-    let t = here (goal.at.overflow_add-bits c).In-Some in
-    record {
-      fits = rw t.1 (report-room (prime_of s.w) s.table.now s.i s.row s.column c.args.firsts.now c.args.seconds.now c.loop-k.bits _
-          c.loop-k.invariant (omega (arith, t.0, c.requires.few.0)));
-    }
-
 pub loop-k-preserved-then-confirms : goal.loop-k-preserved-then-confirms
 loop-k-preserved-then-confirms c =
     let s = c.args.self.now in
@@ -41,20 +26,3 @@ loop-k-preserved-then-confirms c =
     rw (one, t.1)
     (report-one (prime_of s.w) s.table.now s.i s.row s.column c.args.firsts.now c.args.seconds.now c.loop-k.bits _ c.loop-k.invariant
     (omega (arith, t.0, c.requires.few.0)) (rw (t.1, t.2, t.3) at (sym c.if-confirms.true ∙ c.confirms.ensures)))
-
-pub loop-k-preserved : goal.loop-k-preserved
-loop-k-preserved c =
-    let s = c.args.self.now in
-    let t = here (goal.at.loop-k-preserved c).In-Some in
-    let one : length (c.loop-k.yielded ++ (c.in-Some.k, (c.in-Some.first, c.in-Some.second)) ∷ []) ≡ length c.loop-k.yielded + 1 =
-    length_push c.loop-k.yielded (c.in-Some.k, (c.in-Some.first, c.in-Some.second)) in
-    rw one
-    (report-zero (prime_of s.w) s.table.now s.i s.row s.column c.args.firsts.now c.args.seconds.now c.loop-k.bits _ c.loop-k.invariant
-    (rw (t.1, t.2, t.3) at (sym c.if-confirms.false ∙ c.confirms.ensures)))
-
-pub returns : goal.returns
-unfolding report_by
-returns c =
-    let t = turn-end c.args.firsts.now c.args.seconds.now c.loop-k.yielded c.into_iter-k-iterator.result c.loop-k.k-iterator
-    c.next.new.self c.next.result (cc) (cc) (cc) c.loop-k.yielded_by c.requires.few.1 c.in-None.is c.next.ensures.steps in
-    rw (← t) c.loop-k.invariant

@@ -4,11 +4,6 @@ use lib.Seq.{length-take-le}
 use Rattle.exports.proofs.Opened.{lengths-passed}
 use Rattle.exports.proofs.openings.open_admission.Goals as goal
 
-pub slice_bounds-table-end : goal.slice_bounds-table-end
-slice_bounds-table-end c =
-    let fit = lengths-passed _ _ _ _ (sym c.open_lengths.ensures ∙ c.in_ok-open_lengths.was) in
-    omega arith
-
 pub slice_bounds-is_table-end : goal.slice_bounds-is_table-end
 slice_bounds-is_table-end c =
     let fit = lengths-passed _ _ _ _ (sym c.open_lengths.ensures ∙ c.in_ok-open_lengths.was) in

@@ -9,27 +9,27 @@ test_pairs-tested-requires-clause-residues c =
     let s = c.args in
     let k = c.loop-a in
     let far = apart k.a-index (omega arith) in
-    let four = four-residues _ (prime-of s.w) _ _ _ _ _ s.sent c.requires.0 c.requires.1 (omega arith) (omega arith) k.invariant.ten _ _
-    far.0 far.1 in
-    (c.requires.0.points.0, four.0, four.1)
+    four-residues _ (prime-of s.received.now.w) _ _ _ _ _ s.sent c.requires.0 c.requires.1 (omega arith) (omega arith) k.invariant.ten _ _
+    far.0 far.1
 
 pub returns-then-is_some : goal.returns-then-is_some
 returns-then-is_some c =
     let s = c.args in
     let k = c.loop-a in
     let far = apart k.a-index (omega arith) in
-    pairs-found _ (prime-of s.w) _ _ _ _ _ s.sent c.requires.0 c.requires.1 (omega arith) (omega arith) k.invariant.ten _ _
+    pairs-found _ (prime-of s.received.now.w) _ _ _ _ _ s.sent c.requires.0 c.requires.1 (omega arith) (omega arith) k.invariant.ten _ _
     far.0 far.1 _ c.test_pairs-tested.ensures (cc)
 
 pub loop-a-preserved : goal.loop-a-preserved
 loop-a-preserved c =
     let s = c.args in
     let k = c.loop-a in
-    trying-next _ (prime-of s.w) _ _ _ _ _ s.sent c.requires.0 c.requires.1 (omega arith) (omega arith) k.a-index k.invariant (omega arith)
-    _ c.test_pairs-tested.ensures (cc)
+    trying-next _ (prime-of s.received.now.w) _ _ _ _ _ s.sent c.requires.0 c.requires.1 (omega arith) (omega arith) k.a-index k.invariant
+    (omega arith) _ c.test_pairs-tested.ensures (cc)
 
 pub returns : goal.returns
 returns c =
     let s = c.args in
     let k = c.loop-a in
-    trying-end _ (prime-of s.w) _ _ _ _ _ s.sent c.requires.0 c.requires.1 (omega arith) (omega arith) k.a-index k.invariant (omega arith)
+    trying-end _ (prime-of s.received.now.w) _ _ _ _ _ s.sent c.requires.0 c.requires.1 (omega arith) (omega arith) k.a-index k.invariant
+    (omega arith)

@@ -1,4 +1,4 @@
-use Rattle.std.proofs.Common.{◌≡◌, ap, sym, ◌∙◌, map, length}
+use Rattle.std.proofs.Common.{ap, sym, ◌∙◌, map}
 use Rattle.std.proofs.lemmas.List.{length-map}
 use lib.Dec.{eqb}
 use Rattle.answers.specs.Refusals.{lowest}
@@ -10,8 +10,9 @@ pub returns : goal.returns
 returns g c =
     let a = c.args in
     let value = g.N.Number.value in
-    c.made_with.ensures
-    ∙ ap (λ m. let l = waiting c.WIDTH.result a.n a.t a.number c.in_array-kept.result in made_by l (lowest (kept_tests l.party (eqb m a.n))))
-    (sym (length-map a.table.now value))
-    ∙ made_kept c.WIDTH.result a.n a.t a.number (map value a.table.now) _ c.in_array-kept.ensures
+    let l = waiting c.WIDTH.result a.n a.t a.number c.in_array.result in
+    c.made_by.ensures
+    ∙ ap (made_by l) c.making.ensures
+    ∙ ap (λ m. made_by l (lowest (kept_tests l.party (eqb m a.n)))) (sym (length-map a.table.now value))
+    ∙ made_kept c.WIDTH.result a.n a.t a.number (map value a.table.now) _ c.in_array.ensures
     ∙ ap (λ w. make_with w a.n a.t a.number (map value a.table.now)) c.WIDTH.ensures

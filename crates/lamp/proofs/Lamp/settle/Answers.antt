@@ -1,4 +1,4 @@
-use Rattle.std.proofs.Common.{◌≡◌, sym, ap, ◌∙◌, subst, ◌<◌, ◌^◌}
+use Rattle.std.proofs.Common.{sym, ◌∙◌, subst, ◌<◌, ◌^◌}
 use native.Mathlib.Omega.{arith}
 use Rattle.happy.specs.Happy.{happy_set}
 use Rattle.happy.proofs.Happy.{happy-is}

@@ -1,17 +1,8 @@
-use Rattle.std.proofs.Common.{◌≡◌, sym, ap, ◌∙◌, suc, ◌*◌, map, add-one}
+use Rattle.std.proofs.Common.{sym, ap, ◌∙◌, ◌*◌, map, add-one}
 use Rattle.std.proofs.lemmas.List.{length-map}
 use Rattle.lamp.specs.Lamp.{take_deal}
-use Rattle.lamp.proofs.Calls.{asked-in, refused-by, admitted-by, passed-by}
+use Rattle.lamp.proofs.Calls.{asked-in, refused-by, admitted-by}
 use Rattle.lamp.proofs.Lamp.take_deal_in.Goals as goal
-
-pub dealt-requires : goal.dealt-requires
-dealt-requires g c =
-    let d = c.args.deal.now in
-    let value = g.N.Number.value in
-    let asked = asked-in c.args.self.party c.WIDTH.ensures c.lent_in.ensures (sym (length-map d value)) (ap (λ m. 2 * m) (add-one c.args.self.party.t))
-    c.is_at-takes.ensures in
-    let p = passed-by c.args.self (take_deal g.N.Number.WIDTH (map value d)) asked c.in-Ok.is in
-    (p.0, sym (length-map d value) ∙ p.1)
 
 pub returns-in-Err : goal.returns-in-Err
 returns-in-Err g c =

@@ -1,4 +1,4 @@
-use Rattle.std.proofs.Common.{◌≡◌, ℕ, suc, ◌+◌, ◌*◌, ◌≤◌, length, drop, take, map, add-one}
+use Rattle.std.proofs.Common.{suc, ◌≤◌, length, drop, map, add-one}
 use Rattle.std.proofs.lemmas.List.{length-map}
 use native.Mathlib.Omega.{arith}
 use lib.ListN.{length-drop}
@@ -9,11 +9,6 @@ use Rattle.lamp.proofs.dealing.dealt.Goals as goal
 
 pub copied-requires : goal.copied-requires
 copied-requires g c =
-    let f = valid-facts c.args.lamp.party c.requires.0 in
-    (omega (arith, f.degree, c.requires.1), omega (arith, f.degree))
-
-pub copied-requires-2 : goal.copied-requires-2
-copied-requires-2 g c =
     let f = valid-facts c.args.lamp.party c.requires.0 in
     (omega (arith, f.degree, c.requires.1), omega (arith, f.degree))
 

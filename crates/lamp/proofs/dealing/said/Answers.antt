@@ -1,4 +1,4 @@
-use Rattle.std.proofs.Common.{◌≡◌, ap, ap₂, sym, ◌∙◌, ℕ, ◌+◌, suc, take, add-one, Ok}
+use Rattle.std.proofs.Common.{ap, add-one, Ok}
 use native.Mathlib.Omega.{arith}
 use Rattle.consistency.specs.declared.Pair.{Pair as Said}
 use Rattle.answers.specs.declared.Answer.TheVariants.{Pair}

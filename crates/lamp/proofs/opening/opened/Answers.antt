@@ -1,10 +1,11 @@
-use Rattle.std.proofs.Common.{◌≡◌, sym, ap, ◌∙◌, length, take, map}
+use Rattle.std.proofs.Common.{sym, ap, take, ◌∙◌, map}
 use native.Mathlib.Omega.{arith}
 use lib.Seq.{length-take-le}
 use Rattle.std.proofs.lemmas.List.{length-map}
 use Rattle.recovery.specs.Recovery.{opening_in}
 use Rattle.recovery.proofs.Fitting.{opening-admitted}
-use Rattle.lamp.specs.Lamp.{its_prime, table_of, opening, opened, opened_by}
+use Rattle.lamp.specs.Lamp.{opening, opened_by}
+use Rattle.field.specs.Modulus.{prime_of}
 use Rattle.lamp.proofs.Checks.{valid-facts}
 use Rattle.lamp.proofs.Outcomes.{copied-front, opened-decoded}
 use Rattle.lamp.proofs.opening.opened.Goals as goal
@@ -22,9 +23,6 @@ widened-requires g c =
     let f = valid-facts c.args.lamp.party c.requires.0 in
     sym (length-take-le _ _ (omega (arith, f.room, c.requires.1)))
 
-pub opening-opening-requires : goal.opening-opening-requires
-opening-opening-requires g c = (valid-facts c.args.lamp.party c.requires.0).table
-
 pub returns : goal.returns
 unfolding opening
 returns g c =
@@ -33,9 +31,9 @@ returns g c =
     let value = g.N.Number.value in
     let xs = map value c.args.shares.now in
     let lent = copied-front value c.args.shares.now _ _ c.widened.ensures in
-    let f = valid-facts a c.requires.0 in
+    let e = c.group-group.ensures in
     c.opened_by.ensures
-    ∙ ap (opened_by l) (c.opening-opening.ensures
-    ∙ ap (λ ys. opening_in (its_prime a) a.n a.t (table_of a) a.number l.sharing.share ys) lent
+    ∙ ap (opened_by l) ((rw (e.0, e.1, e.2, e.3) at c.opening-opening.ensures)
+    ∙ ap (λ ys. opening_in (prime_of a.width) a.n a.t (take a.n a.table) a.number l.sharing.share ys) lent
     ∙ opening-admitted _ _ _ _ _ _ _ c.requires.0.size c.requires.0.party (length-map c.args.shares.now value ∙ c.requires.1))
     ∙ opened-decoded l (opening l xs)

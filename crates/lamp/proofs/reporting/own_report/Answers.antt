@@ -1,4 +1,4 @@
-use Rattle.std.proofs.Common.{◌≡◌, sym, ◌∙◌, suc, ◌+◌, take, add-one}
+use Rattle.std.proofs.Common.{sym, ◌∙◌, add-one}
 use native.Mathlib.Omega.{arith}
 use Rattle.consistency.proofs.Reports.{report-within}
 use Rattle.lamp.specs.Lamp.{its_prime, table_of, row_of_lamp, column_of_lamp}

@@ -1,4 +1,4 @@
-use Rattle.std.proofs.Common.{◌≡◌, sym, ap, ◌∙◌, ℕ, ◌+◌, ◌*◌, ◌-◌, ◌≤◌, Ok, Err}
+use Rattle.std.proofs.Common.{sym, ap, ◌∙◌, ◌+◌, ◌*◌, ◌-◌, ◌≤◌, Ok, Err}
 use native.Mathlib.Omega.{arith}
 use lib.Count.{ones}
 use Rattle.parties.proofs.Parties.{sizes-facts}
@@ -31,9 +31,6 @@ returns-then-member c =
     ap (λ l. reply l (Ok Accepted)) c.at_end-then-member.ensures
     ∙ settled-happy a.lamp a.set (omega (arith, c.count.ensures)) (sym c.member.ensures ∙ c.if-member.true)
 
-pub repair-fitted-requires : goal.repair-fitted-requires
-repair-fitted-requires c = (valid-facts c.args.lamp.party c.requires.0).table
-
 pub returns : goal.returns
 returns c =
     let l = c.args.lamp in
@@ -41,7 +38,9 @@ returns c =
     let size = sizes-facts l.party.n l.party.t c.requires.0.size in
     let many : l.party.n - l.party.t ≤ ones set = omega (arith, c.count.ensures) in
     let enough : 3 * l.party.t + 1 ≤ ones set = omega (arith, many) in
+    let e = c.group.ensures in
     c.repaired_by.ensures
-    ∙ ap (repaired_by l set) (c.repair-fitted.ensures ∙ repair-admitted _ _ _ _ _ _ c.requires.0.size c.requires.1 enough)
+    ∙ ap (repaired_by l set) ((rw (e.0, e.1, e.2, e.3) at c.repair-fitted.ensures)
+    ∙ repair-admitted _ _ _ _ _ _ c.requires.0.size c.requires.1 enough)
     ∙ repaired-decoded l set (repair (its_prime l.party) l.party.n l.party.t (table_of l.party) set l.sharing.heard)
     ∙ settled-mended l set many (sym c.member.ensures ∙ c.if-member.false)

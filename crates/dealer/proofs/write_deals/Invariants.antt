@@ -1,9 +1,0 @@
-use Rattle.std.proofs.Common.{map, ◌*◌}
-use Rattle.field.specs.Modulus.{prime_of}
-use Rattle.dealer.proofs.Writing.{DealsLoop}
-use Rattle.dealer.proofs.write_deals.Given as goal
-
--- The deals of the first k parties are written.
-abbrev pub invariant-loop-k : goal.invariant-loop-k
-invariant-loop-k g l =
-    DealsLoop (prime_of g.N.Number.WIDTH) l.terms l.table l.list l.n (map g.N.Number.value l.out) l.k (l.k * (2 * l.terms))

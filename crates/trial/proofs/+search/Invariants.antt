@@ -1,6 +1,0 @@
--- The measure is the number of points from place i on.
-use Rattle.std.proofs.Common.{length, ◌-◌}
-use Rattle.trial.proofs.+search.Given as goal
-
-abbrev pub decreases-search : goal.decreases-search
-decreases-search l = length l.xs.now - l.i
