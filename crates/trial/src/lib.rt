@@ -83,8 +83,8 @@ impl<'a> Received<'a> {
     }
 
     // Puts the polynomial through the points taken in the place of their values, and says whether it agrees with enough of all points. So
-    // it is written before the points are counted: an `Option` of it was tried, and of an answer that is written right before it is copied
-    // the processor has to wait. Nothing else calls `through`: a compiler writes a long function out where it has one caller, and calls it, which is slower,
+    // it is written before the points are counted: handed on by value it was copied right after it was written, for which the processor
+    // waits. Nothing else calls `through`: a compiler writes a long function out where it has one caller, and calls it, which is slower,
     // for two.
     fn test(&self, taken: &mut Taken) -> bool
         requires room { taken.old.count ≤ 4 }
