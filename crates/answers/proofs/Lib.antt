@@ -1,3 +1,3 @@
 pub mod Tests
 pub mod Fits
-mod Order
+pub mod Order

@@ -1,17 +1,11 @@
 -- Tests asked one after the other.
---   asked_all a tests   the answer behind what was found before, as `?` hands it on: the first that fails ends the asking
---   in_order            that is the lowest refusal
+--   in_order            what is found so is the lowest refusal
 use mathlib.Core.Path.{◌≡◌, refl}
-use mathlib.Core.Bool.{true, false, cond}
+use mathlib.Core.Bool.{true, false}
 use mathlib.Core.List.{List, [], ◌∷◌}
 use Rattle.std.specs.Prelude.{Ok, Err}
 use Rattle.answers.specs.declared.Refusal.{Refusal}
-use Rattle.answers.specs.Refusals.{Test, Admission, lowest}
-
-abbrev pub asked_all : Admission → List Test → Admission
-asked_all a [] = a
-asked_all (Ok u) ((pass, why) ∷ tests) = asked_all (cond pass (Ok tt) (Err why)) tests
-asked_all (Err first) (test ∷ tests) = Err first
+use Rattle.answers.specs.Refusals.{Test, asked_all, lowest}
 
 all-failed : (why : Refusal) (tests : List Test) → asked_all (Err why) tests ≡ Err why
 all-failed why [] = refl

@@ -2,6 +2,7 @@
 --   refusal_number       the number of a refusal
 --   number_of r          the number of what is refused; none of what is not
 --   Admission            whether a call is admitted, or why not
+--   asked pass why       what one test finds; asked_all a tests: tests asked one behind the other, after what was found before
 --   lowest tests         the refusal of the first test that fails, which is the lowest but for 14 and 18
 -- Laws: proofs/Tests.
 use Rattle.std.specs.Prelude.{Bool, cond, List, [], ◌∷◌, ℕ, Result, Ok, Err}
@@ -37,6 +38,16 @@ Admission = Result Unit Refusal
 -- Whether a test passes, and the refusal where it does not.
 abbrev pub Test : Type 0
 Test = Bool × Refusal
+
+-- What one test of a call finds.
+abbrev pub asked : Bool → Refusal → Admission
+asked pass why = cond pass (Ok tt) (Err why)
+
+-- Tests asked as code asks them, one behind the other by `?`, after what was found before: a refusal ends the asking.
+abbrev pub asked_all : Admission → List Test → Admission
+asked_all a [] = a
+asked_all (Ok u) ((pass, why) ∷ tests) = asked_all (asked pass why) tests
+asked_all (Err first) (test ∷ tests) = Err first
 
 -- "The lowest number that applies is given, and none otherwise": the first test that fails, the tests standing in the order of their
 -- numbers, but for 18, right after 2, and 14, right after 3.

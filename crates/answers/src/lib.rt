@@ -1,9 +1,9 @@
 // What the calls answer: why one is refused, what a lamp's call gives, what decoding found, and the stages of a lamp.
 #![tactic(auto)]
 
-ghost use Rattle.std.specs.Prelude.{◌≡◌, cond};
+ghost use Rattle.std.specs.Prelude.{◌≡◌};
 ghost use Rattle.lists.specs.Options.{or_zero};
-ghost use Rattle.answers.specs.Refusals.{refusal_number, number_of};
+ghost use Rattle.answers.specs.Refusals.{refusal_number, number_of, asked};
 ghost use Rattle.answers.specs.Answers.{stage_number};
 
 // Why a call is refused, by the protocol's numbers.
@@ -57,7 +57,7 @@ impl From<Refusal> for u8 {
 
 // One test of a call: refused where it fails.
 pub fn refuse_unless(pass: bool, why: Refusal) -> Result<(), Refusal>
-    ensures { result ≡ cond pass (Ok tt) (Err why) }
+    ensures { result ≡ asked pass why }
 {
     if pass { Ok(()) } else { Err(why) }
 }

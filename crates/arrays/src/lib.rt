@@ -1,4 +1,4 @@
-// Lent lists of numbers, of 16 bits or of 32, copied into arrays of the latter, in which all is computed, and written back.
+// Lent lists of numbers of 16 bits or of 32. All is computed in the latter: a list of such is handed on, another copied, and written back.
 #![tactic(auto)]
 
 ghost use Rattle.std.specs.Prelude.{◌≡◌, ℕ, ◌≤◌, ◌<◌, length, map};
@@ -26,6 +26,11 @@ pub trait Number: Copy {
         requires { x < limit_of WIDTH }
         ensures { value result ≡ x };
 
+    // The numbers of a list in 32 bits each: the list itself where it has such, and else a copy over the front of the room.
+    fn lent<'a>(list: &'a [Self], room: &'a mut [u32]) -> &'a [u32]
+        requires { length list.now ≤ length room.old }
+        ensures { result.now ≡ map value list.now };
+
     // Every residue is such a number.
     ghost holds_residues: { prime_of WIDTH ≤ limit_of WIDTH };
 }
@@ -46,6 +51,14 @@ impl Number for u16 {
     fn narrow(x: u32) -> u16 {
         x as u16
     }
+
+    fn lent<'a>(list: &'a [u16], room: &'a mut [u32]) -> &'a [u32] {
+        let part = &mut room[..list.len()];
+        for (k, x) in list.iter().enumerate() {
+            part[k] = u32::from(*x);
+        }
+        part
+    }
 }
 
 impl Number for u32 {
@@ -63,6 +76,10 @@ impl Number for u32 {
 
     fn narrow(x: u32) -> u32 {
         x
+    }
+
+    fn lent<'a>(list: &'a [u32], _room: &'a mut [u32]) -> &'a [u32] {
+        list
     }
 }
 

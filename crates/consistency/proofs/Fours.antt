@@ -17,6 +17,12 @@ use Rattle.field.proofs.Primes.{positive}
 use Rattle.polynomial.proofs.Below.{residues-facts}
 use Rattle.tables.proofs.Tables.{point-below}
 
+module _ (p : ℕ) (row column a b : List ℕ) (ea : a ≡ pad 4 row) (eb : b ≡ pad 4 column) where
+  pub four-said : (x : ℕ) → said (value p a x, value p b x) ≡ said (value p row x, value p column x)
+  four-said x =
+      ap₂ (λ (u v : ℕ). said (u, v)) (ap (λ f. value p f x) ea ∙ padded-value p 4 row x)
+      (ap (λ f. value p f x) eb ∙ padded-value p 4 column x)
+
 module _ (p : ℕ) (h : 0 < p) (T : List ℕ) (i : ℕ) (row column : List ℕ) where
   padded-sound : sound p T i (pad 4 row) (pad 4 column) ≡ sound p T i row column
   unfolding sound
@@ -41,12 +47,7 @@ module _ (p : ℕ) (h : 0 < p) (T : List ℕ) (i : ℕ) (row column : List ℕ) 
     pub four-pair : (j : ℕ) → pair_for p T i a b j ≡ pair_for p T i row column j
     four-pair j = ap₂ (λ (r c : List ℕ). pair_for p T i r c j) ea eb ∙ padded-pair j
 
-    four-said : (x : ℕ) → said (value p a x, value p b x) ≡ said (value p row x, value p column x)
-    four-said x =
-        ap₂ (λ (u v : ℕ). said (u, v)) (ap (λ f. value p f x) ea ∙ padded-value p 4 row x)
-        (ap (λ f. value p f x) eb ∙ padded-value p 4 column x)
-
-    four-confirms : (j u v : ℕ) → confirms_by p T i a b j u v ≡ confirms_by p T i row column j u v
+    pub four-confirms : (j u v : ℕ) → confirms_by p T i a b j u v ≡ confirms_by p T i row column j u v
     four-confirms j u v = ap₂ (λ (r c : List ℕ). confirms_by p T i r c j u v) ea eb ∙ padded-confirms j u v
 
     pub four-report : (n : ℕ) (fs ss : List ℕ) → report_by p n T i a b fs ss ≡ report_by p n T i row column fs ss

@@ -1,2 +1,2 @@
 pub mod Reports
-mod Fours
+pub mod Fours

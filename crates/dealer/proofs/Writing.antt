@@ -1,6 +1,6 @@
 -- One turn of each loop of the desk's code, as a law over plain lists, and a deal written through its two lent parts.
 --   DealsLoop   the deals of the first i parties are written, and the next part begins at start
-use mathlib.Core.Path.{◌≡◌, refl, sym, ap, ap₂, subst, ◌∙◌}
+use mathlib.Core.Path.{◌≡◌, refl, sym, ap, ap₂, ◌∙◌}
 use mathlib.Core.List.{List, ◌++◌, append_assoc}
 use Prim.Native.Nat.{ℕ, suc, ◌+◌, ◌*◌, ◌-◌, ◌<◌, ◌≤◌}
 use native.Mathlib.Nat.{mul-le-mul_right}
@@ -9,30 +9,16 @@ use native.Mathlib.Omega.{arith}
 use lib.ListN.{length, take, drop, length-append, length-drop}
 use lib.Seq.{take_at, drop_at, take_all, length-take-le}
 use borrow.Rule.Slice.PartMut.{put_mid, same_len_mid, mid_len}
-use Rattle.lists.specs.All.{All}
-use Rattle.lists.proofs.All.{all_of, all-at, all_append}
 use Rattle.lists.proofs.InPlace.{put_rest}
 use Rattle.std.proofs.lemmas.List.{take_rest, take-map, drop-map, map-append, length-map}
 use Rattle.bivariate.specs.Bivariate.{row, column, row_in, column_in}
 use Rattle.bivariate.proofs.Lent.{row-in, column-in}
-use Rattle.bivariate.proofs.Crossing.{length-row, row-poly, column-poly}
+use Rattle.bivariate.proofs.Crossing.{length-row}
 use Rattle.tables.specs.Tables.{point_at}
 use Rattle.std.proofs.Common.{map}
 use Rattle.answers.specs.Refusals.{Admission, lowest}
 use Rattle.dealer.specs.Desk.{deal, deals, size_tests, length_tests}
 use Rattle.dealer.proofs.Desk.{length-deal}
-
--- A list copied into the front of an array.
-module _ (list part rest : List ℕ) (e : part ≡ list) where
-  pub copied-front : take (length list) (part ++ rest) ≡ list
-  copied-front = take_at part rest (length list) (ap length e) ∙ e
-
-  pub copied-within : length list ≤ length (part ++ rest)
-  copied-within = omega (arith, length-append part rest, ap length e)
-
--- The same of a list of numbers of either width.
-pub copied-numbers : {X : Type 0} (f : X → ℕ) (xs : List X) (part rest : List ℕ) → part ≡ map f xs → take (length xs) (part ++ rest) ≡ map f xs
-copied-numbers f xs part rest e = take_at part rest (length xs) (ap length e ∙ length-map xs f) ∙ e
 
 -- The lengths of the lists as numbers are those of the lent ones.
 module _ {X : Type 0} (f : X → ℕ) (n t : ℕ) (xs out : List X) {a : Admission} where
@@ -82,27 +68,6 @@ module _ (p : ℕ) where
           put_rest w (f ++ drop w out) g
           ∙ ap₂ ◌++◌ (take_at f (drop w out) w row-wide ∙ row_written) second
           ∙ ap (λ z. row p w w F z ++ column p w w F z) at
-
-    -- ---- `write_deal_in`: a deal in the front of an array
-    module _ (i : ℕ) (part rest : List ℕ) (square : length F ≡ w * w) (e : part ≡ deal p w T F i) where
-      pub front-deal : take (2 * w) (part ++ rest) ≡ deal p w T F i
-      front-deal = take_at part rest (2 * w) (ap length e ∙ length-deal p w T F square i) ∙ e
-
-      pub front-size : length (take (2 * w) (part ++ rest)) ≡ 2 * w
-      front-size = ap length front-deal ∙ length-deal p w T F square i
-
-      pub front-within : 2 * w ≤ length (part ++ rest)
-      front-within = omega (arith, length-append part rest, ap length e, length-deal p w T F square i)
-
-      -- Its numbers are residues, so that they fit wherever those do.
-      pub front-below : (m : ℕ) → 0 < p → p ≤ m → All (λ x. x < m) (take (2 * w) (part ++ rest))
-      unfolding deal
-      front-below m positive few =
-          let x : ℕ = point_at T i in
-          let residues = all_append (λ c. c < p) (row p w w F x) (column p w w F x) (row-poly p w w F x positive).residues
-          (column-poly p w w F x positive square).residues in
-          subst (All (λ x. x < m)) (sym front-deal)
-          (all_of (deal p w T F i) (λ c e. let small : c < p = all-at (λ c. c < p) (deal p w T F i) residues c e in omega arith))
 
     -- ---- `write_deals`
     pub record DealsLoop (n : ℕ) (out : List ℕ) (i start : ℕ) : Type 0 where
@@ -157,3 +122,17 @@ map-put_mid f a k xs ys =
     map-append f (take a xs) (ys ++ drop k (drop a xs))
     ∙ ap₂ ◌++◌ (sym (take-map f a xs)) (map-append f ys (drop k (drop a xs))
     ∙ ap (λ l. map f ys ++ l) (sym (drop-map f k (drop a xs)) ∙ ap (drop k) (sym (drop-map f a xs))))
+
+-- A list of numbers, M, of which all behind place w is lent.
+module _ {X : Type 0} (f : X → ℕ) (w : ℕ) (xs : List X) (M : List ℕ) (e : map f xs ≡ M) where
+  pub map-behind : map f (take (length xs - w) (drop w xs)) ≡ take (length M - w) (drop w M)
+  map-behind =
+      sym (take-map f (length xs - w) (drop w xs))
+      ∙ ap₂ (λ k l. take (k - w) l) (sym (length-map xs f)) (sym (drop-map f w xs))
+      ∙ ap (λ m. take (length m - w) (drop w m)) e
+
+  pub map-back : (ys : List X) → map f (put_mid w (length xs - w) xs ys) ≡ put_mid w (length M - w) M (map f ys)
+  map-back ys =
+      map-put_mid f w (length xs - w) xs ys
+      ∙ ap (λ k. put_mid w (k - w) (map f xs) (map f ys)) (sym (length-map xs f))
+      ∙ ap (λ m. put_mid w (length m - w) m (map f ys)) e

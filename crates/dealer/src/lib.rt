@@ -1,5 +1,5 @@
 // The dealing desk: checks the dealer's list and writes each party's deal into its own part of the lent list. It deals numbers of 16 bits
-// or of 32: all is computed in arrays of the latter.
+// or of 32: all is computed in the latter, and each number written where it belongs.
 #![tactic(auto)]
 
 ghost use Rattle.std.specs.Prelude.{◌≡◌, Ok, map, ◌+◌, ◌*◌, ◌≤◌, length};
@@ -53,26 +53,15 @@ struct Dealing<'a> {
 }
 
 impl<'a> Dealing<'a> {
-    // Party i's deal, over the whole of the lent part: its row, then its column.
-    fn write_deal(&self, i: u8, out: &mut [u32])
-        requires { length out.old ≡ 2 * self.now.terms }
-        ensures { out.new ≡ deal (prime_of self.now.w) self.now.terms self.now.table.now self.now.list.now i }
+    // Party i's deal, over the whole of the lent part, whose numbers are of the dealing's width: its row, then its column.
+    fn write_deal<N: Number>(&self, i: u8, out: &mut [N])
+        requires { (self.now.w ≡ N.WIDTH) × (length out.old ≡ 2 * self.now.terms) }
+        ensures { map N.value out.new ≡ deal (prime_of self.now.w) self.now.terms self.now.table.now self.now.list.now i }
     {
         let terms = self.terms;
         let point = tables::point_at(self.table, i);
         bivariate::row(self.w, self.list, point, &mut out[..terms]);
         bivariate::column(self.w, self.list, point, &mut out[terms..]);
-    }
-
-    // The same in numbers of the lent list, which are of the dealing's width.
-    fn write_deal_in<N: Number>(&self, i: u8, out: &mut [N])
-        requires { (self.now.w ≡ N.WIDTH) × (length out.old ≡ 2 * self.now.terms) }
-        ensures { map N.value out.new ≡ deal (prime_of self.now.w) self.now.terms self.now.table.now self.now.list.now i }
-    {
-        let count = 2 * self.terms;
-        let mut deal = [0u32; 8];
-        self.write_deal(i, &mut deal[..count]);
-        arrays::narrowed(&deal[..count], out);
     }
 
     // The deals of parties 1 to n, each in its own part of the lent list. It counts parties: once the loan of `chunks_mut` is over, a proof
@@ -84,7 +73,7 @@ impl<'a> Dealing<'a> {
         let count = 2 * self.terms;
         for k in 0..n {
             let start = usize::from(k) * count;
-            self.write_deal_in(k + 1, &mut out[start..start + count]);
+            self.write_deal(k + 1, &mut out[start..start + count]);
         }
     }
 }
@@ -95,13 +84,13 @@ fn dealt<N: Number>(n: u8, t: u8, table: &[u32], list: &[N], out: &mut [N]) -> R
     ensures { (map N.value out.new, result)
         ≡ desk_with (prime_of N.WIDTH) n t table.now (map N.value list.now) (map N.value out.old) }
 {
-    let mut coefficients = [0u32; 16];
-    arrays::widened(list, &mut coefficients[..list.len()]);
-    content_admission(N::WIDTH, n, table, &coefficients[..list.len()])?;
+    let mut room = [0u32; 16];
+    let coefficients = N::lent(list, &mut room);
+    content_admission(N::WIDTH, n, table, coefficients)?;
     let dealing = Dealing {
         w: N::WIDTH,
         table,
-        list: &coefficients[..list.len()],
+        list: coefficients,
         terms: t as usize + 1,
     };
     dealing.write_deals(n, out);
@@ -121,9 +110,7 @@ pub fn deal_in_with<N: Number>(
         ≡ desk_with (prime_of N.WIDTH) n t (map N.value table.now) (map N.value list.now) (map N.value out.old) }
 {
     length_admission(n, t, list.len(), out.len(), table.len())?;
-    let mut points = [0u32; 16];
-    arrays::widened(table, &mut points[..table.len()]);
-    dealt(n, t, &points[..table.len()], list, out)
+    dealt(n, t, N::lent(table, &mut [0; 16]), list, out)
 }
 
 // The same at the points 1 to n.

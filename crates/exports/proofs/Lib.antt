@@ -1,4 +1,3 @@
 pub mod Answers
-pub mod Fronts
 pub mod Near
 pub mod Opened

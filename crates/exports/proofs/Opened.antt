@@ -4,7 +4,8 @@
 --   lengths-passed                what the tests of sizes and lengths ask for
 --   tests-kept, tests-plain       the tests with the table in an array, and without one
 --   front-kept, front-sixteen     the table in front of the array
---   asked-with, asked-plain       the tests of the lists that the code is lent; fits-lent: what fits them
+--   asked-with, asked-plain       the tests of the lists that the code is lent
+--   fits-lent, shares-room        what fits them, and that an array of sixteen has room for them
 --   passed-with, fits-with, passed-plain, fits-plain   where these pass: the group that is made, and what fits its points
 --   opening-by                    what is opened where all is right
 --   open-1, open-3, open-14       which number is given, and that the number lent is left alone
@@ -41,7 +42,6 @@ use Rattle.std.proofs.lemmas.Result.{err_from_is_err_and}
 use Rattle.answers.specs.Fits.{Fitted, decoded}
 use Rattle.recovery.specs.Recovery.{published_in}
 use Rattle.recovery.proofs.Fitting.{published-admitted}
-use Rattle.exports.proofs.Fronts.{front-list}
 use Rattle.answers.specs.declared.Refusal.{Refusal}
 use Rattle.lists.specs.All.{All}
 use Rattle.field.specs.declared.Width.{Width}
@@ -186,13 +186,16 @@ module _ {X : Type 0} (value : X → ℕ) (w : Width) (n t : ℕ) (shares : List
         h ∙ ap₂ (λ u B. decoded (opening_of (prime_of u) t B shares_of)) width (front-sixteen _ _ _ _ _ _ right array)
         ∙ opening-admitted (prime_of w) n t (one_to n) shares_of asked
 
-  -- What fits them, lent in front of an array.
-  pub fits-lent : {r : Fitted} (T part rest : List ℕ) → Openings (prime_of w) n t T shares_of → part ≡ shares_of
-      → r ≡ published_in (prime_of w) n t T (take n (part ++ rest)) → r ≡ decoded (opening_of (prime_of w) t T shares_of)
-  fits-lent T part rest right e h =
-      h
-      ∙ ap (published_in (prime_of w) n t T) (front-list value shares part rest n (sym (length-map shares value) ∙ right.lengths) e)
-      ∙ published-admitted (prime_of w) n t T shares_of right.size right.lengths
+  -- What fits them, lent as they are or copied.
+  pub fits-lent : {r : Fitted} (T list : List ℕ) → Openings (prime_of w) n t T shares_of → list ≡ shares_of
+      → r ≡ published_in (prime_of w) n t T list → r ≡ decoded (opening_of (prime_of w) t T shares_of)
+  fits-lent T list right e h =
+      h ∙ ap (published_in (prime_of w) n t T) e ∙ published-admitted (prime_of w) n t T shares_of right.size right.lengths
+
+-- An array of sixteen has room for them.
+pub shares-room : {X : Type 0} (value : X → ℕ) (p n t : ℕ) (T : List ℕ) (shares : List X) → Openings p n t T (map value shares)
+    → length shares ≤ 16
+shares-room value p n t T shares right = omega (arith, (sizes-facts n t right.size).3, right.lengths, length-map shares value)
 
 -- ---- where all is right, and the numbers: 1 for the sizes, 3 for the shares and for the table's length, 14 for its entries
 module _ (p n t : ℕ) (T shares : List ℕ) (old : ℕ) where
@@ -233,6 +236,7 @@ pub ruleset openings = (
   asked-plain,
   asked-with,
   fits-lent,
+  shares-room,
   opened-at,
   lengths-passed,
 )

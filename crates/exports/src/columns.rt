@@ -48,12 +48,9 @@ fn column_fitted<N: Number>(t: u8, xs: &[N], ys: &[N], room: usize) -> Fitted
 {
     repair_sizes(t, xs.len(), ys.len(), room)?;
     let w = N::WIDTH;
-    let count = xs.len();
     let mut points = [0u32; 16];
     let mut values = [0u32; 16];
-    arrays::widened(xs, &mut points[..count]);
-    arrays::widened(ys, &mut values[..count]);
-    repaired(w, t, &points[..count], &values[..count])
+    repaired(w, t, N::lent(xs, &mut points), N::lent(ys, &mut values))
 }
 
 // Writes the coefficients where they are found, and answers what C is told: 0, or the number of the refusal.

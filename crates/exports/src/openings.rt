@@ -58,13 +58,12 @@ fn fitted<const LOCATED: bool, N: Number>(group: &Group, shares: &[N]) -> Fitted
     ensures { result ≡ decoded (opening_of (prime_of group.now.width) group.now.t (take group.now.n group.now.table)
         (map N.value shares.now)) }
 {
-    let count = group.n as usize;
-    let mut list = [0u32; 16];
-    arrays::widened(shares, &mut list[..count]);
+    let mut room = [0u32; 16];
+    let list = N::lent(shares, &mut room);
     if LOCATED {
-        group.located(&list[..count])
+        group.located(list)
     } else {
-        group.published(&list[..count])
+        group.published(list)
     }
 }
 

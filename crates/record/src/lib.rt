@@ -23,20 +23,29 @@ pub type Reading = Result<Head, Refusal>;
 
 // A number as the bytes of a record give it, its high byte first.
 pub trait Recorded: Number {
-    // The number whose bytes stand from a place on.
+    // The number whose bytes stand from a place on; a byte behind the last is 0.
     fn at(bytes: &[u8], place: usize) -> Self
-        requires { place + number_bytes Self.WIDTH ≤ length bytes.now }
         ensures { Self.value result ≡ number_at_by Self.WIDTH bytes.now place };
 }
 
 impl Recorded for u16 {
     fn at(bytes: &[u8], place: usize) -> u16 {
+        if bytes.len().saturating_sub(place) < 2 {
+            return u16::from(bytes.get(place).copied().unwrap_or(0)) * 256;
+        }
         u16::from_be_bytes([bytes[place], bytes[place + 1]])
     }
 }
 
 impl Recorded for u32 {
     fn at(bytes: &[u8], place: usize) -> u32 {
+        let left = bytes.len().saturating_sub(place);
+        if left < 3 {
+            return u32::from(u16::at(bytes, place)) * 65536;
+        }
+        if left < 4 {
+            return u32::from(u16::at(bytes, place)) * 65536 + u32::from(u16::at(bytes, place + 2));
+        }
         u32::from_be_bytes([
             bytes[place],
             bytes[place + 1],

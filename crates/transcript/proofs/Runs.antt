@@ -4,7 +4,7 @@
 --   deals-count, pairs-count                              how many there are: deals and round two
 --   reports-count, shares-count                           reports and published shares
 --   plain-table                                           1 to n are points of either width
---   part-own, part-whole, part-all, padded-front          a party's own part of them, or all, as it stands in a lent list or an array
+--   part-own, part-whole, part-all                        a party's own part of them, or all, as it stands in a lent list
 --   part-inside, part-read                                as the code reads it from the bytes of a section
 --   deal-room, pairs-room, deal-taken, pairs-heard        a lamp's own part of the deals and of round two, and the lamp that takes it
 --   lamps-more                                            one lamp's line more
@@ -15,10 +15,9 @@ use Prim.Native.Nat.{ℕ, suc, ◌+◌, ◌*◌, ◌-◌, ◌/◌, ◌≤◌, �
 use native.Mathlib.Nat.{mul-le-mul, mul-le-mul_right, suc-mul, mul-div_right, add-sub_cancel_left}
 use native.Mathlib.Numerals.{add-one}
 use native.Mathlib.Omega.{arith}
-use lib.ListN.{length, take, drop, replicate, length-drop}
-use lib.Seq.{take_all, take_at, length-take-le}
+use lib.ListN.{length, take, drop, length-drop}
+use lib.Seq.{take_all, length-take-le}
 use Rattle.std.specs.Prelude.{Ok}
-use Rattle.lists.specs.Tabulate.{pad}
 use Rattle.field.specs.declared.Width.{Width}
 use Rattle.field.specs.declared.Width.TheVariants.{Narrow, Wide}
 use Rattle.field.specs.Modulus.{prime_of}
@@ -124,10 +123,6 @@ module _ {X : Type 0} (list : List X) (lent : length list ≡ 32) where
 
   pub part-all : (n : ℕ) (xs ys zs : List ℕ) → n ≤ 32 → xs ≡ take (length (take n list)) (drop 0 ys) → ys ≡ zs → length zs ≡ n → xs ≡ zs
   part-all n xs ys zs h e same size = part-own 0 n xs ys h e ∙ ap (take n) same ∙ take_all n zs (omega arith)
-
--- As it stands at the front of an array of sixteen.
-pub padded-front : (array xs ys : List ℕ) (n : ℕ) → array ≡ pad 16 xs → xs ≡ ys → length ys ≡ n → take n array ≡ ys
-padded-front array xs ys n e same l = ap (take n) (e ∙ ap (pad 16) same) ∙ take_at ys (replicate (16 - length ys) 0) n l
 
 -- As the code reads it from the bytes of a section: these lie within it, and the numbers go over a list of as many.
 module _ (v : Width) (section whole : List ℕ) (each from count : ℕ) (size : each ≡ number_bytes v) (is : whole ≡ section)

@@ -126,14 +126,15 @@ impl<'a> Source<'a> {
         let count = head.n as usize;
         let published = &mut list[..count];
         part(self.bytes, 3, 0, published);
-        let shares = arrays::padded::<16, N>(published);
+        let mut room = [0u32; 16];
+        let shares = N::lent(published, &mut room);
         let group = Group {
             table: tables::sixteen(),
             n: head.n,
             t: head.t,
             width: head.width,
         };
-        group.published(&shares[..count])
+        group.published(shares)
     }
 
     // The same by the record's width.

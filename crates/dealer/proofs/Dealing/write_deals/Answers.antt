@@ -15,10 +15,10 @@ loop-k-preserved g c =
     let w = c.args.self.now.terms in
     let value = g.N.Number.value in
     let start = k.k * (2 * w) in
-    let next = deals-next _ w _ _ c.args.n (map value k.out) k.k start k.invariant (map value c.write_deal_in.new.out) (omega arith)
-    c.write_deal_in.ensures in
+    let next = deals-next _ w _ _ c.args.n (map value k.out) k.k start k.invariant (map value c.write_deal.new.out) (omega arith)
+    c.write_deal.ensures in
     let place : (k.k + 1) * (2 * w) ≡ start + 2 * w = omega arith in
-    rw (c.from.ensures, place, map-put_mid value start (start + 2 * w - start) k.out c.write_deal_in.new.out) next
+    rw (c.from.ensures, place, map-put_mid value start (start + 2 * w - start) k.out c.write_deal.new.out) next
 
 pub returns : goal.returns
 returns g c = let k = c.loop-k in deals-end _ _ _ _ c.args.n _ k.k _ k.invariant (omega arith)

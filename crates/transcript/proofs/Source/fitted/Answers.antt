@@ -1,4 +1,4 @@
-use Rattle.std.proofs.Common.{sym, ap, ap₂, subst, ◌∙◌, arith, length, map, take, ◌≤◌}
+use Rattle.std.proofs.Common.{sym, ap, ap₂, subst, ◌∙◌, arith, map, take}
 use lib.Seq.{length-take-le}
 use Rattle.field.specs.Modulus.{prime_of}
 use Rattle.tables.specs.Tables.{one_to, IsTable}
@@ -6,7 +6,7 @@ use Rattle.tables.proofs.Tables.{sixteen-front}
 use Rattle.recovery.specs.Recovery.{published_in}
 use Rattle.recovery.proofs.Fitting.{published-admitted}
 use Rattle.record.specs.Record.{numbers_of}
-use Rattle.transcript.proofs.Runs.{fine-facts, fine-legal, read_as, shares-count, plain-table, part-whole, part-all, padded-front}
+use Rattle.transcript.proofs.Runs.{fine-facts, fine-legal, read_as, shares-count, plain-table, part-whole, part-all}
 use Rattle.transcript.proofs.Source.fitted.Goals as goal
 
 pub slice_bounds-published-end : goal.slice_bounds-published-end
@@ -24,12 +24,11 @@ part-requires g c =
     part-whole a.list.now c.requires.1 a.self.now.head.n _ (numbers_of a.self.now.bytes.now 3) (omega arith)
     (read_as a.self.now.bytes.now a.self.now.head c.args.self.now.fine 3 g.N.Number.WIDTH c.requires.0) (shares-count a.self.now.bytes.now a.self.now.head c.args.self.now.fine)
 
-pub padded-shares-requires : goal.padded-shares-requires
-padded-shares-requires g c =
+pub lent-shares-requires : goal.lent-shares-requires
+lent-shares-requires g c =
     let a = c.args in
     let f = fine-facts a.self.now.bytes.now a.self.now.head c.args.self.now.fine in
-    let few : length c.part.new.list ≤ 16 = omega (arith, c.part.auto.list, length-take-le a.self.now.head.n a.list.now (omega arith)) in
-    (omega arith, few)
+    omega (arith, c.part.auto.list, length-take-le a.self.now.head.n a.list.now (omega arith))
 
 pub invariant_of-group : goal.invariant_of-group
 invariant_of-group g c =
@@ -51,5 +50,5 @@ returns g c =
     (read_as a.self.now.bytes.now a.self.now.head c.args.self.now.fine 3 g.N.Number.WIDTH c.requires.0) count in
     c.published.ensures
     ∙ ap₂ (published_in (prime_of a.self.now.head.width) n a.self.now.head.t) (ap (take n) c.sixteen.ensures ∙ sixteen-front n few)
-    (padded-front c.padded-shares.result _ shares n c.padded-shares.ensures all count)
+    (c.lent-shares.ensures ∙ all)
     ∙ published-admitted (prime_of a.self.now.head.width) n a.self.now.head.t (one_to n) shares (fine-legal a.self.now.bytes.now a.self.now.head c.args.self.now.fine) count
