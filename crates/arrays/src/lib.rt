@@ -26,10 +26,17 @@ pub trait Number: Copy {
         requires { x < limit_of WIDTH }
         ensures { value result ≡ x };
 
-    // The numbers of a list in 32 bits each: the list itself where it has such, and else a copy over the front of the room.
+    // The numbers of a list in 32 bits each: a copy over the front of the room or, where the list has such, the list itself.
     fn lent<'a>(list: &'a [Self], room: &'a mut [u32]) -> &'a [u32]
         requires { length list.now ≤ length room.old }
-        ensures { result.now ≡ map value list.now };
+        ensures { result.now ≡ map value list.now }
+    {
+        let part = &mut room[..list.len()];
+        for (k, x) in list.iter().enumerate() {
+            part[k] = x.wide();
+        }
+        part
+    }
 
     // Every residue is such a number.
     ghost holds_residues: { prime_of WIDTH ≤ limit_of WIDTH };
@@ -50,14 +57,6 @@ impl Number for u16 {
 
     fn narrow(x: u32) -> u16 {
         x as u16
-    }
-
-    fn lent<'a>(list: &'a [u16], room: &'a mut [u32]) -> &'a [u32] {
-        let part = &mut room[..list.len()];
-        for (k, x) in list.iter().enumerate() {
-            part[k] = u32::from(*x);
-        }
-        part
     }
 }
 
